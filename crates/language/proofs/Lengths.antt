@@ -1,0 +1,55 @@
+-- How long a line can be.
+use mathlib.Core.Path.{_≡_, refl, ap, sym, _∙_}
+use mathlib.Core.List.{List, [], _∷_, _++_}
+use mathlib.Core.Bool.{Bool, true, false}
+use Prim.Native.Nat.{ℕ, zero, suc, _+_, _*_, _/_, _%_, _^_, _≤_, _<_}
+use native.Mathlib.Omega.{arith}
+use lib.Dec.{ltb}
+use lib.ListN.{length, length-append}
+use borrow.Author.Tests.{ltb-true, ltb-false}
+use Rattle.language.specs.declared.Operand.{Operand}
+use Rattle.language.specs.declared.Operand.the-variants.{Variable, Constant}
+use Rattle.language.specs.declared.Expression.{Expression}
+use Rattle.language.specs.declared.Expression.the-variants.{Single, Binary}
+use Rattle.language.specs.declared.Statement.{Statement}
+use Rattle.language.specs.declared.Statement.the-variants.{Read, Write, Assign, Branch, Skip}
+use Rattle.language.specs.Spelling.{largest, digits, spellVariable, spellOperand, spellExpression, spell, ValidOperand, ValidExpression, Valid}
+use Rattle.language.proofs.Numbers.{digits-small, digits-next}
+use Rattle.language.proofs.Puts.{variable-length, binary-length, assign-length, branch-length}
+
+pub digits-length : (k n : ℕ) → n < 10 ^ suc k → length (digits n) ≤ suc k
+digits-length zero n h = omega (arith, ap length (digits-small n h))
+digits-length (suc k) n h = go (ltb n 10) refl (digits-length k (n / 10))
+  where
+    go : (b : Bool) → ltb n 10 ≡ b → (n / 10 < 10 ^ suc k → length (digits (n / 10)) ≤ suc k) → length (digits n) ≤ suc (suc k)
+    go true e ih = omega (arith, ap length (digits-small n (ltb-true n 10 e)))
+    go false e ih = omega (arith, ap length (digits-next n (ltb-false n 10 e)), length-append (digits (n / 10)) ((48 + n % 10) ∷ []), ih (omega arith))
+
+variable-most : (x : ℕ) → x < 32 → length (spellVariable x) ≤ 3
+variable-most x h = omega (arith, variable-length x, digits-length 1 x (omega arith))
+
+operand-most : (a : Operand) → ValidOperand a → length (spellOperand a) ≤ 10
+unfolding spellOperand
+operand-most (Variable x) v = omega (arith, variable-most x v)
+operand-most (Constant n) v = digits-length 9 n (omega arith)
+
+expression-most : (e : Expression) → ValidExpression e → length (spellExpression e) ≤ 23
+unfolding spellExpression
+expression-most (Single a) v = omega (arith, operand-most a v)
+expression-most (Binary a o b) v = omega (arith, binary-length a o b, operand-most a (v .0), operand-most b (v .1))
+
+-- a branch's targets have three digits at most
+abbrev pub Near : Statement → Type 0
+Near (Read x) = Unit
+Near (Write x) = Unit
+Near (Assign x e) = Unit
+Near (Branch x n m) = (n < 1000) × (m < 1000)
+Near Skip = Unit
+
+pub line-most : (s : Statement) → Valid s → Near s → length (spell s) ≤ 30
+unfolding spell
+line-most (Read x) v n = omega (arith, variable-most x v)
+line-most (Write x) v n = omega (arith, variable-most x v)
+line-most (Assign x e) v n = omega (arith, assign-length x e, variable-most x (v .0), expression-most e (v .1))
+line-most (Branch x a b) v n = omega (arith, branch-length x a b, variable-most x (v .0), digits-length 2 a (omega arith), digits-length 2 b (omega arith))
+line-most Skip v n = omega arith

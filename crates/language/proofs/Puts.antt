@@ -1,0 +1,61 @@
+-- Writing one text after another.
+use mathlib.Core.Path.{_≡_, refl, ap, sym, _∙_}
+use mathlib.Core.List.{List, [], _∷_, _++_, append-nil, append-assoc}
+use Prim.Native.Nat.{ℕ, zero, suc, _+_, _≤_, _<_}
+use native.Mathlib.Omega.{arith}
+use native.Mathlib.Nat.{add-suc, suc-add}
+use native.Mathlib.Numerals.{add-one}
+use lib.ListN.{length, set, take, getD, length-append}
+use lib.Seq.{sets, length-sets, take-suc, length-take-le}
+use Rattle.language.specs.declared.Operand.{Operand}
+use Rattle.language.specs.declared.Operator.{Operator}
+use Rattle.language.specs.declared.Expression.{Expression}
+use Rattle.language.specs.declared.Expression.the-variants.{Single, Binary}
+use Rattle.language.specs.declared.Statement.{Statement}
+use Rattle.language.specs.declared.Statement.the-variants.{Read, Write, Assign, Branch, Skip}
+use Rattle.language.specs.Spelling.{digits, spellVariable, spellOperand, spellExpression, spell}
+use Rattle.language.specs.Writing.{Put}
+
+pub sets-append : (u v o : List ℕ) (i : ℕ) → sets (sets o i u) (i + length u) v ≡ sets o i (u ++ v)
+sets-append [] v o i = let e : i + 0 ≡ i = omega arith in rw e
+sets-append (a ∷ u) v o i = let e : i + suc (length u) ≡ suc i + length u = omega arith in rw (e, sets-append u v (set o i a) (suc i))
+
+module _ {o q p u v : List ℕ} {at k r : ℕ} where
+  -- one text after another is the two together
+  pub put-then : Put o at u q k → Put q k v p r → Put o at (u ++ v) p r
+  put-then a b = record {
+    text = b .text ∙ rw (a .text, a .after) (sets-append u v o at);
+    after = b .after ∙ rw (a .after, length-append u v) (omega arith);
+  }
+
+module _ {o q u : List ℕ} {at k : ℕ} where
+  -- there is room for the second
+  pub room : (v : List ℕ) → Put o at u q k → at + length (u ++ v) ≤ length o → k + length v ≤ length q
+  room v a h = omega (arith, a .after, ap length (a .text) ∙ length-sets o at u, length-append u v, h)
+
+pub front : (u v : List ℕ) (at n : ℕ) → at + length (u ++ v) ≤ n → at + length u ≤ n
+front u v at n h = omega (arith, length-append u v, h)
+
+-- one byte more of a word
+pub sets-more : (w o : List ℕ) (at i : ℕ) → i < length w → set (sets o at (take i w)) (at + i) (getD w i 0) ≡ sets o at (take (i + 1) w)
+sets-more w o at i h =
+    let e : length (take i w) ≡ i = length-take-le i w (omega arith) in
+    let f : set (sets o at (take i w)) (at + length (take i w)) (getD w i 0) ≡ sets o at (take i w ++ getD w i 0 ∷ []) = sets-append (take i w) (getD w i 0 ∷ []) o at in
+    rw (add-one, take-suc w i 0 h) (rw e at f)
+
+-- how long a text is, from its parts
+pub variable-length : (x : ℕ) → length (spellVariable x) ≡ 1 + length (digits x)
+unfolding spellVariable
+variable-length x = omega arith
+
+pub binary-length : (a : Operand) (o : Operator) (b : Operand) → length (spellExpression (Binary a o b)) ≡ length (spellOperand a) + (3 + length (spellOperand b))
+unfolding spellExpression
+binary-length a o b = simp length-append (omega arith)
+
+pub assign-length : (x : ℕ) (e : Expression) → length (spell (Assign x e)) ≡ length (spellVariable x) + (4 + length (spellExpression e))
+unfolding spell
+assign-length x e = simp length-append (omega arith)
+
+pub branch-length : (x n m : ℕ) → length (spell (Branch x n m)) ≡ 3 + (length (spellVariable x) + (6 + (length (digits n) + (6 + length (digits m)))))
+unfolding spell
+branch-length x n m = simp length-append (omega arith)

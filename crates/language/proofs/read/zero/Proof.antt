@@ -1,0 +1,31 @@
+-- `read_nothing` meets its contract.
+use borrow.Author.Needs.{needs}
+use mathlib.Core.Path.{sym, _∙_}
+use Rattle.language.specs.Parsing.{parseZero}
+use Rattle.language.proofs.Steps.{at-end, at-byte}
+use Rattle.language.proofs.read.zero.Statement.{statement}
+use Rattle.language.proofs.read.zero.Tie as tie
+
+returns : tie.Need-returns
+unfolding parseZero
+returns c = rw (at-end _ _ (c .if1 .taken))
+
+returns-2 : tie.Need-returns-2
+unfolding parseZero
+returns-2 c = rw (at-byte _ _ (c .before .before .before .before .if1 .left), sym (c .before .before .digit-of .ensures) ∙ c .enum-told2 .given .1)
+
+returns-3 : tie.Need-returns-3
+unfolding parseZero
+returns-3 c = rw (at-byte _ _ (c .before .before .before .before .if1 .left), sym (c .before .before .digit-of .ensures) ∙ c .enum-told .given .1)
+
+pub zero-spec : {M : Type 1} → statement M
+zero-spec =
+    tie.close
+    (tie.spec
+    returns
+    (λ c. search needs)
+    (λ c κs. search needs)
+    (λ c. search needs)
+    (λ c. search needs)
+    returns-2
+    returns-3)

@@ -1,0 +1,120 @@
+-- How statements are spelled, and which are valid: document 01, "The statement language".
+use Prim.Native.Nat.{ℕ, zero, suc, _+_, _/_, _%_, _≤_, _<_}
+use mathlib.Core.List.{List, [], _∷_, _++_}
+use mathlib.Core.Bool.{Bool, true, false}
+use lib.Dec.{ltb}
+use Rattle.language.specs.declared.Operand.{Operand}
+use Rattle.language.specs.declared.Operand.the-variants.{Variable, Constant}
+use Rattle.language.specs.declared.Operator.{Operator}
+use Rattle.language.specs.declared.Operator.the-variants.{Add, Subtract, Multiply, Less, Equal}
+use Rattle.language.specs.declared.Expression.{Expression}
+use Rattle.language.specs.declared.Expression.the-variants.{Single, Binary}
+use Rattle.language.specs.declared.Statement.{Statement}
+use Rattle.language.specs.declared.Statement.the-variants.{Read, Write, Assign, Branch, Skip}
+
+-- "X is a variable `i0` to `i31`"
+abbrev pub variables : ℕ
+variables = 32
+
+-- "Constants and statement numbers are decimal, 0 to 2147483647"
+abbrev pub largest : ℕ
+largest = 2147483647
+
+abbrev pub pickList : Bool → List ℕ → List ℕ → List ℕ
+pickList true a b = a
+pickList false a b = b
+
+-- the decimal digits of n, by at most `fuel` divisions
+unfoldable pub digitsBy : ℕ → ℕ → List ℕ
+digitsBy zero n = []
+digitsBy (suc fuel) n =
+    let more : List ℕ = digitsBy fuel (n / 10) ++ (48 + n % 10) ∷ [] in
+    pickList (ltb n 10) ((48 + n) ∷ []) more
+
+-- "decimal, .. without leading zeros (`0` itself is right)"
+unfoldable pub digits : ℕ → List ℕ
+digits n = digitsBy (suc n) n
+
+-- a constant is its 32 bits
+abbrev pub spellConstant : ℕ → List ℕ
+spellConstant n = digits n
+
+abbrev pub ValidConstant : ℕ → Type 0
+ValidConstant n = n ≤ largest
+
+abbrev pub spellStatementNumber : ℕ → List ℕ
+spellStatementNumber n = digits n
+
+abbrev pub ValidStatementNumber : ℕ → Type 0
+ValidStatementNumber n = n ≤ largest
+
+unfoldable pub spellVariable : ℕ → List ℕ
+spellVariable x = 105 ∷ digits x
+
+abbrev pub ValidVariable : ℕ → Type 0
+ValidVariable x = x < variables
+
+-- "A is a variable or a constant"
+unfoldable pub spellOperand : Operand → List ℕ
+spellOperand (Variable x) = spellVariable x
+spellOperand (Constant n) = spellConstant n
+
+abbrev pub ValidOperand : Operand → Type 0
+ValidOperand (Variable x) = ValidVariable x
+ValidOperand (Constant n) = ValidConstant n
+
+-- "o is `+`, `-`, `*`, `<` or `=`"
+abbrev pub spellOperator : Operator → ℕ
+spellOperator Add = 43
+spellOperator Subtract = 45
+spellOperator Multiply = 42
+spellOperator Less = 60
+spellOperator Equal = 61
+
+-- "E is `A` or `A o A`"
+unfoldable pub spellExpression : Expression → List ℕ
+spellExpression (Single a) = spellOperand a
+spellExpression (Binary a o b) = spellOperand a ++ 32 ∷ spellOperator o ∷ 32 ∷ spellOperand b
+
+abbrev pub ValidExpression : Expression → Type 0
+ValidExpression (Single a) = ValidOperand a
+ValidExpression (Binary a o b) = ValidOperand a × ValidOperand b
+
+-- `read `, `write `, ` := `, `if `, ` goto `, ` else ` and `skip` as bytes
+abbrev pub read-word : List ℕ
+read-word = 114 ∷ 101 ∷ 97 ∷ 100 ∷ 32 ∷ []
+
+abbrev pub write-word : List ℕ
+write-word = 119 ∷ 114 ∷ 105 ∷ 116 ∷ 101 ∷ 32 ∷ []
+
+abbrev pub becomes-word : List ℕ
+becomes-word = 32 ∷ 58 ∷ 61 ∷ 32 ∷ []
+
+abbrev pub if-word : List ℕ
+if-word = 105 ∷ 102 ∷ 32 ∷ []
+
+abbrev pub goto-word : List ℕ
+goto-word = 32 ∷ 103 ∷ 111 ∷ 116 ∷ 111 ∷ 32 ∷ []
+
+abbrev pub else-word : List ℕ
+else-word = 32 ∷ 101 ∷ 108 ∷ 115 ∷ 101 ∷ 32 ∷ []
+
+abbrev pub skip-word : List ℕ
+skip-word = 115 ∷ 107 ∷ 105 ∷ 112 ∷ []
+
+-- `read X`, `write X`, `X := E`, `if X goto n else m`, `skip`: a statement's line without its byte 10
+unfoldable pub spell : Statement → List ℕ
+spell (Read x) = read-word ++ spellVariable x
+spell (Write x) = write-word ++ spellVariable x
+spell (Assign x e) = spellVariable x ++ (becomes-word ++ spellExpression e)
+spell (Branch x n m) =
+    if-word ++ (spellVariable x ++ (goto-word ++ (spellStatementNumber n ++ (else-word ++ spellStatementNumber m))))
+spell Skip = skip-word
+
+-- what it names lies in its range, wherever it stands
+abbrev pub Valid : Statement → Type 0
+Valid (Read x) = ValidVariable x
+Valid (Write x) = ValidVariable x
+Valid (Assign x e) = ValidVariable x × ValidExpression e
+Valid (Branch x n m) = ValidVariable x × ValidStatementNumber n × ValidStatementNumber m
+Valid Skip = Unit

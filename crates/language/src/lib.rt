@@ -1,0 +1,35 @@
+// The statement language: its types. `read` takes statements from a text, `write` puts them into one.
+pub mod read;
+pub mod write;
+
+// Variables are i0 to i31.
+pub const VARIABLES: u32 = 32;
+// The largest constant and statement number.
+pub const LARGEST: u64 = 2147483647;
+
+pub enum Operand {
+    Variable(u8),
+    Constant(u32),
+}
+
+pub enum Operator {
+    Add,
+    Subtract,
+    Multiply,
+    Less,
+    Equal,
+}
+
+pub enum Expression {
+    Single(Operand),
+    Binary(Operand, Operator, Operand),
+}
+
+// The targets of a branch are statement numbers, counted from 1.
+pub enum Statement {
+    Read(u8),
+    Write(u8),
+    Assign(u8, Expression),
+    Branch(u8, u32, u32),
+    Skip,
+}

@@ -1,0 +1,74 @@
+-- Laws of runs: where a run stands, and what a step makes of it.
+use mathlib.Core.Path.{_≡_, refl, sym, ap, _∙_}
+use mathlib.Core.Bool.{Bool, true, false}
+use mathlib.Core.List.{List}
+use Prim.Native.Nat.{ℕ, _+_, _-_, _≤_, _<_}
+use native.Mathlib.Numerals.{add-one}
+use native.Mathlib.Omega.{arith}
+use lib.Dec.{eqb}
+use lib.ListN.{length, getD}
+use Rattle.language.specs.declared.Statement.{Statement}
+use Rattle.language.specs.declared.Statement.the-variants.{Read, Write, Assign, Branch, Skip}
+use Rattle.program.specs.Program.{at, InPlace, Targets, WellFormed}
+use Rattle.program.specs.Reading.{statements}
+use Rattle.program.specs.declared.Program.{Program}
+use Rattle.program.proofs.Held.{held, at-held}
+use Rattle.machine.specs.Machine.{before, after, perform, pick, stepFrom}
+use Rattle.machine.specs.Answer.{stateOf, Ends}
+use Rattle.machine.specs.declared.Next.{Next}
+use Rattle.machine.specs.declared.Next.the-variants.{Goto, Finish}
+
+
+-- after k steps the run stands before the statement at place s of the program, with the values ws
+pub record Stands (P : List Statement) (vs : List ℕ) (input k s : ℕ) (ws : List ℕ) : Type 0 where
+  pub inside : s < length P
+  pub state : after P vs input k ≡ before s ws
+
+pub stands-first : (P : List Statement) (vs : List ℕ) (input : ℕ) → WellFormed P → Stands P vs input 0 0 vs
+unfolding after
+stands-first P vs input w = record { inside = omega (arith, w .counted .0); state = refl }
+
+-- a statement in its place leads only to places of the program
+pub perform-inside :
+    (N s input t : ℕ) (vs us : List ℕ) (x : Statement)
+    → 2 ≤ N → InPlace N s x → Targets N x → perform x input s vs ≡ before t us → t < N
+perform-inside N s input t vs us (Read x) two p a e = let h : s + 1 ≡ t = cc in omega arith
+perform-inside N s input t vs us (Write x) two p a e = let z : _≡_ {A = ℕ} 0 1 = cc in omega arith
+perform-inside N s input t vs us (Assign x v) two p a e = let h : s + 1 ≡ t = cc in omega arith
+perform-inside N s input t vs us (Branch x n m) two p a e = go (eqb (getD vs x 0) 0) e
+  where
+    go : (w : Bool) → before (pick w m n - 1) vs ≡ before t us → t < N
+    go true f = let h : m - 1 ≡ t = cc in omega arith
+    go false f = let h : n - 1 ≡ t = cc in omega arith
+perform-inside N s input t vs us Skip two p a e = let h : s + 1 ≡ t = cc in omega arith
+
+-- one step more, where `told` is what `step` says of its answer n and the values us that it leaves
+module _ (p : Program) (vs : List ℕ) (input k s : ℕ) (ws us : List ℕ) (n : Next)
+    (here : Stands (statements p) vs input k s ws) (told : stateOf n us ≡ perform (held (p .entries) s) input s ws) where
+  step-performs : perform (at (statements p) s) input s ws ≡ stateOf n us
+  step-performs = rw (at-held (p .entries) (p .count) s (here .inside)) (sym told)
+
+  step-after : after (statements p) vs input (k + 1) ≡ stateOf n us
+  unfolding after
+  step-after = rw add-one (ap (stepFrom (statements p) input) (here .state) ∙ step-performs)
+
+  pub step-inside : (t : ℕ) → WellFormed (statements p) → n ≡ Goto t → Stands (statements p) vs input (k + 1) t us
+  step-inside t w e =
+      let goes : stateOf n us ≡ before t us = ap (λ (x : Next). stateOf x us) e in
+      record {
+        inside = perform-inside (length (statements p)) s input t ws us (at (statements p) s) (w .counted .0)
+            (w .placed s (here .inside))
+            (w .aimed s (here .inside))
+            (step-performs ∙ goes);
+        state = step-after ∙ goes;
+      }
+
+  pub step-over : (v : ℕ) → n ≡ Finish v → Ends (statements p) vs input (k + 1) v
+  step-over v e = record {
+    last = s;
+    left = ws;
+    steps = k;
+    counted = add-one k;
+    stands = here .state;
+    over = step-after ∙ ap (λ (x : Next). stateOf x us) e;
+  }

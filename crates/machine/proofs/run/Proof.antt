@@ -1,0 +1,72 @@
+-- `run` meets its contract. The invariant: after `steps` steps, which the budget allows, the run stands before the statement at `at`.
+use mathlib.Core.Path.{_≡_, refl}
+use Prim.Native.Nat.{_≤_, _-_}
+use native.Mathlib.Omega.{arith}
+use borrow.Author.Needs.{needs}
+use Rattle.program.specs.Reading.{statements}
+use Rattle.program.proofs.Held.{held-valid, held-targets}
+use Rattle.machine.proofs.Runs.{Stands, stands-first, step-inside, step-over}
+use Rattle.machine.proofs.Words.{stored-same}
+use Rattle.machine.proofs.run.Statement.{statement}
+use Rattle.machine.proofs.run.Tie as tie
+
+abbrev Inv-loop : tie.InvT-loop
+Inv-loop start input budget program values₀ at₀ steps₀ values at steps =
+    Stands (statements program) start input steps at values × (steps ≤ budget)
+
+abbrev μ-loop : tie.MeasureT-loop
+μ-loop start input budget program values₀ at₀ steps₀ values at steps = budget - steps
+
+loop-holds : tie.Need-loop-holds Inv-loop μ-loop
+loop-holds c = (stands-first _ _ _ (c .pre), omega arith)
+
+step-requires : tie.Need-step-requires Inv-loop μ-loop
+step-requires c κs =
+    let b = c .before .before .before in
+    let p = b .before .args .t1 in
+    let inside = b .loop .inv .0 .inside in
+    (held-valid (p .entries) (p .count) _ inside (b .before .pre), (held-targets (p .entries) (p .count) _ inside (b .before .pre), omega arith))
+
+loop-again : tie.Need-loop-again Inv-loop μ-loop
+loop-again c =
+    let b = c .before .before .before .before .before .before .before in
+    let told = c .before .before .before .step .ensures in
+    (step-inside (b .before .args .t1) _ _ _ _ _ _ _ (b .loop .inv .0) told _ (b .before .pre) (c .before .next .given .1), omega arith)
+
+returns : tie.Need-returns Inv-loop μ-loop
+returns c =
+    let b = c .before .before .before .before .before .before .before .before in
+    let told = c .before .before .before .before .step .ensures in
+    let v = c .before .before .next2 .given in (
+      v .0 .0,
+      step-over (b .before .args .t1) _ _ _ _ _ _ _ (b .loop .inv .0) told _ (v .1),
+      omega arith,
+      stored-same (v .0 .0) (search needs) (c .signed .ensures),
+      refl,
+    )
+
+returns-2 : tie.Need-returns-2 Inv-loop μ-loop
+returns-2 c =
+    let h : c .before .loop .steps ≡ c .before .before .args .budget = omega arith in
+    (c .before .loop .at, refl, rw (← h) (c .before .loop .inv .0 .state))
+
+pub run-spec : {M : Type 1} → statement M
+run-spec =
+    tie.close
+    (tie.spec
+    Inv-loop
+    μ-loop
+    loop-holds
+    (λ c. search needs)
+    (λ c. search needs)
+    (λ c. search needs)
+    step-requires
+    (λ c. search needs)
+    (λ c. search needs)
+    (λ c. search needs)
+    loop-again
+    (λ c. search needs)
+    (λ c κs. search needs)
+    returns
+    (λ c. search needs)
+    returns-2)

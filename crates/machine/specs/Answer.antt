@@ -1,0 +1,34 @@
+-- What a run under a budget answers.
+use mathlib.Core.Path.{_≡_}
+use mathlib.Core.List.{List}
+use Prim.Native.Nat.{ℕ, suc, _+_, _≤_}
+use lib.IntN.{ℤ}
+use mir.Syntax.{w32}
+use mir.Val.{toZ}
+use Rattle.language.specs.declared.Statement.{Statement}
+use Rattle.machine.specs.Machine.{State, before, ended, after}
+use Rattle.machine.specs.declared.Next.{Next}
+use Rattle.machine.specs.declared.Next.the-variants.{Goto, Finish}
+use Rattle.machine.specs.declared.Answer.{Answer}
+use Rattle.machine.specs.declared.Answer.the-variants.{Ended, Spent}
+
+-- the state that `step` answers, with the values that it leaves
+abbrev pub stateOf : Next → List ℕ → State
+stateOf (Goto s) vs = before s vs
+stateOf (Finish v) vs = ended v
+
+-- the run's last step is number k: before it the run stands before a statement, after it the run has ended with v
+pub record Ends (P : List Statement) (vs : List ℕ) (input k v : ℕ) : Type 0 where
+  pub last : ℕ
+  pub left : List ℕ
+  pub steps : ℕ
+  pub counted : k ≡ suc steps
+  pub stands : after P vs input steps ≡ before last left
+  pub over : after P vs input k ≡ ended v
+
+-- "answers the value, signed, and the steps taken if it ends within them; otherwise it answers 'spent', with the statement and 32
+-- values after that many steps". The values beside any other answer are the starting ones
+abbrev pub Answers : List Statement → List ℕ → ℕ → ℕ → Answer → List ℕ → Type 0
+Answers P vs input budget (Ended value steps) ws =
+    (v : ℕ) × Ends P vs input steps v × (steps ≤ budget) × (value ≡ toZ w32 v) × (ws ≡ vs)
+Answers P vs input budget (Spent n) ws = (s : ℕ) × (n ≡ s + 1) × (after P vs input budget ≡ before s ws)

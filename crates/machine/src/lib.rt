@@ -1,0 +1,166 @@
+// Runs: values of 32 bits, one step, and a run under a budget.
+ghost use mathlib.Core.Path.{_≡_};
+ghost use Prim.Native.Nat.{_*_, _%_, _^_, _<_, _+_};
+ghost use mir.Syntax.{w32};
+ghost use mir.Val.{toZ};
+ghost use lib.Signed.{ltZ};
+ghost use Rattle.language.specs.Spelling.{ValidOperand, ValidExpression, Valid};
+ghost use Rattle.program.specs.Program.{most, Targets, WellFormed};
+ghost use Rattle.program.specs.Reading.{statements};
+ghost use Rattle.machine.specs.Machine.{apply, operandValue, value, perform};
+ghost use Rattle.machine.specs.Answer.{stateOf, Answers};
+use language::Expression;
+use language::Operand;
+use language::Operator;
+use language::Statement;
+use program::Program;
+
+// One value for each variable.
+pub const VALUES: usize = 32;
+
+// Where a step leads: before the statement at a place, or out of the program with a value.
+pub enum Next {
+    Goto(u32),
+    Finish(u32),
+}
+
+// Ended: the value, signed, and the steps. Spent: the number of the statement that would be next.
+pub enum Answer {
+    Ended(i32, u32),
+    Spent(u32),
+}
+
+// The values are those after the last step where the answer is `Spent`, else the starting ones.
+pub struct Outcome {
+    pub answer: Answer,
+    pub values: [u32; VALUES],
+}
+
+// The low 32 bits of the product.
+fn wrapping_multiply(a: u32, b: u32) -> u32
+    ensures { λ r. ⌜ r ≡ a * b % 2 ^ 32 ⌝ }
+{
+    ((a as u64) * (b as u64) % 4294967296) as u32
+}
+
+// The number that the bits stand for in two's complement.
+pub fn signed(a: u32) -> i32
+    ensures { λ r. ⌜ r ≡ toZ w32 a ⌝ }
+{
+    if a < 2147483648 {
+        a as i32
+    } else {
+        ((a as i64) - 4294967296) as i32
+    }
+}
+
+fn less(a: u32, b: u32) -> bool
+    ensures { λ r. ⌜ r ≡ ltZ (toZ w32 a) (toZ w32 b) ⌝ }
+{
+    signed(a) < signed(b)
+}
+
+fn apply_operator(o: Operator, a: u32, b: u32) -> u32
+    ensures { λ r. ⌜ r ≡ apply o a b ⌝ }
+{
+    match o {
+        Operator::Add => std::num::wrapping_add_u32(a, b),
+        Operator::Subtract => std::num::wrapping_sub_u32(a, b),
+        Operator::Multiply => wrapping_multiply(a, b),
+        Operator::Less => { if less(a, b) { 1 } else { 0 } }
+        Operator::Equal => { if a == b { 1 } else { 0 } }
+    }
+}
+
+fn load(values: &[u32; VALUES], o: Operand) -> u32
+    requires { ⌜ ValidOperand o ⌝ }
+    ensures { λ r. ⌜ r ≡ operandValue (now (values .entry)) o ⌝ }
+{
+    match o {
+        Operand::Variable(x) => {
+            let i = x as usize;
+            values[i]
+        }
+        Operand::Constant(n) => n,
+    }
+}
+
+fn evaluate(values: &[u32; VALUES], e: Expression) -> u32
+    requires { ⌜ ValidExpression e ⌝ }
+    ensures { λ r. ⌜ r ≡ value (now (values .entry)) e ⌝ }
+{
+    match e {
+        Expression::Single(a) => load(values, a),
+        Expression::Binary(a, o, b) => {
+            let x = load(values, a);
+            let y = load(values, b);
+            apply_operator(o, x, y)
+        }
+    }
+}
+
+// Performs the statement s, which stands at the place `at`.
+pub fn step(s: Statement, at: u32, input: u32, values: &mut [u32; VALUES]) -> Next
+    requires { ⌜ Valid s ⌝ }
+    requires { ⌜ Targets most s ⌝ }
+    requires { ⌜ at < most ⌝ }
+    ensures { λ r. ⌜ stateOf r (now (values .exit)) ≡ perform s input at (now (values .entry)) ⌝ }
+{
+    match s {
+        Statement::Read(x) => {
+            let i = x as usize;
+            values[i] = input;
+            Next::Goto(at + 1)
+        }
+        Statement::Write(x) => {
+            let i = x as usize;
+            Next::Finish(values[i])
+        }
+        Statement::Assign(x, e) => {
+            let v = evaluate(&*values, e);
+            let i = x as usize;
+            values[i] = v;
+            Next::Goto(at + 1)
+        }
+        Statement::Branch(x, n, m) => {
+            let i = x as usize;
+            if values[i] == 0 {
+                Next::Goto(m - 1)
+            } else {
+                Next::Goto(n - 1)
+            }
+        }
+        Statement::Skip => Next::Goto(at + 1),
+    }
+}
+
+pub fn run(program: Program, start: [u32; VALUES], input: u32, budget: u32) -> Outcome
+    requires { ⌜ WellFormed (statements program) ⌝ }
+    ensures { λ r. ⌜ Answers (statements program) start input budget (r .answer) (r .values) ⌝ }
+{
+    let mut values = start;
+    let mut at: u32 = 0;
+    let mut steps: u32 = 0;
+    while steps < budget {
+        let i = at as usize;
+        let e = program.entries[i];
+        let s = e.statement;
+        let next = step(s, at, input, &mut values);
+        steps += 1;
+        match next {
+            Next::Goto(t) => {
+                at = t;
+            }
+            Next::Finish(v) => {
+                return Outcome {
+                    answer: Answer::Ended(signed(v), steps),
+                    values: start,
+                };
+            }
+        }
+    }
+    Outcome {
+        answer: Answer::Spent(at + 1),
+        values: values,
+    }
+}

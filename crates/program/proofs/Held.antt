@@ -1,0 +1,78 @@
+-- The statements that the code's value of a program holds, and what is known of each. Assumes nothing.
+use mathlib.Core.Path.{_≡_, refl, ap, sym, _∙_}
+use mathlib.Core.List.{List, [], _∷_, map}
+use Prim.Native.Nat.{ℕ, zero, suc, _+_, _≤_, _<_}
+use native.Mathlib.Omega.{arith}
+use borrow.Author.Count.{below-more}
+use lib.ListN.{length, take, getD, length-take, length-map, List·getD-map}
+use lib.Seq.{getD-take, length-take-le}
+use Rattle.language.specs.Spelling.{Valid}
+use Rattle.language.specs.declared.Statement.{Statement}
+use Rattle.language.specs.declared.Statement.the-variants.{Read, Write, Assign, Branch, Skip}
+use Rattle.program.specs.declared.Entry.{Entry}
+use Rattle.program.specs.Program.{AllValid, at, most, Targets, WellFormed}
+use Rattle.program.specs.Reading.{entry, statementIn}
+
+-- within a list the default is never asked
+pub getD-within : {A : Type 0} (l : List A) (i : ℕ) (d e : A) → i < length l → getD l i d ≡ getD l i e
+getD-within [] i d e h = absurd (omega arith)
+getD-within (a ∷ l) zero d e h = refl
+getD-within (a ∷ l) (suc i) d e h = getD-within l i d e (omega arith)
+
+pub at-valid : (P : List Statement) (s : ℕ) → AllValid P → s < length P → Valid (at P s)
+at-valid [] s v h = absurd (omega arith)
+at-valid (x ∷ P) zero v h = v .0
+at-valid (x ∷ P) (suc s) v h = at-valid P s (v .1) (omega arith)
+
+pub targets-wider : (n m : ℕ) (x : Statement) → n ≤ m → Targets n x → Targets m x
+targets-wider n m (Read x) l t = tt
+targets-wider n m (Write x) l t = tt
+targets-wider n m (Assign x e) l t = tt
+targets-wider n m (Branch x a b) l t = ((t .0 .0, omega arith), (t .1 .0, omega arith))
+targets-wider n m Skip l t = tt
+
+-- the statement in the code's entry at place s
+abbrev pub held : List Entry → ℕ → Statement
+held es s = getD es s (entry (Read 0)) .statement
+
+-- the statement at a place is the one in the entry there, and what is known of it
+module _ (es : List Entry) (n s : ℕ) (inside : s < length (map statementIn (take n es))) where
+  pub at-held : at (map statementIn (take n es)) s ≡ held es s
+  at-held =
+      let front = take n es in
+      let below : s < n = omega (arith, length-map front statementIn, length-take n es) in
+      getD-within (map statementIn front) s Skip (Read 0) inside ∙ List·getD-map statementIn front s (entry (Read 0))
+      ∙ ap statementIn (getD-take n es s (entry (Read 0)) below)
+
+  pub held-valid : WellFormed (map statementIn (take n es)) → Valid (held es s)
+  held-valid w = rw at-held at (at-valid (map statementIn (take n es)) s (w .valid) inside)
+
+  pub held-targets : WellFormed (map statementIn (take n es)) → Targets most (held es s)
+  held-targets w =
+      rw at-held at (targets-wider (length (map statementIn (take n es))) most (at (map statementIn (take n es)) s) (w .counted .1) (w .aimed s inside))
+
+pub length-held : (es : List Entry) (n : ℕ) → n ≤ length es → length (map statementIn (take n es)) ≡ n
+length-held es n fits = length-map (take n es) statementIn ∙ length-take-le n es fits
+
+pub statements-entries : (P : List Statement) → map statementIn (map entry P) ≡ P
+statements-entries [] = refl
+statements-entries (s ∷ P) = rw (statements-entries P)
+
+-- the claim holds of the statements before place s
+abbrev pub SoFar : (ℕ → ℕ → Statement → Type 0) → List Entry → ℕ → ℕ → Type 0
+SoFar Q es n s = (j : ℕ) → j < s → Q n j (at (map statementIn (take n es)) j)
+
+-- a claim of each statement, looked at from the first on
+module _ (Q : ℕ → ℕ → Statement → Type 0) (es : List Entry) (n : ℕ) (fits : n ≤ length es) where
+  pub so-far-more : (s : ℕ) → s < n → SoFar Q es n s → Q n s (held es s) → SoFar Q es n (s + 1)
+  so-far-more s h f q = below-more _ s f (rw (at-held es n s (rw (length-held es n fits) h)) q)
+
+  abbrev Each : Type 0
+  Each = (s : ℕ) → s < length (map statementIn (take n es)) → Q (length (map statementIn (take n es))) s (at (map statementIn (take n es)) s)
+
+  pub each-holds : (s : ℕ) → n ≤ s → SoFar Q es n s → Each
+  each-holds s h f = rw (length-held es n fits) (λ j l. f j (omega arith))
+
+  pub each-fails : (s : ℕ) → s < n → (Q n s (held es s) → ⊥) → Each → ⊥
+  each-fails s h f all =
+      f (rw (at-held es n s (rw (length-held es n fits) h)) at ((rw (length-held es n fits) at all) s h))

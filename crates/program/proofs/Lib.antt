@@ -1,0 +1,4 @@
+pub mod Decides
+pub mod Held
+pub mod Texts
+pub mod RoundTrip

@@ -1,0 +1,68 @@
+-- `read` meets its contract: at each return the tests on the way are those of the refusal that is answered. Assumes nothing.
+use mathlib.Core.Path.{_≡_}
+use native.Mathlib.Omega.{arith}
+use borrow.Author.Needs.{needs}
+use borrow.Author.Tests.{not-true, not-false}
+use Rattle.program.specs.Reading.{Kept}
+use Rattle.program.proofs.Decides.{decided-true, decided-false}
+use Rattle.program.proofs.Texts.{lines-spelled, lines-misspelled, count-refused, place-refused, target-refused, lines-taken}
+use Rattle.program.proofs.read.Statement.{statement}
+use Rattle.program.proofs.read.Tie as tie
+
+-- what was read where the lines are spelled right
+kept : (c : tie.Else1) → let l = c .before .before .before .read-lines .result in Kept (c .before .before .before .before .before .args .s .now) (l .count) (l .entries)
+kept c = lines-spelled _ _ _ _ (not-false (c .before .before .before .read-lines .result .spelled) (c .if1 .left)) (c .before .before .before .read-lines .ensures)
+
+returns : tie.Need-returns
+returns c = rw (c .refused .ensures) (lines-misspelled _ _ _ _ (not-true (c .before .before .before .before .read-lines .result .spelled) (c .before .if1 .taken)) (c .before .before .before .before .read-lines .ensures))
+
+returns-2 : tie.Need-returns-2
+returns-2 c = rw (c .refused2 .ensures) (count-refused (kept (c .before .before)) (λ l h. omega arith))
+
+returns-3 : tie.Need-returns-3
+returns-3 c = rw (c .refused3 .ensures) (count-refused (kept (c .before .before .before)) (λ l h. omega arith))
+
+all-in-place-requires : tie.Need-all-in-place-requires
+all-in-place-requires c κs = record { room = kept (c .before .before) .room; few = c .if3 .left }
+
+returns-4 : tie.Need-returns-4
+returns-4 c =
+    rw (c .refused4 .ensures)
+    (place-refused (kept (c .before .before .before .before .before)) (c .before .before .before .before .if2 .left) (c .before .before .before .if3 .left) (decided-false (c .before .before .all-in-place .result) (not-true _ (c .before .if4 .taken)) (c .before .before .all-in-place .ensures)))
+
+all-aimed-requires : tie.Need-all-aimed-requires
+all-aimed-requires c κs = record { room = kept (c .before .before .before .before) .room; few = c .before .before .if3 .left }
+
+returns-5 : tie.Need-returns-5
+returns-5 c =
+    rw (c .refused5 .ensures)
+    (target-refused (kept (c .before .before .before .before .before .before .before)) (c .before .before .before .before .before .before .if2 .left) (c .before .before .before .before .before .if3 .left)
+    (decided-true (c .before .before .before .before .all-in-place .result) (not-false _ (c .before .before .before .if4 .left)) (c .before .before .before .before .all-in-place .ensures))
+    (decided-false (c .before .before .all-aimed .result) (not-true _ (c .before .if5 .taken)) (c .before .before .all-aimed .ensures)))
+
+returns-6 : tie.Need-returns-6
+returns-6 c = (
+  lines-taken (kept (c .before .before .before .before .before .before)) (c .before .before .before .before .before .if2 .left) (c .before .before .before .before .if3 .left)
+      (decided-true (c .before .before .before .all-in-place .result) (not-false _ (c .before .before .if4 .left)) (c .before .before .before .all-in-place .ensures))
+      (decided-true (c .before .all-aimed .result) (not-false _ (c .if5 .left)) (c .before .all-aimed .ensures)),
+  record { room = kept (c .before .before .before .before .before .before) .room; few = c .before .before .before .before .if3 .left },
+)
+
+pub read-spec : {M : Type 1} → statement M
+read-spec =
+    tie.close
+    (tie.spec
+    (λ c κs. search needs)
+    (λ c κs. search needs)
+    returns
+    (λ c κs. search needs)
+    returns-2
+    (λ c κs. search needs)
+    returns-3
+    all-in-place-requires
+    (λ c κs. search needs)
+    returns-4
+    all-aimed-requires
+    (λ c κs. search needs)
+    returns-5
+    returns-6)

@@ -1,0 +1,249 @@
+// Programs: a text read whole, with refusals 2 to 5, and a program written back.
+ghost use mathlib.Core.Path.{_≡_};
+ghost use mathlib.Core.Bool.{true};
+ghost use Prim.Native.Nat.{ℕ, _≤_, _<_, _+_};
+ghost use lib.ListN.{length};
+ghost use Rattle.program.specs.Program.{text, most, Inner, InPlace, Placed, IsTarget, Targets, Aimed};
+ghost use Rattle.program.specs.Reading.{Decides, statements, Held, LinesRead, ProgramRead, number};
+ghost use Rattle.language.specs.Writing.{Put};
+use language::Statement;
+use language::read::StatementRead;
+
+// A program has 2 to 256 statements.
+pub const FEWEST: usize = 2;
+
+pub const MOST: usize = 256;
+
+pub struct Entry {
+    pub statement: Statement,
+}
+
+// The first `count` entries are the statements.
+pub struct Program {
+    pub entries: [Entry; MOST],
+    pub count: usize,
+}
+
+// The refusals of a program's text.
+pub enum Refusal {
+    Misspelled,
+    LineCount,
+    Placement,
+    Target,
+}
+
+pub enum Answer {
+    Taken,
+    Refused(Refusal),
+}
+
+// The program is what was read where the answer is `Taken`.
+pub struct Reading {
+    pub answer: Answer,
+    pub program: Program,
+}
+
+// All lines of a text are counted; the first 256 are kept.
+struct Lines {
+    spelled: bool,
+    count: usize,
+    entries: [Entry; MOST],
+}
+
+// An array to be filled.
+fn blank() -> [Entry; MOST]
+    ensures { λ r. ⌜ length r ≡ 256 ⌝ }
+{
+    [Entry {
+        statement: Statement::Skip,
+    }; MOST]
+}
+
+// Every line is read, also beyond the 256 that are kept.
+fn read_lines(s: &[u8]) -> Lines
+    ensures { λ r. ⌜ LinesRead (now (s .entry)) (r .spelled) (r .count) (r .entries) ⌝ }
+{
+    let mut entries = blank();
+    let mut count: usize = 0;
+    let mut at: usize = 0;
+    while at < s.len() {
+        let StatementRead::Found(e, k) = language::read::line(s, at) else {
+            return Lines {
+                spelled: false,
+                count: 0,
+                entries: entries,
+            };
+        };
+        if count < MOST {
+            entries[count] = Entry { statement: e };
+        }
+        count += 1;
+        at = k;
+    }
+    Lines {
+        spelled: true,
+        count: count,
+        entries: entries,
+    }
+}
+
+// Neither first nor last.
+fn inner(s: usize, n: usize) -> bool
+    requires { ⌜ s < n ⌝ }
+    ensures { λ r. ⌜ Decides r (Inner n s) ⌝ }
+{
+    if s == 0 {
+        return false;
+    }
+    s + 1 != n
+}
+
+// Whether the statement may stand at place s of n.
+fn in_place(e: Statement, s: usize, n: usize) -> bool
+    requires { ⌜ s < n ⌝ }
+    ensures { λ r. ⌜ Decides r (InPlace n s e) ⌝ }
+{
+    match e {
+        Statement::Read(_) => s == 0,
+        Statement::Write(_) => s + 1 == n,
+        Statement::Assign(_, _) => inner(s, n),
+        Statement::Branch(_, _, _) => inner(s, n),
+        Statement::Skip => inner(s, n),
+    }
+}
+
+fn all_in_place(p: Program) -> bool
+    requires { ⌜ Held p ⌝ }
+    ensures { λ r. ⌜ Decides r (Placed (statements p)) ⌝ }
+{
+    let entries = p.entries;
+    let n = p.count;
+    let mut s: usize = 0;
+    while s < n {
+        let e = entries[s];
+        let t = e.statement;
+        if !in_place(t, s, n) {
+            return false;
+        }
+        s += 1;
+    }
+    true
+}
+
+fn is_target(t: u32, n: usize) -> bool
+    requires { ⌜ n ≤ most ⌝ }
+    ensures { λ r. ⌜ Decides r (IsTarget n t) ⌝ }
+{
+    if t < 2 {
+        return false;
+    }
+    t <= n as u32
+}
+
+// Whether the targets of a branch lie in the program.
+fn is_aimed(e: Statement, n: usize) -> bool
+    requires { ⌜ n ≤ most ⌝ }
+    ensures { λ r. ⌜ Decides r (Targets n e) ⌝ }
+{
+    match e {
+        Statement::Read(_) => true,
+        Statement::Write(_) => true,
+        Statement::Assign(_, _) => true,
+        Statement::Branch(_, a, b) => {
+            if !is_target(a, n) {
+                return false;
+            }
+            is_target(b, n)
+        }
+        Statement::Skip => true,
+    }
+}
+
+fn all_aimed(p: Program) -> bool
+    requires { ⌜ Held p ⌝ }
+    ensures { λ r. ⌜ Decides r (Aimed (statements p)) ⌝ }
+{
+    let entries = p.entries;
+    let n = p.count;
+    let mut s: usize = 0;
+    while s < n {
+        let e = entries[s];
+        let t = e.statement;
+        if !is_aimed(t, n) {
+            return false;
+        }
+        s += 1;
+    }
+    true
+}
+
+fn refused(r: Refusal, p: Program) -> Reading
+    ensures { λ q. ⌜ q .answer ≡ Answer.Refused r ⌝ }
+{
+    Reading {
+        answer: Answer::Refused(r),
+        program: p,
+    }
+}
+
+// The program whose lines the text is, or the first refusal that applies.
+pub fn read(s: &[u8]) -> Reading
+    ensures { λ r. ⌜ ProgramRead (now (s .entry)) (r .answer) (r .program) ⌝ }
+{
+    let lines = read_lines(s);
+    let entries = lines.entries;
+    let count = lines.count;
+    let p = Program {
+        entries: entries,
+        count: count,
+    };
+    if !lines.spelled {
+        return refused(Refusal::Misspelled, p);
+    }
+    if count < FEWEST {
+        return refused(Refusal::LineCount, p);
+    }
+    if MOST < count {
+        return refused(Refusal::LineCount, p);
+    }
+    if !all_in_place(p) {
+        return refused(Refusal::Placement, p);
+    }
+    if !all_aimed(p) {
+        return refused(Refusal::Target, p);
+    }
+    Reading {
+        answer: Answer::Taken,
+        program: p,
+    }
+}
+
+pub fn number_of(r: Refusal) -> u8
+    ensures { λ n. ⌜ n ≡ number r ⌝ }
+{
+    match r {
+        Refusal::Misspelled => 2,
+        Refusal::LineCount => 3,
+        Refusal::Placement => 4,
+        Refusal::Target => 5,
+    }
+}
+
+// Puts the program's text at the front of the lent bytes, and answers its length.
+pub fn write(p: Program, out: &mut [u8]) -> usize
+    requires { ⌜ Held p ⌝ }
+    requires { ⌜ length (text (statements p)) ≤ length (now out) ⌝ }
+    ensures { λ r. ⌜ Put (now (out .entry)) 0 (text (statements p)) (now (out .exit)) r ⌝ }
+{
+    let entries = p.entries;
+    let n = p.count;
+    let mut at: usize = 0;
+    let mut s: usize = 0;
+    while s < n {
+        let e = entries[s];
+        let t = e.statement;
+        at = language::write::line(out, at, t);
+        s += 1;
+    }
+    at
+}
