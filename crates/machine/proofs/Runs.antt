@@ -18,7 +18,6 @@ use Rattle.machine.specs.Answer.{stateOf, Ends}
 use Rattle.machine.specs.declared.Next.{Next}
 use Rattle.machine.specs.declared.Next.the-variants.{Goto, Finish}
 
-
 -- after k steps the run stands before the statement at place s of the program, with the values ws
 pub record Stands (P : List Statement) (vs : List ℕ) (input k s : ℕ) (ws : List ℕ) : Type 0 where
   pub inside : s < length P

@@ -3,6 +3,8 @@ ghost use mathlib.Core.Path.{_≡_};
 ghost use Rattle.rewrites.specs.Run.{RunAnswers};
 use machine::VALUES;
 
+pub mod exports;
+
 // A run takes at most this many steps.
 pub const MOST_STEPS: u32 = 1000000;
 // The refusal of a larger budget.

@@ -1,0 +1,31 @@
+-- What the functions for C and Rust hosts return, and what they leave in the places lent for answers.
+use mathlib.Core.Path.{_≡_}
+use mathlib.Core.List.{List}
+use Prim.Native.Nat.{ℕ}
+use lib.IntN.{ℤ}
+use Rattle.rewrites.specs.Run.{RunAnswers}
+use Rattle.rewrites.specs.declared.RunAnswer.{RunAnswer}
+use Rattle.rewrites.specs.declared.RunAnswer.the-variants.{Refused, Ended, Spent}
+
+-- the places lent to `rewrites_run`
+pub record RunPlaces : Type 0 where
+  pub ended : ℕ
+  pub value : ℤ
+  pub steps : ℕ
+  pub statement : ℕ
+  pub left : List ℕ
+
+-- 0 is a result, any other number the refusal; what the answer doesn't set is kept, and a refusal keeps all
+abbrev pub RunReturned : RunAnswer → List ℕ → ℕ → RunPlaces → RunPlaces → Type 0
+RunReturned (Refused n) ws r o q = (r ≡ n) × (q ≡ o)
+RunReturned (Ended v k) ws r o q =
+    (r ≡ 0) × (q ≡ record { ended = 1; value = v; steps = k; statement = o .statement; left = o .left })
+RunReturned (Spent n) ws r o q =
+    (r ≡ 0) × (q ≡ record { ended = 0; value = o .value; steps = o .steps; statement = n; left = ws })
+
+-- the number and the places are those of the one answer of `run`
+pub record RunExported (t vs : List ℕ) (input budget r : ℕ) (o q : RunPlaces) : Type 0 where
+  pub answer : RunAnswer
+  pub values : List ℕ
+  pub answers : RunAnswers t vs input budget answer values
+  pub returned : RunReturned answer values r o q
