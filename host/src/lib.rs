@@ -1,0 +1,198 @@
+//! Shift programs: statements over 32 variables, run under a budget of steps.
+//!
+//! The calls are those of a library that is proved to meet its contracts. This package links it and
+//! gives each call a safe form.
+//!
+//! A program is ASCII text, one statement a line, each line ended by byte 10. The first statement
+//! is `read X`, the last `write X`; between them stand `X := A`, `X := A o A` with `+`, `-`, `*`,
+//! `<` or `=` for o, `if X goto n else m` and `skip`.
+//!
+//! ```
+//! use rewrites::{run, Outcome, Refusal};
+//!
+//! // The sum 1 + 2 + .. + i0.
+//! let program = b"read i0\n\
+//!     if i0 goto 3 else 6\n\
+//!     i1 := i1 + i0\n\
+//!     i0 := i0 - 1\n\
+//!     if i0 goto 3 else 6\n\
+//!     write i1\n";
+//! let values = [0; 32];
+//!
+//! assert_eq!(run(program, &values, 4, 100), Ok(Outcome::Ended { value: 10, steps: 15 }));
+//!
+//! // Two steps read 4 into i0 and go to statement 3.
+//! let mut left = values;
+//! left[0] = 4;
+//! assert_eq!(run(program, &values, 4, 2), Ok(Outcome::Spent { statement: 3, values: left }));
+//!
+//! assert_eq!(run(b"read i0\n", &values, 4, 100), Err(Refusal::LineCount));
+//! ```
+
+#![warn(missing_docs)]
+
+use std::error::Error;
+use std::fmt;
+
+pub mod raw;
+
+/// The variables of a program, `i0` to `i31`, each with one value.
+pub const VARIABLES: usize = 32;
+
+/// The largest budget, in steps.
+pub const MOST_STEPS: u32 = 1_000_000;
+
+/// What a run answers.
+#[derive(Clone, Copy, Debug, PartialEq, Eq)]
+pub enum Outcome {
+    /// The run ended within the budget.
+    Ended {
+        /// What `write` wrote.
+        value: i32,
+        /// The steps taken, the one of `write` among them.
+        steps: u32,
+    },
+    /// The run took all steps of the budget without ending.
+    Spent {
+        /// The statement, numbered from 1, that would be performed next.
+        statement: u32,
+        /// The values of `i0` to `i31` after the last step.
+        values: [u32; VARIABLES],
+    },
+}
+
+/// Why a call is refused. The first that applies is answered, in the order of the variants.
+#[derive(Clone, Copy, Debug, PartialEq, Eq, Hash)]
+#[repr(u8)]
+pub enum Refusal {
+    /// A lent buffer is too small.
+    Buffer = 1,
+    /// The budget is over [`MOST_STEPS`].
+    Budget = 15,
+    /// A line of the program isn't a statement, or the last lacks its byte 10.
+    Misspelled = 2,
+    /// The program has under 2 or over 256 lines.
+    LineCount = 3,
+    /// `read` isn't first, `write` isn't last, or one of them stands elsewhere.
+    Placement = 4,
+    /// A target of an `if` is 0, 1 or above the count of statements.
+    Target = 5,
+    /// The condition is longer than 1,024 bytes.
+    ConditionLength = 6,
+    /// The condition is misspelled.
+    ConditionMisspelled = 7,
+    /// The condition has over 64 parts.
+    ConditionParts = 8,
+    /// A line of the marks is misspelled, or the last lacks its byte 10.
+    MarkMisspelled = 9,
+    /// There are over 256 lines of marks.
+    MarkCount = 10,
+}
+
+impl Refusal {
+    /// Every refusal, in the order in which they apply.
+    pub const ALL: [Refusal; 11] = [
+        Refusal::Buffer,
+        Refusal::Budget,
+        Refusal::Misspelled,
+        Refusal::LineCount,
+        Refusal::Placement,
+        Refusal::Target,
+        Refusal::ConditionLength,
+        Refusal::ConditionMisspelled,
+        Refusal::ConditionParts,
+        Refusal::MarkMisspelled,
+        Refusal::MarkCount,
+    ];
+
+    /// The number by which the library names the refusal.
+    pub fn number(self) -> u8 {
+        self as u8
+    }
+
+    /// The refusal that a call of the library returned, which is never another number.
+    fn returned(number: u8) -> Refusal {
+        let found = Refusal::ALL.iter().find(|r| r.number() == number);
+        *found.unwrap_or_else(|| unreachable!("{} is no refusal", number))
+    }
+}
+
+impl fmt::Display for Refusal {
+    fn fmt(&self, f: &mut fmt::Formatter<'_>) -> fmt::Result {
+        f.write_str(match self {
+            Refusal::Buffer => {
+                "table under 256 words, verdicts under 256 bytes or new text under 8,192 bytes"
+            }
+            Refusal::Budget => "budget over 1,000,000",
+            Refusal::Misspelled => {
+                "some line isn't spelled as a statement, or the last lacks its byte 10"
+            }
+            Refusal::LineCount => "under 2 or over 256 lines",
+            Refusal::Placement => "`read` or `write` missing from its place or standing elsewhere",
+            Refusal::Target => "a target outside 2 to N",
+            Refusal::ConditionLength => "condition longer than 1,024 bytes",
+            Refusal::ConditionMisspelled => "condition misspelled",
+            Refusal::ConditionParts => "condition of over 64 parts",
+            Refusal::MarkMisspelled => {
+                "some line of the marks misspelled, or the last without its byte 10"
+            }
+            Refusal::MarkCount => "over 256 lines of marks",
+        })
+    }
+}
+
+impl Error for Refusal {}
+
+/// Runs the program that the text spells, from the given values of `i0` to `i31` and one input
+/// value, for at most `budget` steps.
+///
+/// # Errors
+///
+/// [`Refusal::Budget`] for a budget over [`MOST_STEPS`], whatever the text holds; else, for the
+/// text, [`Refusal::Misspelled`], [`Refusal::LineCount`], [`Refusal::Placement`] or
+/// [`Refusal::Target`].
+///
+/// ```
+/// use rewrites::{run, Outcome};
+///
+/// // Values keep their low 32 bits, and the written value is signed.
+/// let program = b"read i0\ni0 := i0 + 1\nwrite i0\n";
+/// let answer = run(program, &[0; 32], 2147483647, 3);
+/// assert_eq!(answer, Ok(Outcome::Ended { value: -2147483648, steps: 3 }));
+/// ```
+pub fn run(
+    program: &[u8],
+    values: &[u32; VARIABLES],
+    input: u32,
+    budget: u32,
+) -> Result<Outcome, Refusal> {
+    let mut ended = 0;
+    let mut value = 0;
+    let mut steps = 0;
+    let mut statement = 0;
+    let mut left = [0; VARIABLES];
+    // SAFETY: the pointers come from references, so none is null, and those that are written
+    // through are the only ones to their places.
+    let number = unsafe {
+        raw::rewrites_run(
+            program.as_ptr(),
+            program.len(),
+            values,
+            input,
+            budget,
+            &mut ended,
+            &mut value,
+            &mut steps,
+            &mut statement,
+            &mut left,
+        )
+    };
+    if number != 0 {
+        return Err(Refusal::returned(number));
+    }
+    if ended == 1 {
+        Ok(Outcome::Ended { value, steps })
+    } else {
+        Ok(Outcome::Spent { statement, values: left })
+    }
+}

@@ -1,0 +1,24 @@
+//! The calls as `include/rewrites.h` declares them.
+
+use crate::VARIABLES;
+
+extern "C" {
+    /// See [`crate::run`] and the header.
+    ///
+    /// # Safety
+    ///
+    /// `program` points to `program_len` bytes. No pointer is null, also where the length is 0.
+    /// Places that the call writes overlap no other place lent to it.
+    pub fn rewrites_run(
+        program: *const u8,
+        program_len: usize,
+        values: *const [u32; VARIABLES],
+        input: u32,
+        budget: u32,
+        ended: *mut u32,
+        value: *mut i32,
+        steps: *mut u32,
+        statement: *mut u32,
+        left: *mut [u32; VARIABLES],
+    ) -> u8;
+}

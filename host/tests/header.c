@@ -1,0 +1,40 @@
+/* A C host: calls the library through its header, and exits with 0 where each answer is right. */
+#include "rewrites.h"
+
+#include <stdio.h>
+#include <string.h>
+
+#define CHECK(holds)                                              \
+    do {                                                          \
+        if (!(holds)) {                                           \
+            fprintf(stderr, "line %d: %s\n", __LINE__, #holds);   \
+            return 1;                                             \
+        }                                                         \
+    } while (0)
+
+static const char P[] =
+    "read i0\ni1 := i0\ni2 := 7\ni3 := i1 + i2\n"
+    "if i0 goto 6 else 8\ni0 := i0 - 1\nif i0 goto 4 else 8\nwrite i3\n";
+
+int main(void) {
+    uint8_t (*const run)(const uint8_t *, size_t, const uint32_t *, uint32_t, uint32_t, uint32_t *,
+                         int32_t *, uint32_t *, uint32_t *, uint32_t *) = rewrites_run;
+    const uint8_t *program = (const uint8_t *)P;
+    const size_t length = strlen(P);
+    const uint32_t values[32] = {0};
+    uint32_t ended = 11, steps = 12, statement = 13, left[32] = {14};
+    int32_t value = -15;
+
+    CHECK(run(program, length, values, 2, 1000001, &ended, &value, &steps, &statement, left) == 15);
+    CHECK(run(program, length - 1, values, 2, 9, &ended, &value, &steps, &statement, left) == 2);
+    CHECK(run(program, 0, values, 2, 9, &ended, &value, &steps, &statement, left) == 3);
+    CHECK(ended == 11 && value == -15 && steps == 12 && statement == 13 && left[0] == 14);
+
+    CHECK(run(program, length, values, 2, 12, &ended, &value, &steps, &statement, left) == 0);
+    CHECK(ended == 1 && value == 9 && steps == 12 && statement == 13 && left[0] == 14);
+
+    CHECK(run(program, length, values, 2, 11, &ended, &value, &steps, &statement, left) == 0);
+    CHECK(ended == 0 && value == 9 && steps == 12 && statement == 8);
+    CHECK(left[0] == 0 && left[1] == 2 && left[2] == 7 && left[3] == 9 && left[31] == 0);
+    return 0;
+}

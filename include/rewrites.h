@@ -1,0 +1,43 @@
+/* Calls of the rewrites library, for C and C++ on x86-64. `rt staticlib rewrites` makes the archive
+   to link, target/staticlib/librewrites.a, which needs no library but C's.
+
+   Each call takes any bytes. It returns 0 with a result, or the number of the refusal: the first
+   that applies, in the order given with the call. A refused call changes nothing that was lent. A
+   finished call changes only the places that its result sets.
+
+   No pointer may be null, also where a length is 0. Places that a call writes may not overlap each
+   other or any other place lent to it. */
+#ifndef REWRITES_H
+#define REWRITES_H
+
+#include <stddef.h>
+#include <stdint.h>
+
+#ifdef __cplusplus
+extern "C" {
+#endif
+
+/* Runs the shift program that the text spells, from 32 given values and one input value, under a
+   budget of 0 to 1,000,000 steps. One step performs one statement. Statements are numbered from 1.
+
+   Returns 0, and sets
+   *ended = 1, *value and *steps, where the run ends within the budget: the value that `write`
+              wrote, signed, and the steps taken. *statement and left are kept.
+   *ended = 0, *statement and left, where the budget is spent: the statement and the 32 values after
+              that many steps. *value and *steps are kept.
+
+   Returns the number of a refusal, and keeps all:
+   15: the budget is over 1,000,000.
+    2: some line isn't spelled as a statement, or the last lacks its byte 10.
+    3: under 2 or over 256 lines (empty text included).
+    4: `read` or `write` missing from its place or standing elsewhere.
+    5: a target outside 2 to N, the count of statements. */
+uint8_t rewrites_run(const uint8_t *program, size_t program_len, const uint32_t values[32],
+                     uint32_t input, uint32_t budget, uint32_t *ended, int32_t *value,
+                     uint32_t *steps, uint32_t *statement, uint32_t left[32]);
+
+#ifdef __cplusplus
+}
+#endif
+
+#endif
