@@ -48,7 +48,7 @@ binary-text : (a : Operand) (o : Operator) (b : Operand) (rest : List ℕ) → s
 unfolding spellExpression
 binary-text a o b rest = simp append-assoc
 
-expression-complete : (e : Expression) (rest : List ℕ) → ValidExpression e → NoDigit rest → parseWord (32 ∷ []) rest ≡ misspelled
+pub expression-complete : (e : Expression) (rest : List ℕ) → ValidExpression e → NoDigit rest → parseWord (32 ∷ []) rest ≡ misspelled
     → parseExpression (spellExpression e ++ rest) ≡ found e rest
 unfolding parseExpression spellExpression parseWord digitOf
 expression-complete (Single a) rest v h n = rw (operand-complete a rest v h, n)
@@ -139,7 +139,7 @@ operator-sound (c ∷ l) o u e =
         let b : l ≡ u = cc in
         rw (← a, ← b, h, eqb-true c k t)
 
-expression-sound : (l : List ℕ) (e : Expression) (u : List ℕ) → parseExpression l ≡ found e u → (l ≡ spellExpression e ++ u) × ValidExpression e
+pub expression-sound : (l : List ℕ) (e : Expression) (u : List ℕ) → parseExpression l ≡ found e u → (l ≡ spellExpression e ++ u) × ValidExpression e
 unfolding parseExpression spellExpression
 expression-sound l e u h =
     after-inv (parseOperand l) _ h λ a t e₁ f₁.
@@ -159,7 +159,7 @@ expression-sound l e u h =
     rw (← p, ← q) s₁)
 
 -- l spells s before u, and s is valid
-abbrev Spelled : List ℕ → Statement → List ℕ → Type 0
+abbrev pub Spelled : List ℕ → Statement → List ℕ → Type 0
 Spelled l s u = (l ≡ spell s ++ u) × Valid s
 
 read-sound : (l : List ℕ) (s : Statement) (u : List ℕ) → parseRead l ≡ found s u → Spelled l s u
@@ -220,7 +220,7 @@ branch-sound l s u h =
     let t : l ≡ if-word ++ (spellVariable x ++ (goto-word ++ (digits n ++ (else-word ++ (digits m ++ w))))) = rw (skip-sound if-word l e₁, i .0, skip-sound goto-word b e₃, j .0, skip-sound else-word d e₅, k .0) in
     rw (← p, ← q) (t ∙ sym (branch-text x n m w), (i .1, j .1, k .1))
 
-statement-sound : (l : List ℕ) (s : Statement) (u : List ℕ) → parseStatement l ≡ found s u → Spelled l s u
+pub statement-sound : (l : List ℕ) (s : Statement) (u : List ℕ) → parseStatement l ≡ found s u → Spelled l s u
 unfolding parseStatement
 statement-sound l s u h =
     either-inv (parseRead l) _ h (read-sound l s u) λ h₁.

@@ -1,0 +1,18 @@
+use mathlib.Core.Path.{_≡_, ap, sym, _∙_}
+use borrow.Author.Needs.{needs}
+use Rattle.program.proofs.Decides.{decides-same}
+use Rattle.atoms.specs.Codes.{statementCode}
+use Rattle.atoms.proofs.Codes.{code-unique}
+use Rattle.atoms.proofs.same_statement.Statement.{statement}
+use Rattle.atoms.proofs.same_statement.Tie as tie
+
+returns : tie.Need-returns
+returns c =
+    let a = c .before .before .statement-code .ensures in
+    let b = c .before .statement-code2 .ensures in
+    decides-same (c .same-code .result) (λ e. code-unique (c .before .before .before .args .s) (c .before .before .before .args .t) (sym a ∙ e ∙ b)) (λ e. a ∙ ap statementCode e ∙ sym b) (c .same-code .ensures)
+
+pub same-statement-spec : {M : Type 1} → statement M
+same-statement-spec =
+    tie.close
+    (tie.spec (λ c κs. search needs) (λ c κs. search needs) (λ c κs. search needs) returns)

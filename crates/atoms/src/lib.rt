@@ -1,0 +1,191 @@
+// Atoms of conditions: whether one holds at a statement of a program.
+ghost use mathlib.Core.Path.{_≡_};
+ghost use Prim.Native.Nat.{ℕ, _<_};
+ghost use Rattle.program.specs.Reading.{Decides};
+ghost use Rattle.condition.specs.Truth.{InOperand, In, Defines, Uses, HoldsAt};
+ghost use Rattle.atoms.specs.Codes.{operandCode, operatorCode, assignCode, statementCode};
+use condition::Atom;
+use language::Expression;
+use language::Operand;
+use language::Operator;
+use language::Statement;
+
+// A statement as numbers.
+struct Code {
+    kind: u64,
+    first: u64,
+    second: u64,
+    third: u64,
+}
+
+fn operand_code(a: Operand) -> u64
+    ensures { λ r. ⌜ r ≡ operandCode a ⌝ }
+{
+    match a {
+        Operand::Variable(x) => 2 * (x as u64),
+        Operand::Constant(n) => 2 * (n as u64) + 1,
+    }
+}
+
+fn operator_code(o: Operator) -> u64
+    ensures { λ r. ⌜ r ≡ operatorCode o ⌝ }
+{
+    match o {
+        Operator::Add => 5,
+        Operator::Subtract => 6,
+        Operator::Multiply => 7,
+        Operator::Less => 8,
+        Operator::Equal => 9,
+    }
+}
+
+fn assign_code(x: u8, e: Expression) -> Code
+    ensures { λ r. ⌜ r ≡ assignCode x e ⌝ }
+{
+    match e {
+        Expression::Single(a) => Code {
+            kind: 4,
+            first: x as u64,
+            second: operand_code(a),
+            third: 0,
+        },
+        Expression::Binary(a, o, b) => Code {
+            kind: operator_code(o),
+            first: x as u64,
+            second: operand_code(a),
+            third: operand_code(b),
+        },
+    }
+}
+
+fn statement_code(s: Statement) -> Code
+    ensures { λ r. ⌜ r ≡ statementCode s ⌝ }
+{
+    match s {
+        Statement::Read(x) => Code {
+            kind: 0,
+            first: x as u64,
+            second: 0,
+            third: 0,
+        },
+        Statement::Write(x) => Code {
+            kind: 1,
+            first: x as u64,
+            second: 0,
+            third: 0,
+        },
+        Statement::Skip => Code {
+            kind: 2,
+            first: 0,
+            second: 0,
+            third: 0,
+        },
+        Statement::Branch(x, n, m) => Code {
+            kind: 3,
+            first: x as u64,
+            second: n as u64,
+            third: m as u64,
+        },
+        Statement::Assign(x, e) => assign_code(x, e),
+    }
+}
+
+fn same_code(a: Code, b: Code) -> bool
+    ensures { λ r. ⌜ Decides r (a ≡ b) ⌝ }
+{
+    if a.kind != b.kind {
+        return false;
+    }
+    if a.first != b.first {
+        return false;
+    }
+    if a.second != b.second {
+        return false;
+    }
+    a.third == b.third
+}
+
+pub fn same_statement(s: Statement, t: Statement) -> bool
+    ensures { λ r. ⌜ Decides r (s ≡ t) ⌝ }
+{
+    same_code(statement_code(s), statement_code(t))
+}
+
+fn in_operand(x: u8, a: Operand) -> bool
+    ensures { λ r. ⌜ Decides r (InOperand x a) ⌝ }
+{
+    match a {
+        Operand::Variable(y) => x == y,
+        Operand::Constant(_) => false,
+    }
+}
+
+// Whether x is a variable of the expression.
+pub fn in_expression(x: u8, e: Expression) -> bool
+    ensures { λ r. ⌜ Decides r (In x e) ⌝ }
+{
+    match e {
+        Expression::Single(a) => in_operand(x, a),
+        Expression::Binary(a, _, b) => {
+            if in_operand(x, a) {
+                return true;
+            }
+            in_operand(x, b)
+        }
+    }
+}
+
+pub fn defines(s: Statement, x: u8) -> bool
+    ensures { λ r. ⌜ Decides r (Defines s x) ⌝ }
+{
+    match s {
+        Statement::Read(y) => x == y,
+        Statement::Write(_) => false,
+        Statement::Assign(y, _) => x == y,
+        Statement::Branch(_, _, _) => false,
+        Statement::Skip => false,
+    }
+}
+
+pub fn uses(s: Statement, x: u8) -> bool
+    ensures { λ r. ⌜ Decides r (Uses s x) ⌝ }
+{
+    match s {
+        Statement::Read(_) => false,
+        Statement::Write(y) => x == y,
+        Statement::Assign(_, e) => in_expression(x, e),
+        Statement::Branch(y, _, _) => x == y,
+        Statement::Skip => false,
+    }
+}
+
+// Whether the statement defines no variable of the expression.
+fn keeps(s: Statement, e: Expression) -> bool
+    ensures { λ r. ⌜ Decides r ((x : ℕ) → In x e → Defines s x → ⊥) ⌝ }
+{
+    match s {
+        Statement::Read(y) => !in_expression(y, e),
+        Statement::Write(_) => true,
+        Statement::Assign(y, _) => !in_expression(y, e),
+        Statement::Branch(_, _, _) => true,
+        Statement::Skip => true,
+    }
+}
+
+// Whether the atom holds at place s of n, where the statement i stands.
+pub fn holds(a: Atom, n: usize, i: Statement, s: usize) -> bool
+    requires { ⌜ s < n ⌝ }
+    ensures { λ r. ⌜ Decides r (HoldsAt n i s a) ⌝ }
+{
+    match a {
+        Atom::True => true,
+        Atom::False => false,
+        Atom::Entry => s == 0,
+        Atom::Exit => s + 1 == n,
+        Atom::Node(m) => s + 1 == m as usize,
+        Atom::Stmt(j) => same_statement(i, j),
+        Atom::Def(x) => defines(i, x),
+        Atom::Use(x) => uses(i, x),
+        Atom::Trans(e) => keeps(i, e),
+    }
+}

@@ -1,0 +1,5 @@
+pub mod Spelling
+pub mod Operators
+pub mod Readers
+pub mod Whole
+pub mod Words

@@ -1,0 +1,41 @@
+use Rattle.condition.proofs.Operators.{coded-ended}
+use Rattle.condition.specs.Parsing.{parseLetter, byLetter}
+use Rattle.condition.specs.Reading.{binaryCode}
+use Rattle.condition.specs.Condition.{conjunction, disjunction}
+use borrow.Author.Tests.{ne-eqb}
+use Rattle.language.proofs.Steps.{at-end, at-byte}
+use mathlib.Core.Path.{_∙_}
+use borrow.Author.Needs.{needs}
+use Rattle.condition.proofs.read.connective.Statement.{statement}
+use Rattle.condition.proofs.read.connective.Tie as tie
+
+returns : tie.Need-returns
+unfolding parseLetter byLetter
+returns c = rw (at-end _ _ (c .if1 .taken))
+
+returns-2 : tie.Need-returns-2
+unfolding parseLetter byLetter
+returns-2 c = rw (at-byte _ _ (c .before .before .before .if1 .left), c .before .match .keys1) (c .spaced .ensures ∙ coded-ended binaryCode conjunction _ _)
+
+returns-3 : tie.Need-returns-3
+unfolding parseLetter byLetter
+returns-3 c = rw (at-byte _ _ (c .before .before .before .if1 .left), c .before .match .keys2) (c .spaced2 .ensures ∙ coded-ended binaryCode disjunction _ _)
+
+returns-4 : tie.Need-returns-4
+unfolding parseLetter byLetter
+returns-4 c =
+    let n = c .match .rest in
+    rw (at-byte _ _ (c .before .before .if1 .left), ne-eqb _ 38 (n .0 .1), ne-eqb _ 124 (n .1))
+
+pub connective-spec : {M : Type 1} → statement M
+connective-spec =
+    tie.close
+    (tie.spec
+    returns
+    (λ c. search needs)
+    (λ c. search needs)
+    (λ c κs. search needs)
+    (λ c κs. search needs)
+    returns-2
+    returns-3
+    returns-4)

@@ -1,0 +1,42 @@
+use Rattle.condition.specs.Parsing.{parseMiddle}
+use Rattle.language.specs.Parsing.{parsedWord}
+use Rattle.ctl.specs.Paths.{E, A}
+use mathlib.Core.Path.{refl, sym, ap, _∙_}
+use borrow.Author.Needs.{needs}
+use Rattle.condition.proofs.read.middle.Statement.{statement}
+use Rattle.condition.proofs.read.middle.Tie as tie
+
+returns : tie.Need-returns
+unfolding parseMiddle
+returns c = rw (sym (c .before .before .word .ensures) ∙ ap (parsedWord _) (c .enum-told .given .1))
+
+returns-2 : tie.Need-returns-2
+unfolding parseMiddle
+returns-2 c = rw (sym (c .before .before .before .before .before .before .word .ensures) ∙ ap (parsedWord _) (c .before .before .before .before .k .given .1), c .before .enum-told2 .given .1) (c .connective .ensures)
+
+returns-3 : tie.Need-returns-3
+unfolding parseMiddle
+returns-3 c = rw (sym (c .before .before .before .before .before .before .word .ensures) ∙ ap (parsedWord _) (c .before .before .before .before .k .given .1), c .before .enum-told3 .given .1) (c .binary-letter .ensures E refl)
+
+returns-4 : tie.Need-returns-4
+unfolding parseMiddle
+returns-4 c = rw (sym (c .before .before .before .before .before .before .word .ensures) ∙ ap (parsedWord _) (c .before .before .before .before .k .given .1), c .before .enum-told4 .given .1) (c .binary-letter2 .ensures A refl)
+
+pub middle-spec : {M : Type 1} → statement M
+middle-spec =
+    tie.close
+    (tie.spec
+    (λ c. search needs)
+    (λ c κs. search needs)
+    (λ c. search needs)
+    (λ c. search needs)
+    returns
+    (λ c. search needs)
+    (λ c κs. search needs)
+    (λ c. search needs)
+    (λ c κs. search needs)
+    (λ c. search needs)
+    (λ c κs. search needs)
+    returns-2
+    returns-3
+    returns-4)

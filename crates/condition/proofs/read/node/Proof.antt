@@ -1,0 +1,35 @@
+use Rattle.condition.specs.Parsing.{parseNode}
+use Rattle.language.specs.Parsing.{parsedWord, parsedNumber}
+use mathlib.Core.Path.{sym, ap, _∙_}
+use borrow.Author.Needs.{needs}
+use Rattle.condition.proofs.read.node.Statement.{statement}
+use Rattle.condition.proofs.read.node.Tie as tie
+
+returns : tie.Need-returns
+unfolding parseNode
+returns c = rw (sym (c .before .before .word .ensures) ∙ ap (parsedWord _) (c .enum-told .given .1))
+
+returns-2 : tie.Need-returns-2
+unfolding parseNode
+returns-2 c = rw (sym (c .before .before .before .before .before .before .word .ensures) ∙ ap (parsedWord _) (c .before .before .before .before .k .given .1), sym (c .before .before .statement-number .ensures) ∙ ap (parsedNumber _) (c .enum-told2 .given .1))
+
+returns-3 : tie.Need-returns-3
+unfolding parseNode
+returns-3 c = rw (sym (c .before .before .before .before .before .before .before .before .before .word .ensures) ∙ ap (parsedWord _) (c .before .before .before .before .before .before .before .k .given .1), sym (c .before .before .before .before .before .statement-number .ensures) ∙ ap (parsedNumber _) (c .before .before .before .n .given .1)) (c .ended .ensures)
+
+pub node-spec : {M : Type 1} → statement M
+node-spec =
+    tie.close
+    (tie.spec
+    (λ c. search needs)
+    (λ c κs. search needs)
+    (λ c. search needs)
+    (λ c. search needs)
+    returns
+    (λ c κs. search needs)
+    (λ c. search needs)
+    (λ c. search needs)
+    returns-2
+    (λ c. search needs)
+    (λ c κs. search needs)
+    returns-3)

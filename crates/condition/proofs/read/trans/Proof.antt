@@ -1,0 +1,35 @@
+use Rattle.condition.specs.Parsing.{parseTrans}
+use Rattle.language.specs.Parsing.{parsedWord, parsedExpression}
+use mathlib.Core.Path.{sym, ap, _∙_}
+use borrow.Author.Needs.{needs}
+use Rattle.condition.proofs.read.trans.Statement.{statement}
+use Rattle.condition.proofs.read.trans.Tie as tie
+
+returns : tie.Need-returns
+unfolding parseTrans
+returns c = rw (sym (c .before .before .word .ensures) ∙ ap (parsedWord _) (c .enum-told .given .1))
+
+returns-2 : tie.Need-returns-2
+unfolding parseTrans
+returns-2 c = rw (sym (c .before .before .before .before .before .before .word .ensures) ∙ ap (parsedWord _) (c .before .before .before .before .k .given .1), sym (c .before .before .expression .ensures) ∙ ap (parsedExpression _) (c .enum-told2 .given .1))
+
+returns-3 : tie.Need-returns-3
+unfolding parseTrans
+returns-3 c = rw (sym (c .before .before .before .before .before .before .before .before .before .word .ensures) ∙ ap (parsedWord _) (c .before .before .before .before .before .before .before .k .given .1), sym (c .before .before .before .before .before .expression .ensures) ∙ ap (parsedExpression _) (c .before .before .before .e .given .1)) (c .ended .ensures)
+
+pub trans-spec : {M : Type 1} → statement M
+trans-spec =
+    tie.close
+    (tie.spec
+    (λ c. search needs)
+    (λ c κs. search needs)
+    (λ c. search needs)
+    (λ c. search needs)
+    returns
+    (λ c κs. search needs)
+    (λ c. search needs)
+    (λ c. search needs)
+    returns-2
+    (λ c. search needs)
+    (λ c κs. search needs)
+    returns-3)

@@ -1,0 +1,35 @@
+use Rattle.condition.specs.Parsing.{parseUse}
+use Rattle.language.specs.Parsing.{parsedWord, parsedVariable}
+use mathlib.Core.Path.{sym, ap, _∙_}
+use borrow.Author.Needs.{needs}
+use Rattle.condition.proofs.read.used.Statement.{statement}
+use Rattle.condition.proofs.read.used.Tie as tie
+
+returns : tie.Need-returns
+unfolding parseUse
+returns c = rw (sym (c .before .before .word .ensures) ∙ ap (parsedWord _) (c .enum-told .given .1))
+
+returns-2 : tie.Need-returns-2
+unfolding parseUse
+returns-2 c = rw (sym (c .before .before .before .before .before .before .word .ensures) ∙ ap (parsedWord _) (c .before .before .before .before .k .given .1), sym (c .before .before .variable .ensures) ∙ ap (parsedVariable _) (c .enum-told2 .given .1))
+
+returns-3 : tie.Need-returns-3
+unfolding parseUse
+returns-3 c = rw (sym (c .before .before .before .before .before .before .before .before .before .word .ensures) ∙ ap (parsedWord _) (c .before .before .before .before .before .before .before .k .given .1), sym (c .before .before .before .before .before .variable .ensures) ∙ ap (parsedVariable _) (c .before .before .before .x .given .1)) (c .ended .ensures)
+
+pub used-spec : {M : Type 1} → statement M
+used-spec =
+    tie.close
+    (tie.spec
+    (λ c. search needs)
+    (λ c κs. search needs)
+    (λ c. search needs)
+    (λ c. search needs)
+    returns
+    (λ c κs. search needs)
+    (λ c. search needs)
+    (λ c. search needs)
+    returns-2
+    (λ c. search needs)
+    (λ c κs. search needs)
+    returns-3)

@@ -1,0 +1,4 @@
+pub mod Condition
+pub mod Truth
+pub mod Reading
+pub mod Parsing

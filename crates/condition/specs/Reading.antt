@@ -1,0 +1,94 @@
+-- Which refusal a condition's text gets, and how the code holds its parts.
+use mathlib.Core.Path.{_≡_}
+use mathlib.Core.List.{List, [], _∷_, _++_}
+use Prim.Native.Nat.{ℕ, _+_, _-_, _*_, _≤_, _<_}
+use lib.ListN.{length, take}
+use Rattle.ctl.specs.Paths.{Quant, E, A}
+use Rattle.flow.specs.Flow.{Direction, forward, backward}
+use Rattle.condition.specs.Condition.{PathUnary, next, finally, globally, PathBinary, until, weak, Unary, negation, Binary, conjunction, disjunction, Condition, atom, unary, binary, prefix, opening, middle, spellCondition, ValidCondition, parts}
+use Rattle.condition.specs.declared.Refusal.{Refusal}
+use Rattle.condition.specs.declared.Refusal.the-variants.{Length, Misspelled, PartCount}
+use Rattle.condition.specs.declared.Answer.{Answer}
+use Rattle.condition.specs.declared.Answer.the-variants as answer
+
+-- "6: longer than 1,024 bytes. 7: misspelled. 8: over 64 parts."
+abbrev pub most-bytes : ℕ
+most-bytes = 1024
+
+abbrev pub most-parts : ℕ
+most-parts = 64
+
+abbrev pub number : Refusal → ℕ
+number Length = 6
+number Misspelled = 7
+number PartCount = 8
+
+-- the text t is the spelling of the valid condition c
+pub record Spells (t : List ℕ) (c : Condition) : Type 0 where
+  pub spelling : t ≡ spellCondition c
+  pub valid : ValidCondition c
+
+-- the text gets this refusal: it applies, and none before it does
+abbrev pub Refused : List ℕ → Refusal → Type 0
+Refused t Length = most-bytes < length t
+Refused t Misspelled = (length t ≤ most-bytes) × ((c : Condition) → Spells t c → ⊥)
+Refused t PartCount = (length t ≤ most-bytes) × (c : Condition) × Spells t c × (most-parts < length (parts c))
+
+-- the text is taken as the condition c
+pub record Taken (t : List ℕ) (c : Condition) : Type 0 where
+  pub short : length t ≤ most-bytes
+  pub spells : Spells t c
+  pub few : length (parts c) ≤ most-parts
+
+-- operators as the code's numbers; 0 is an atom
+abbrev pub unaryCode : Unary → ℕ
+unaryCode negation = 1
+unaryCode (Unary.path E forward next) = 2
+unaryCode (Unary.path A forward next) = 3
+unaryCode (Unary.path E forward finally) = 4
+unaryCode (Unary.path A forward finally) = 5
+unaryCode (Unary.path E forward globally) = 6
+unaryCode (Unary.path A forward globally) = 7
+unaryCode (Unary.path E backward next) = 8
+unaryCode (Unary.path A backward next) = 9
+unaryCode (Unary.path E backward finally) = 10
+unaryCode (Unary.path A backward finally) = 11
+unaryCode (Unary.path E backward globally) = 12
+unaryCode (Unary.path A backward globally) = 13
+
+abbrev pub binaryCode : Binary → ℕ
+binaryCode conjunction = 14
+binaryCode disjunction = 15
+binaryCode (Binary.path E forward until) = 16
+binaryCode (Binary.path A forward until) = 17
+binaryCode (Binary.path E forward weak) = 18
+binaryCode (Binary.path A forward weak) = 19
+binaryCode (Binary.path E backward until) = 20
+binaryCode (Binary.path A backward until) = 21
+binaryCode (Binary.path E backward weak) = 22
+binaryCode (Binary.path A backward weak) = 23
+
+-- one part as a word: its operator's code, the number of its left operand's part, and the place of its text's first byte
+abbrev pub word : ℕ → ℕ → ℕ → ℕ
+word code left start = code + 256 * left + 65536 * 256 * start
+
+-- the words of a condition whose text begins at `at` and whose first part has the number n, in the order of its parts
+unfoldable pub words : Condition → ℕ → ℕ → List ℕ
+words (atom a) n at = word 0 0 at ∷ []
+words (unary o p) n at = words p n (at + length (prefix o)) ++ word (unaryCode o) 0 at ∷ []
+words (binary o p q) n at =
+    let k : ℕ = n + length (parts p) in
+    let first : ℕ = at + length (opening o) in
+    let second : ℕ = first + length (spellCondition p) + length (middle o) in
+    words p n first ++ (words q k second ++ word (binaryCode o) (k - 1) at ∷ [])
+
+-- the first m of the words ws are those of the condition c, from part 0 and byte 0 on
+pub record Held (c : Condition) (m : ℕ) (ws : List ℕ) : Type 0 where
+  pub counted : m ≡ length (parts c)
+  pub kept : take m ws ≡ words c 0 0
+  pub room : length ws ≡ most-parts
+
+-- each answer, and what it says of the text and of the words beside it
+abbrev pub ConditionRead : List ℕ → Answer → List ℕ → Type 0
+ConditionRead t (answer.Taken m) ws = (c : Condition) × Taken t c × Held c m ws
+ConditionRead t (answer.Refused r) ws = Refused t r

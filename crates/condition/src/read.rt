@@ -1,0 +1,414 @@
+// The readers of conditions: each takes what stands at a position of a text, and answers the position after it.
+ghost use mathlib.Core.List.{[], _∷_};
+ghost use mathlib.Core.Path.{_≡_};
+ghost use Prim.Native.Nat.{ℕ, _+_, _-_, _≤_, _<_};
+ghost use lib.ListN.{length, drop, set, getD};
+ghost use Rattle.ctl.specs.Paths.{Quant};
+ghost use Rattle.language.specs.Parsing.{parsedWord, parseWord};
+ghost use Rattle.condition.specs.Condition.{prefix, middle};
+ghost use Rattle.condition.specs.Reading.{most-bytes, most-parts, ConditionRead as WholeRead, word, unaryCode, binaryCode};
+ghost use Rattle.condition.specs.Parsing.{parsedAtom, parseEnded, parseConstant, parseNode, parseStmt, parseDef, parseUse, parseTrans, parseAtom, parsedOperator, coded, allOf, parseLetter, unaries, parsePrefix, binaries, opened, openingOf, closingOf, parseMiddle, parseLeaf, parseUnary, parsePair, parseBracketed, Tells, Reads, ReadsBy, Ready};
+use crate::Answer;
+use crate::Atom;
+use crate::MOST_BYTES;
+use crate::MOST_PARTS;
+use crate::Reading;
+use crate::Refusal;
+use language::read::ExpressionRead;
+use language::read::NumberRead;
+use language::read::StatementRead;
+use language::read::VariableRead;
+use language::read::WordRead;
+
+pub enum AtomRead {
+    Found(Atom, usize),
+    Misspelled,
+}
+
+// An operator's code, and the position after it.
+pub enum OperatorRead {
+    Found(u8, usize),
+    Misspelled,
+}
+
+// What opens a binary operator: `(`, `E[` or `A[`.
+pub enum Bracket {
+    Round,
+    Some,
+    All,
+}
+
+// The position after the condition, and the number of parts so far.
+pub enum ConditionRead {
+    Found(usize, usize),
+    Misspelled,
+}
+
+// The atom a, which the word w ends.
+fn ended(s: &[u8], at: usize, w: &[u8], a: Atom) -> AtomRead
+    ensures { λ r. ⌜ parsedAtom (now (s .entry)) r ≡ parseEnded (now (w .entry)) a (drop at (now (s .entry))) ⌝ }
+{
+    let WordRead::Found(k) = language::read::word(s, at, w) else {
+        return AtomRead::Misspelled;
+    };
+    AtomRead::Found(a, k)
+}
+
+// `true`, `false`, `entry`, `exit`.
+fn constant(s: &[u8], at: usize) -> AtomRead
+    ensures { λ r. ⌜ parsedAtom (now (s .entry)) r ≡ parseConstant (drop at (now (s .entry))) ⌝ }
+{
+    if let AtomRead::Found(a, k) = ended(s, at, b"true", Atom::True) {
+        return AtomRead::Found(a, k);
+    }
+    if let AtomRead::Found(a, k) = ended(s, at, b"false", Atom::False) {
+        return AtomRead::Found(a, k);
+    }
+    if let AtomRead::Found(a, k) = ended(s, at, b"entry", Atom::Entry) {
+        return AtomRead::Found(a, k);
+    }
+    ended(s, at, b"exit", Atom::Exit)
+}
+
+// `node(n)`.
+fn node(s: &[u8], at: usize) -> AtomRead
+    ensures { λ r. ⌜ parsedAtom (now (s .entry)) r ≡ parseNode (drop at (now (s .entry))) ⌝ }
+{
+    let WordRead::Found(k) = language::read::word(s, at, b"node(") else {
+        return AtomRead::Misspelled;
+    };
+    let NumberRead::Found(n, k1) = language::read::statement_number(s, k) else {
+        return AtomRead::Misspelled;
+    };
+    ended(s, k1, b")", Atom::Node(n))
+}
+
+// `stmt(I)`.
+fn stmt(s: &[u8], at: usize) -> AtomRead
+    ensures { λ r. ⌜ parsedAtom (now (s .entry)) r ≡ parseStmt (drop at (now (s .entry))) ⌝ }
+{
+    let WordRead::Found(k) = language::read::word(s, at, b"stmt(") else {
+        return AtomRead::Misspelled;
+    };
+    let StatementRead::Found(i, k1) = language::read::statement(s, k) else {
+        return AtomRead::Misspelled;
+    };
+    ended(s, k1, b")", Atom::Stmt(i))
+}
+
+// `def(X)`.
+fn def(s: &[u8], at: usize) -> AtomRead
+    ensures { λ r. ⌜ parsedAtom (now (s .entry)) r ≡ parseDef (drop at (now (s .entry))) ⌝ }
+{
+    let WordRead::Found(k) = language::read::word(s, at, b"def(") else {
+        return AtomRead::Misspelled;
+    };
+    let VariableRead::Found(x, k1) = language::read::variable(s, k) else {
+        return AtomRead::Misspelled;
+    };
+    ended(s, k1, b")", Atom::Def(x))
+}
+
+// `use(X)`.
+fn used(s: &[u8], at: usize) -> AtomRead
+    ensures { λ r. ⌜ parsedAtom (now (s .entry)) r ≡ parseUse (drop at (now (s .entry))) ⌝ }
+{
+    let WordRead::Found(k) = language::read::word(s, at, b"use(") else {
+        return AtomRead::Misspelled;
+    };
+    let VariableRead::Found(x, k1) = language::read::variable(s, k) else {
+        return AtomRead::Misspelled;
+    };
+    ended(s, k1, b")", Atom::Use(x))
+}
+
+// `trans(E)`.
+fn trans(s: &[u8], at: usize) -> AtomRead
+    ensures { λ r. ⌜ parsedAtom (now (s .entry)) r ≡ parseTrans (drop at (now (s .entry))) ⌝ }
+{
+    let WordRead::Found(k) = language::read::word(s, at, b"trans(") else {
+        return AtomRead::Misspelled;
+    };
+    let ExpressionRead::Found(e, k1) = language::read::expression(s, k) else {
+        return AtomRead::Misspelled;
+    };
+    ended(s, k1, b")", Atom::Trans(e))
+}
+
+pub fn atom(s: &[u8], at: usize) -> AtomRead
+    ensures { λ r. ⌜ parsedAtom (now (s .entry)) r ≡ parseAtom (drop at (now (s .entry))) ⌝ }
+{
+    if let AtomRead::Found(a, k) = constant(s, at) {
+        return AtomRead::Found(a, k);
+    }
+    if let AtomRead::Found(a, k) = node(s, at) {
+        return AtomRead::Found(a, k);
+    }
+    if let AtomRead::Found(a, k) = stmt(s, at) {
+        return AtomRead::Found(a, k);
+    }
+    if let AtomRead::Found(a, k) = def(s, at) {
+        return AtomRead::Found(a, k);
+    }
+    if let AtomRead::Found(a, k) = used(s, at) {
+        return AtomRead::Found(a, k);
+    }
+    trans(s, at)
+}
+
+// The operator's code, where a space ends it.
+fn spaced(s: &[u8], at: usize, code: u8) -> OperatorRead
+    ensures { λ r. ⌜ parsedOperator (now (s .entry)) r ≡ parseEnded (32 ∷ []) code (drop at (now (s .entry))) ⌝ }
+{
+    let WordRead::Found(k) = language::read::word(s, at, b" ") else {
+        return OperatorRead::Misspelled;
+    };
+    OperatorRead::Found(code, k)
+}
+
+// The letter of a unary path operator and its space; `all` is 0 after `E` and 1 after `A`.
+fn unary_letter(s: &[u8], at: usize, all: u8) -> OperatorRead
+    requires { ⌜ all ≤ 1 ⌝ }
+    ensures { λ r. ⌜ ((k : Quant) → all ≡ allOf k → parsedOperator (now (s .entry)) r ≡ coded unaryCode (parseLetter prefix (unaries k) (drop at (now (s .entry))))) ⌝ }
+{
+    if s.len() <= at {
+        return OperatorRead::Misspelled;
+    }
+    let c = s[at];
+    let k = at + 1;
+    match c {
+        b'X' => spaced(s, k, 2 + all),
+        b'F' => spaced(s, k, 4 + all),
+        b'G' => spaced(s, k, 6 + all),
+        b'Y' => spaced(s, k, 8 + all),
+        b'R' => spaced(s, k, 10 + all),
+        b'M' => spaced(s, k, 12 + all),
+        _ => OperatorRead::Misspelled,
+    }
+}
+
+// `!`, or one of `EX ` to `AM `.
+pub fn prefix(s: &[u8], at: usize) -> OperatorRead
+    ensures { λ r. ⌜ parsedOperator (now (s .entry)) r ≡ coded unaryCode (parsePrefix (drop at (now (s .entry)))) ⌝ }
+{
+    if s.len() <= at {
+        return OperatorRead::Misspelled;
+    }
+    let c = s[at];
+    let k = at + 1;
+    match c {
+        b'!' => OperatorRead::Found(1, k),
+        b'E' => unary_letter(s, k, 0),
+        b'A' => unary_letter(s, k, 1),
+        _ => OperatorRead::Misspelled,
+    }
+}
+
+// `&` or `|` and its space.
+fn connective(s: &[u8], at: usize) -> OperatorRead
+    ensures { λ r. ⌜ parsedOperator (now (s .entry)) r ≡ coded binaryCode (parseLetter middle (opened Bracket.Round) (drop at (now (s .entry)))) ⌝ }
+{
+    if s.len() <= at {
+        return OperatorRead::Misspelled;
+    }
+    let c = s[at];
+    let k = at + 1;
+    match c {
+        b'&' => spaced(s, k, 14),
+        b'|' => spaced(s, k, 15),
+        _ => OperatorRead::Misspelled,
+    }
+}
+
+// The letter of a binary path operator and its space; `all` is 0 after `E[` and 1 after `A[`.
+fn binary_letter(s: &[u8], at: usize, all: u8) -> OperatorRead
+    requires { ⌜ all ≤ 1 ⌝ }
+    ensures { λ r. ⌜ ((k : Quant) → all ≡ allOf k → parsedOperator (now (s .entry)) r ≡ coded binaryCode (parseLetter middle (binaries k) (drop at (now (s .entry))))) ⌝ }
+{
+    if s.len() <= at {
+        return OperatorRead::Misspelled;
+    }
+    let c = s[at];
+    let k = at + 1;
+    match c {
+        b'U' => spaced(s, k, 16 + all),
+        b'W' => spaced(s, k, 18 + all),
+        b'S' => spaced(s, k, 20 + all),
+        b'B' => spaced(s, k, 22 + all),
+        _ => OperatorRead::Misspelled,
+    }
+}
+
+// What stands between the two conditions of a binary operator, as ` & ` or ` U `.
+pub fn middle(s: &[u8], at: usize, bracket: Bracket) -> OperatorRead
+    ensures { λ r. ⌜ parsedOperator (now (s .entry)) r ≡ coded binaryCode (parseMiddle bracket (drop at (now (s .entry)))) ⌝ }
+{
+    let WordRead::Found(k) = language::read::word(s, at, b" ") else {
+        return OperatorRead::Misspelled;
+    };
+    match bracket {
+        Bracket::Round => connective(s, k),
+        Bracket::Some => binary_letter(s, k, 0),
+        Bracket::All => binary_letter(s, k, 1),
+    }
+}
+
+// What closes the bracket.
+fn closing(s: &[u8], at: usize, bracket: Bracket) -> WordRead
+    ensures { λ r. ⌜ parsedWord (now (s .entry)) r ≡ parseWord (closingOf bracket) (drop at (now (s .entry))) ⌝ }
+{
+    match bracket {
+        Bracket::Round => language::read::word(s, at, b")"),
+        Bracket::Some => language::read::word(s, at, b"]"),
+        Bracket::All => language::read::word(s, at, b"]"),
+    }
+}
+
+// One more part as a word, where there is room.
+fn push(out: &mut [u64], n: usize, code: u8, left: usize, start: usize)
+    requires { ⌜ (left ≤ most-bytes) × (start ≤ most-bytes) ⌝ }
+    ensures { λ _. ⌜ now (out .exit) ≡ set (now (out .entry)) n (word code left start) ⌝ }
+{
+    if n < out.len() {
+        out[n] = code as u64 + 256 * (left as u64) + 65536 * 256 * (start as u64);
+    }
+}
+
+// A condition that is an atom.
+fn leaf(s: &[u8], at: usize, out: &mut [u64], n: usize) -> ConditionRead
+    requires { ⌜ Ready (now s) at n ⌝ }
+    requires { ⌜ at < length (now s) ⌝ }
+    ensures { λ r. ⌜ Tells (parseLeaf (drop at (now (s .entry)))) (now (s .entry)) at (now (out .entry)) n (now (out .exit)) r ⌝ }
+{
+    let AtomRead::Found(_, k) = atom(s, at) else {
+        return ConditionRead::Misspelled;
+    };
+    push(out, n, 0, 0, at);
+    ConditionRead::Found(k, n + 1)
+}
+
+// The condition at the position; its parts are numbered from n.
+pub fn condition(s: &[u8], at: usize, out: &mut [u64], n: usize) -> ConditionRead
+    requires { ⌜ Ready (now s) at n ⌝ }
+    ensures { λ r. ⌜ Reads (now (s .entry)) at (now (out .entry)) n (now (out .exit)) r ⌝ }
+{
+    if s.len() <= at {
+        return ConditionRead::Misspelled;
+    }
+    let c = s[at];
+    match c {
+        b'!' => unary(s, at, out, n),
+        b'E' => bracketed(s, at, Bracket::Some, out, n),
+        b'A' => bracketed(s, at, Bracket::All, out, n),
+        b'(' => binary(s, at, out, n),
+        b'a'..=b'z' => leaf(s, at, out, n),
+        _ => ConditionRead::Misspelled,
+    }
+}
+
+// `!p`, and `EX p` to `AM p`.
+fn unary(s: &[u8], at: usize, out: &mut [u64], n: usize) -> ConditionRead
+    requires { ⌜ Ready (now s) at n ⌝ }
+    requires { ⌜ at < length (now s) ⌝ }
+    ensures { λ r. ⌜ ReadsBy (λ p. parseUnary p (drop at (now (s .entry)))) (now (s .entry)) at (now (out .entry)) n (now (out .exit)) r ⌝ }
+{
+    let OperatorRead::Found(code, k) = prefix(s, at) else {
+        return ConditionRead::Misspelled;
+    };
+    let ConditionRead::Found(next, m) = condition(s, k, out, n) else {
+        return ConditionRead::Misspelled;
+    };
+    push(out, m, code, 0, at);
+    ConditionRead::Found(next, m + 1)
+}
+
+// `(p & q)` and `(p | q)`.
+fn binary(s: &[u8], at: usize, out: &mut [u64], n: usize) -> ConditionRead
+    requires { ⌜ Ready (now s) at n ⌝ }
+    requires { ⌜ at < length (now s) ⌝ }
+    ensures { λ r. ⌜ ReadsBy (λ p. parsePair Bracket.Round p (drop (at + 1) (now (s .entry)))) (now (s .entry)) at (now (out .entry)) n (now (out .exit)) r ⌝ }
+{
+    pair(s, at, at + 1, Bracket::Round, out, n)
+}
+
+// `E[p U q]` and the like; without the `[` the letter begins a unary operator.
+fn bracketed(s: &[u8], at: usize, bracket: Bracket, out: &mut [u64], n: usize) -> ConditionRead
+    requires { ⌜ Ready (now s) at n ⌝ }
+    requires { ⌜ at < length (now s) ⌝ }
+    requires { ⌜ length (openingOf bracket) ≡ 2 ⌝ }
+    ensures { λ r. ⌜ ReadsBy (λ p. parseBracketed bracket p (getD (now (s .entry)) at 0) (drop (at + 1) (now (s .entry)))) (now (s .entry)) at (now (out .entry)) n (now (out .exit)) r ⌝ }
+{
+    let WordRead::Found(_) = language::read::word(s, at + 1, b"[") else {
+        return unary(s, at, out, n);
+    };
+    pair(s, at, at + 2, bracket, out, n)
+}
+
+// Two conditions with an operator between them, the first at `first`, and what closes the bracket.
+fn pair(
+    s: &[u8],
+    at: usize,
+    first: usize,
+    bracket: Bracket,
+    out: &mut [u64],
+    n: usize,
+) -> ConditionRead
+    requires { ⌜ Ready (now s) at n ⌝ }
+    requires { ⌜ at < length (now s) ⌝ }
+    requires { ⌜ first ≡ at + length (openingOf bracket) ⌝ }
+    ensures { λ r. ⌜ ReadsBy (λ p. parsePair bracket p (drop first (now (s .entry)))) (now (s .entry)) at (now (out .entry)) n (now (out .exit)) r ⌝ }
+{
+    let ConditionRead::Found(k, m) = condition(s, first, out, n) else {
+        return ConditionRead::Misspelled;
+    };
+    let OperatorRead::Found(code, second) = middle(s, k, bracket) else {
+        return ConditionRead::Misspelled;
+    };
+    let ConditionRead::Found(k1, m1) = condition(s, second, out, m) else {
+        return ConditionRead::Misspelled;
+    };
+    let WordRead::Found(next) = closing(s, k1, bracket) else {
+        return ConditionRead::Misspelled;
+    };
+    push(out, m1, code, m - 1, at);
+    ConditionRead::Found(next, m1 + 1)
+}
+
+// Words to be filled.
+fn blank() -> [u64; MOST_PARTS]
+    ensures { λ r. ⌜ length r ≡ most-parts ⌝ }
+{
+    [0; MOST_PARTS]
+}
+
+fn refused(r: Refusal, words: [u64; MOST_PARTS]) -> Reading
+    ensures { λ k. ⌜ k .answer ≡ Answer.Refused r ⌝ }
+{
+    Reading {
+        answer: Answer::Refused(r),
+        words: words,
+    }
+}
+
+// The whole text is read before its parts are counted.
+pub fn read(text: &[u8]) -> Reading
+    ensures { λ r. ⌜ WholeRead (now (text .entry)) (r .answer) (r .words) ⌝ }
+{
+    let mut words = blank();
+    if MOST_BYTES < text.len() {
+        return refused(Refusal::Length, words);
+    }
+    let ConditionRead::Found(next, parts) = condition(text, 0, &mut words, 0) else {
+        return refused(Refusal::Misspelled, words);
+    };
+    if next < text.len() {
+        return refused(Refusal::Misspelled, words);
+    }
+    if MOST_PARTS < parts {
+        return refused(Refusal::PartCount, words);
+    }
+    Reading {
+        answer: Answer::Taken(parts as u32),
+        words: words,
+    }
+}

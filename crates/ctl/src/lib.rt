@@ -1,0 +1,1 @@
+// Path operators on a finite graph: definitions in specs/, theorems in proofs/, no code.

@@ -1,0 +1,5 @@
+pub mod Some
+pub mod Successors
+pub mod Edges
+pub mod Model
+pub mod Graphs

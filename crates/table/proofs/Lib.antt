@@ -1,0 +1,7 @@
+pub mod Rules
+pub mod Rows
+pub mod Splice
+pub mod Lent
+pub mod Operands
+pub mod Parts
+pub mod Tables

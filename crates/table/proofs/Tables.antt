@@ -1,0 +1,81 @@
+-- The table, part after part. Assumes nothing.
+use mathlib.Core.Path.{_≡_, refl, sym, ap, _∙_, subst}
+use mathlib.Core.List.{List}
+use Prim.Native.Nat.{ℕ, _+_, _-_, _*_, _/_, _%_, _≤_, _<_}
+use native.Mathlib.Omega.{arith}
+use borrow.Author.Count.{below-more}
+use lib.ListN.{length, getD, take, drop}
+use lib.Seq.{ext-getD, getD-take, getD-drop}
+use Rattle.language.specs.declared.Statement.{Statement}
+use Rattle.bits.specs.Row.{member}
+use Rattle.labelling.specs.Labels.{Labelled}
+use Rattle.condition.specs.Condition.{Condition, atom, unary, binary, parts}
+use Rattle.condition.specs.Reading.{most-parts}
+use Rattle.condition.specs.Truth.{Sat}
+use Rattle.flow.specs.FlowOf.{FlowOf}
+use Rattle.flow.specs.declared.Flow.{Flow}
+use Rattle.condition.proofs.Words.{operatorCode, Describes, Operands, held-describes}
+use Rattle.table.specs.Table.{part-words, row, partAt, Kept, Written}
+use Rattle.table.specs.Fill.{Tells, RowsRight, PartReady, HeldOf, SomeHeld, TableOf}
+use Rattle.table.proofs.Lent.{row-length}
+
+-- what the reader's words tell
+pub word-tells : {t : List ℕ} {c : Condition} {m : ℕ} {ws : List ℕ} → HeldOf t c m ws → (k : ℕ) → k < m → Tells t c k (getD ws k 0) (partAt c k)
+word-tells {t = t} {c = c} {m = m} {ws = ws} h k l = let d = held-describes t c m ws (h .taken) (h .held) k l in go (partAt c k) (d .code) (d .operands)
+  where
+    go : (q : Condition) → getD ws k 0 % 256 ≡ operatorCode q → Operands t (parts c) 0 k (getD ws k 0) q → Tells t c k (getD ws k 0) q
+    go (atom a) e o = (e, o .0, o .1)
+    go (unary u p) e o = (e, o .later, o .operand)
+    go (binary b p q) e o =
+        let n : getD ws k 0 / 256 % 65536 ≡ o .left = o .named ∙ omega arith in
+        (e, rw n (o .earlier), rw n (o .first), o .second)
+
+-- a row before the words that were written is kept
+module _ (old new : List ℕ) (k : ℕ) (kept : Kept old new (part-words * k) part-words) (fits : part-words * k + part-words ≤ length old) where
+  row-kept : (j : ℕ) → j < k → row new j ≡ row old j
+  row-kept j h =
+      let s = kept .same in
+      let a : length (row new j) ≡ part-words = row-length new j (omega arith) in
+      let b : length (row old j) ≡ part-words = row-length old j (omega arith) in
+      ext-getD 0 (row new j) (row old j) (a ∙ sym b)
+      (λ i l. getD-take part-words (drop (part-words * j) new) i 0 (omega arith) ∙ getD-drop (part-words * j) new i 0
+      ∙ kept .before (part-words * j + i) (omega arith)
+      ∙ sym (getD-take part-words (drop (part-words * j) old) i 0 (omega arith) ∙ getD-drop (part-words * j) old i 0))
+
+  pub rows-more : (P : List Statement) (c : Condition) → RowsRight P c old k → Labelled (length P) (member (row new k)) (Sat P (partAt c k)) → RowsRight P c new (k + 1)
+  rows-more P c r l =
+      below-more (λ j. Labelled (length P) (member (row new j)) (Sat P (partAt c j))) k
+      (λ j h. subst (λ (w : List ℕ). Labelled (length P) (member w) (Sat P (partAt c j))) (sym (row-kept j h)) (r j h)) l
+
+-- the parts before k are filled, and the words from there on are kept
+pub record SoFar (P : List Statement) (t : List ℕ) (m : ℕ) (ws old table : List ℕ) (k : ℕ) : Type 0 where
+  pub within : k ≤ m
+  pub room : part-words * m ≤ length old
+  pub same : length table ≡ length old
+  pub rows : (c : Condition) → HeldOf t c m ws → RowsRight P c table k
+  pub past : (j : ℕ) → part-words * k ≤ j → getD table j 0 ≡ getD old j 0
+
+module _ {P : List Statement} {t : List ℕ} {m : ℕ} {ws old table : List ℕ} {k : ℕ} (i : SoFar P t m ws old table k) (l : k < m) where
+  pub part-ready : (f : Flow) → FlowOf P f → length P ≤ part-words * 64 → (c : Condition) → HeldOf t c m ws → PartReady P f t c (getD ws k 0) table k
+  part-ready f x few c h = record { flows = x; few = few; room = omega arith; tells = word-tells h k l; rows = i .rows c h }
+
+  pub so-far-more : (some : SomeHeld t m ws) (new : List ℕ) → ((c : Condition) → HeldOf t c m ws → Written table new k (length P) (Sat P (partAt c k))) → SoFar P t m ws old new (k + 1)
+  so-far-more some new w =
+      let kept = w (some .c) (some .held) .kept in
+      record {
+        within = omega arith;
+        room = i .room;
+        same = kept .same ∙ i .same;
+        rows = λ c h. rows-more table new k (w c h .kept) (omega arith) P c (i .rows c h) (w c h .labelled);
+        past = λ j b. kept .past j (omega arith) ∙ i .past j (omega arith);
+      }
+
+pub filled : {P : List Statement} {t : List ℕ} {m : ℕ} {ws old table : List ℕ} {k : ℕ} → SoFar P t m ws old table k → m ≤ k → (c : Condition) → HeldOf t c m ws → TableOf P c old table
+filled i l c h =
+    let n = h .held .counted in
+    let b = i .within in
+    record { same = i .same; rows = λ j d. i .rows c h j (omega arith); past = λ j d. i .past j (omega arith) }
+
+-- there are at most as many parts as words
+pub parts-held : {t : List ℕ} {m : ℕ} {ws : List ℕ} → SomeHeld t m ws → m ≤ most-parts
+parts-held h = let a = h .held .held .counted in let b = h .held .taken .few in omega arith

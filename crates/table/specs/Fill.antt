@@ -1,0 +1,64 @@
+-- How the table is filled, part after part: what the contracts of the functions within say. No sentence of document 01 stands here.
+use mathlib.Core.Path.{_≡_}
+use mathlib.Core.List.{List}
+use mathlib.Core.Bool.{Bool, true, false}
+use Prim.Native.Nat.{ℕ, _+_, _-_, _*_, _/_, _%_, _≤_, _<_}
+use lib.Dec.{ltb}
+use lib.ListN.{length, getD, drop}
+use Rattle.language.specs.declared.Statement.{Statement}
+use Rattle.language.specs.Parsing.{found}
+use Rattle.bits.specs.Row.{member}
+use Rattle.labelling.specs.Labels.{Labelled}
+use Rattle.flow.specs.FlowOf.{FlowOf}
+use Rattle.flow.specs.declared.Flow.{Flow}
+use Rattle.condition.specs.Condition.{Condition, atom, unary, binary, parts}
+use Rattle.condition.specs.Reading.{unaryCode, binaryCode, Taken, Held}
+use Rattle.condition.specs.Parsing.{parseAtom}
+use Rattle.condition.specs.Truth.{Sat}
+use Rattle.table.specs.Table.{part-words, row, partAt}
+
+abbrev pub pick : Bool → ℕ → ℕ → ℕ
+pick true a b = a
+pick false a b = b
+
+-- the left operand's part, by the word w of part k: of a unary operator it is the part before
+abbrev pub leftOf : ℕ → ℕ → ℕ
+leftOf w k = pick (ltb (w % 256) 14) (k - 1) (w / 256 % 65536)
+
+-- what the word w tells of part k of the condition c with the text t
+abbrev pub Tells : List ℕ → Condition → ℕ → ℕ → Condition → Type 0
+Tells t c k w (atom a) = (w % 256 ≡ 0) × (rest : List ℕ) × (parseAtom (drop (w / 16777216) t) ≡ found a rest)
+Tells t c k w (unary o p) = (w % 256 ≡ unaryCode o) × (0 < k) × (partAt c (k - 1) ≡ p)
+Tells t c k w (binary o p q) = (w % 256 ≡ binaryCode o) × (w / 256 % 65536 < k) × (partAt c (w / 256 % 65536) ≡ p) × (partAt c (k - 1) ≡ q)
+
+-- the rows of the parts before k are right
+abbrev pub RowsRight : List Statement → Condition → List ℕ → ℕ → Type 0
+RowsRight P c table k = (j : ℕ) → j < k → Labelled (length P) (member (row table j)) (Sat P (partAt c j))
+
+-- part k can be filled
+pub record PartReady (P : List Statement) (f : Flow) (t : List ℕ) (c : Condition) (w : ℕ) (table : List ℕ) (k : ℕ) : Type 0 where
+  pub flows : FlowOf P f
+  pub few : length P ≤ part-words * 64
+  pub room : part-words * k + part-words ≤ length table
+  pub tells : Tells t c k w (partAt c k)
+  pub rows : RowsRight P c table k
+
+-- the same of some condition
+pub record SomeReady (P : List Statement) (f : Flow) (t : List ℕ) (w : ℕ) (table : List ℕ) (k : ℕ) : Type 0 where
+  pub c : Condition
+  pub ready : PartReady P f t c w table k
+
+-- the text is taken as the condition c, and the first m of the words are those of its parts
+pub record HeldOf (t : List ℕ) (c : Condition) (m : ℕ) (ws : List ℕ) : Type 0 where
+  pub taken : Taken t c
+  pub held : Held c m ws
+
+pub record SomeHeld (t : List ℕ) (m : ℕ) (ws : List ℕ) : Type 0 where
+  pub c : Condition
+  pub held : HeldOf t c m ws
+
+-- the table now holds the rows of all parts of c, and all words beyond them are kept
+pub record TableOf (P : List Statement) (c : Condition) (old new : List ℕ) : Type 0 where
+  pub same : length new ≡ length old
+  pub rows : RowsRight P c new (length (parts c))
+  pub past : (m : ℕ) → part-words * length (parts c) ≤ m → getD new m 0 ≡ getD old m 0

@@ -1,0 +1,231 @@
+// Tables: the places at which each part of a condition is true.
+ghost use mathlib.Core.Path.{_≡_};
+ghost use mathlib.Core.Bool.{false};
+ghost use mathlib.Core.List.{List};
+ghost use Prim.Native.Nat.{ℕ, _+_, _-_, _*_, _≤_, _<_};
+ghost use lib.ListN.{length, drop};
+ghost use Rattle.language.specs.Parsing.{found};
+ghost use Rattle.condition.specs.Parsing.{parseAtom};
+ghost use Rattle.condition.specs.declared.Atom.{Atom as AtomOf};
+ghost use Rattle.table.specs.Table.{part-words, row, Written, partAt};
+ghost use Rattle.table.specs.Fill.{leftOf, PartReady, SomeReady, HeldOf, SomeHeld, TableOf};
+ghost use Rattle.program.specs.Program.{WellFormed};
+ghost use Rattle.condition.specs.Condition.{Condition};
+ghost use Rattle.bits.specs.Row.{member};
+ghost use Rattle.ctl.specs.Paths.{So};
+ghost use Rattle.labelling.specs.Labels.{Labelled, Rows};
+ghost use Rattle.program.specs.Reading.{statements, Held};
+ghost use Rattle.condition.specs.Truth.{Holds, Sat};
+ghost use Rattle.table.specs.Rules.{Operation, codeOf, ruleOf, SatRule, flowSteps, BothWays};
+use condition::Atom;
+use condition::MOST_PARTS;
+use condition::read::AtomRead;
+use flow::Flow;
+use labelling::Operator;
+use program::Program;
+
+// The words of a part: one bit for each statement.
+pub const WORDS: usize = 4;
+
+// How the row of an operator comes from the rows of its operands. A path operator: what is said of a path, of all paths, backward.
+pub enum Rule {
+    Negation,
+    Conjunction,
+    Disjunction,
+    Path(Operator, bool, bool),
+    Nothing,
+}
+
+// The rule of an operator's code.
+fn rule_of(code: u64) -> Rule
+    ensures { λ r. ⌜ ((x : Operation) → codeOf x ≡ code → r ≡ ruleOf x) ⌝ }
+{
+    match code {
+        1 => Rule::Negation,
+        2 => Rule::Path(Operator::Next, false, false),
+        3 => Rule::Path(Operator::Next, true, false),
+        4 => Rule::Path(Operator::Finally, false, false),
+        5 => Rule::Path(Operator::Finally, true, false),
+        6 => Rule::Path(Operator::Globally, false, false),
+        7 => Rule::Path(Operator::Globally, true, false),
+        8 => Rule::Path(Operator::Next, false, true),
+        9 => Rule::Path(Operator::Next, true, true),
+        10 => Rule::Path(Operator::Finally, false, true),
+        11 => Rule::Path(Operator::Finally, true, true),
+        12 => Rule::Path(Operator::Globally, false, true),
+        13 => Rule::Path(Operator::Globally, true, true),
+        14 => Rule::Conjunction,
+        15 => Rule::Disjunction,
+        16 => Rule::Path(Operator::Until, false, false),
+        17 => Rule::Path(Operator::Until, true, false),
+        18 => Rule::Path(Operator::Weak, false, false),
+        19 => Rule::Path(Operator::Weak, true, false),
+        20 => Rule::Path(Operator::Until, false, true),
+        21 => Rule::Path(Operator::Until, true, true),
+        22 => Rule::Path(Operator::Weak, false, true),
+        23 => Rule::Path(Operator::Weak, true, true),
+        _ => Rule::Nothing,
+    }
+}
+
+// The row of a path operator, on the steps of its direction.
+fn path_row(
+    op: Operator,
+    all: bool,
+    back: bool,
+    n: usize,
+    flow: Flow,
+    p: &[u64],
+    q: &[u64],
+    out: &mut [u64],
+)
+    requires { ⌜ BothWays n flow ⌝ }
+    requires { ⌜ Rows n (now p) (now q) (now out) ⌝ }
+    ensures { λ _. ⌜ Labelled n (member (now (out .exit))) (SatRule (flowSteps n flow) (Rule.Path op all back) (So (member (now (p .entry)))) (So (member (now (q .entry))))) ⌝ }
+{
+    let forward = flow.forward;
+    let backward = flow.backward;
+    if back {
+        labelling::label(op, all, n, backward, forward, p, q, out);
+    } else {
+        labelling::label(op, all, n, forward, backward, p, q, out);
+    }
+}
+
+// Room for a row.
+fn blank() -> [u64; WORDS]
+    ensures { λ r. ⌜ length r ≡ 4 ⌝ }
+{
+    [0; WORDS]
+}
+
+// The row of the operator that the rule is of, from the rows of its operands.
+fn operator_row(rule: Rule, n: usize, flow: Flow, p: &[u64], q: &[u64], out: &mut [u64])
+    requires { ⌜ BothWays n flow ⌝ }
+    requires { ⌜ Rows n (now p) (now q) (now out) × (length (now out) ≡ 4) ⌝ }
+    requires { ⌜ ((s : ℕ) → n ≤ s → member (now p) s ≡ false) × ((s : ℕ) → n ≤ s → member (now q) s ≡ false) ⌝ }
+    ensures { λ _. ⌜ Labelled n (member (now (out .exit))) (SatRule (flowSteps n flow) rule (So (member (now (p .entry)))) (So (member (now (q .entry))))) ⌝ }
+{
+    match rule {
+        Rule::Negation => {
+            let mut places = blank();
+            bits::below(n, &mut places);
+            bits::difference(&places, p, out);
+        }
+        Rule::Conjunction => bits::intersection(p, q, out),
+        Rule::Disjunction => bits::union(p, q, out),
+        Rule::Path(op, all, back) => path_row(op, all, back, n, flow, p, q, out),
+        Rule::Nothing => bits::clear(out),
+    }
+}
+
+// The row of an atom.
+fn atom_row(a: Atom, p: Program, out: &mut [u64])
+    requires { ⌜ Held p ⌝ }
+    requires { ⌜ p .count ≤ length (now out) * 64 ⌝ }
+    ensures { λ _. ⌜ Labelled (p .count) (member (now (out .exit))) (Holds (statements p) a) ⌝ }
+{
+    bits::clear(out);
+    let n = p.count;
+    let mut s: usize = 0;
+    while s < n {
+        let e = p.entries[s];
+        let i = e.statement;
+        if atoms::holds(a, n, i, s) {
+            bits::insert(out, s);
+            s += 1;
+        } else {
+            s += 1;
+        }
+    }
+}
+
+// The words of part k.
+fn row_of(table: &[u64], k: usize) -> [u64; WORDS]
+    requires { ⌜ part-words * k + part-words ≤ length (now table) ⌝ }
+    ensures { λ r. ⌜ r ≡ row (now (table .entry)) k ⌝ }
+{
+    let at = WORDS * k;
+    let mut words = blank();
+    let mut i: usize = 0;
+    while i < WORDS {
+        words[i] = table[at + i];
+        i += 1;
+    }
+    words
+}
+
+// Part k becomes the row of an operator, from those of its left operand's part and of the part before it.
+fn fill_operator(code: u64, left: usize, n: usize, flow: Flow, table: &mut [u64], k: usize)
+    requires { ⌜ BothWays n flow × (n ≤ part-words * 64) ⌝ }
+    requires { ⌜ (left < k) × (part-words * k + part-words ≤ length (now table)) ⌝ }
+    requires { ⌜ ((s : ℕ) → n ≤ s → member (row (now table) left) s ≡ false) × ((s : ℕ) → n ≤ s → member (row (now table) (k - 1)) s ≡ false) ⌝ }
+    ensures { λ _. ⌜ ((x : Operation) → codeOf x ≡ code → Written (now (table .entry)) (now (table .exit)) k n (SatRule (flowSteps n flow) (ruleOf x) (So (member (row (now (table .entry)) left))) (So (member (row (now (table .entry)) (k - 1)))))) ⌝ }
+{
+    let p = row_of(&*table, left);
+    let q = row_of(&*table, k - 1);
+    let rule = rule_of(code);
+    let at = WORDS * k;
+    let end = at + WORDS;
+    operator_row(rule, n, flow, &p, &q, &mut table[at..end]);
+}
+
+// Part k becomes the row of the atom whose text begins at `start`.
+fn fill_atom(text: &[u8], start: usize, p: Program, table: &mut [u64], k: usize)
+    requires { ⌜ Held p × (p .count ≤ part-words * 64) ⌝ }
+    requires { ⌜ part-words * k + part-words ≤ length (now table) ⌝ }
+    ensures { λ _. ⌜ ((a : AtomOf) (rest : List ℕ) → parseAtom (drop start (now (text .entry))) ≡ found a rest → Written (now (table .entry)) (now (table .exit)) k (p .count) (Holds (statements p) a)) ⌝ }
+{
+    let AtomRead::Found(a, _) = condition::read::atom(text, start) else {
+        return;
+    };
+    let at = WORDS * k;
+    let end = at + WORDS;
+    atom_row(a, p, &mut table[at..end]);
+}
+
+// The part of the left operand of part k's operator; of a unary operator it is the part before.
+fn left_of(w: u64, k: usize) -> usize
+    requires { ⌜ 0 < k ⌝ }
+    ensures { λ r. ⌜ r ≡ leftOf w k ⌝ }
+{
+    if w % 256 < 14 {
+        k - 1
+    } else {
+        (w / 256 % 65536) as usize
+    }
+}
+
+// Part k becomes its row: w is its word.
+fn fill_part(text: &[u8], w: u64, p: Program, flow: Flow, table: &mut [u64], k: usize)
+    requires { ⌜ Held p ⌝ }
+    requires { ⌜ SomeReady (statements p) flow (now text) w (now table) k ⌝ }
+    ensures { λ _. ⌜ ((c : Condition) → PartReady (statements p) flow (now (text .entry)) c w (now (table .entry)) k → Written (now (table .entry)) (now (table .exit)) k (length (statements p)) (Sat (statements p) (partAt c k))) ⌝ }
+{
+    let code = w % 256;
+    if code == 0 {
+        let start = (w / 16777216) as usize;
+        fill_atom(text, start, p, table, k);
+    } else {
+        let left = left_of(w, k);
+        let n = p.count;
+        fill_operator(code, left, n, flow, table, k);
+    }
+}
+
+// Fills the table with the row of each part of the condition whose text and words these are.
+pub fn fill(text: &[u8], words: [u64; MOST_PARTS], parts: usize, p: Program, table: &mut [u64])
+    requires { ⌜ Held p ⌝ }
+    requires { ⌜ WellFormed (statements p) ⌝ }
+    requires { ⌜ SomeHeld (now text) parts words ⌝ }
+    requires { ⌜ part-words * parts ≤ length (now table) ⌝ }
+    ensures { λ _. ⌜ ((c : Condition) → HeldOf (now (text .entry)) c parts words → TableOf (statements p) c (now (table .entry)) (now (table .exit))) ⌝ }
+{
+    let flow = flow::of(p);
+    let mut k: usize = 0;
+    while k < parts {
+        let w = words[k];
+        fill_part(text, w, p, flow, table, k);
+        k += 1;
+    }
+}
