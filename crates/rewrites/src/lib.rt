@@ -1,6 +1,7 @@
 // The calls that a host program makes. Every call takes any bytes, and has no `requires`.
 ghost use mathlib.Core.Path.{_≡_};
 ghost use Rattle.rewrites.specs.Run.{RunAnswers};
+ghost use Rattle.rewrites.specs.Tabulate.{TabulateAnswers};
 use machine::VALUES;
 
 pub mod exports;
@@ -57,5 +58,46 @@ pub fn run(program: &[u8], values: [u32; VALUES], input: u32, budget: u32) -> Ra
             answer: RunAnswer::Spent(statement),
             values: left,
         },
+    }
+}
+
+// The table of a condition's parts has this many words.
+pub const TABLE_WORDS: usize = 256;
+// The refusal of a smaller buffer.
+pub const ROOM_NUMBER: u8 = 1;
+
+// Refused: document 01's number. Filled: the parts, how many statements satisfy the whole condition, and the first of them or 0.
+pub enum TabulateAnswer {
+    Refused(u8),
+    Filled(u32, u32, u32),
+}
+
+// Fills the table with the statements at which each part of the condition is true.
+pub fn tabulate(program: &[u8], condition: &[u8], table: &mut [u64]) -> TabulateAnswer
+    ensures { λ r. ⌜ TabulateAnswers (now (program .entry)) (now (condition .entry)) (now (table .entry)) (now (table .exit)) r ⌝ }
+{
+    if table.len() < TABLE_WORDS {
+        return TabulateAnswer::Refused(ROOM_NUMBER);
+    }
+    let reading = program::read(program);
+    let answer = reading.answer;
+    if let program::Answer::Refused(refusal) = answer {
+        return TabulateAnswer::Refused(program::number_of(refusal));
+    }
+    let p = reading.program;
+    let conditions = condition::read::read(condition);
+    let told = conditions.answer;
+    match told {
+        condition::Answer::Refused(refusal) => {
+            TabulateAnswer::Refused(condition::number_of(refusal))
+        }
+        condition::Answer::Taken(parts) => {
+            let words = conditions.words;
+            let count = parts as usize;
+            table::fill(condition, words, count, p, table);
+            let last = count - 1;
+            let summary = table::summary_of(&*table, last);
+            TabulateAnswer::Filled(parts, summary.satisfied, summary.first)
+        }
     }
 }

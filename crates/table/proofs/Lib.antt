@@ -5,3 +5,4 @@ pub mod Lent
 pub mod Operands
 pub mod Parts
 pub mod Tables
+pub mod Summaries

@@ -1,3 +1,4 @@
 pub mod Rules
 pub mod Table
 pub mod Fill
+pub mod Summary

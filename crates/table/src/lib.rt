@@ -8,6 +8,7 @@ ghost use Rattle.language.specs.Parsing.{found};
 ghost use Rattle.condition.specs.Parsing.{parseAtom};
 ghost use Rattle.condition.specs.declared.Atom.{Atom as AtomOf};
 ghost use Rattle.table.specs.Table.{part-words, row, Written, partAt};
+ghost use Rattle.table.specs.Summary.{Counts};
 ghost use Rattle.table.specs.Fill.{leftOf, PartReady, SomeReady, HeldOf, SomeHeld, TableOf};
 ghost use Rattle.program.specs.Program.{WellFormed};
 ghost use Rattle.condition.specs.Condition.{Condition};
@@ -227,5 +228,31 @@ pub fn fill(text: &[u8], words: [u64; MOST_PARTS], parts: usize, p: Program, tab
         let w = words[k];
         fill_part(text, w, p, flow, table, k);
         k += 1;
+    }
+}
+
+// How many places are in a row, and the number of the first, or 0.
+pub struct Summary {
+    pub satisfied: u32,
+    pub first: u32,
+}
+
+pub fn summary_of(table: &[u64], k: usize) -> Summary
+    requires { ⌜ part-words * k + part-words ≤ length (now table) ⌝ }
+    ensures { λ r. ⌜ Counts (member (row (now (table .entry)) k)) (part-words * 64) (r .satisfied) (r .first) ⌝ }
+{
+    let words = row_of(table, k);
+    let satisfied = bits::count(&words);
+    let place = bits::first(&words);
+    if place < WORDS * 64 {
+        Summary {
+            satisfied: satisfied,
+            first: (place + 1) as u32,
+        }
+    } else {
+        Summary {
+            satisfied: satisfied,
+            first: 0,
+        }
     }
 }

@@ -248,7 +248,13 @@ pub +binary+bracketed+condition+pair+unary-spec : {M : Type 1} → statement M
     let i = rw (k .1) at (c .before .before .before .before .before .before .before .before .before .before .before .before .before .before .before .before .before .before .before .before .before .condition .ensures) in
     let q = c .before .before .before .before .before .before .before .before .before .before .before .before .before .before .before .before .before .before .before .before .before .condition .last .1 .1 .0 in
     let w = laws.bounds s (a .first) (a .out .now) (a .n) q (k .0 .0) (k .0 .1 .0) i in
-    omega (arith, w .more))
+    let x = c .before .before .before .before .before .before .before .before .before .before .before .before .before .code .given in
+    let e = sym (c .before .before .before .before .before .before .before .before .before .before .before .before .before .before .before .middle .ensures) ∙ ap (parsedOperator s) (x .1) in
+    let l = c .before .before .before .before .before .before .k1 .given in
+    let j = rw (l .1) at (c .before .before .before .before .before .before .before .before .before .before .condition2 .ensures) in
+    let q₁ = c .before .before .before .before .before .before .before .before .before .before .condition2 .last .1 .1 .0 in
+    let v = laws.bounds s (x .0 .1 .0) q (k .0 .1 .0) q₁ (l .0 .0) (l .0 .1 .0) j in
+    omega (arith, w .more, v .more))
     (λ c κs. let a = c .before .before .before .before .before .before .before .before .before .before .before .before .before .before .before .before .before .before .before .before .before .before .before .before .before .args in
     let s = a .s .now in
     let g = laws.first-beyond s (a .at) (a .first) (a .bracket) (a .out .now) (a .n) (c .before .before .before .before .before .before .before .before .before .before .before .before .before .before .before .before .before .before .before .before .before .before .before .before .before .pre .1 .1 .1) in
@@ -256,7 +262,14 @@ pub +binary+bracketed+condition+pair+unary-spec : {M : Type 1} → statement M
     let i = rw (k .1) at (c .before .before .before .before .before .before .before .before .before .before .before .before .before .before .before .before .before .before .before .before .before .condition .ensures) in
     let q = c .before .before .before .before .before .before .before .before .before .before .before .before .before .before .before .before .before .before .before .before .before .condition .last .1 .1 .0 in
     let w = laws.bounds s (a .first) (a .out .now) (a .n) q (k .0 .0) (k .0 .1 .0) i in
-    let p = c .before .before .before .before .before .before .before .before .before .before .before .before .before .before .before .before .before .before .before .before .before .before .before .before .before .pre .1 in (omega (arith, w .within, p .0 .few, p .0 .short), omega (arith, p .1 .0, p .0 .short)))
+    let x = c .before .before .before .before .before .before .before .before .before .before .before .before .before .code .given in
+    let e = sym (c .before .before .before .before .before .before .before .before .before .before .before .before .before .before .before .middle .ensures) ∙ ap (parsedOperator s) (x .1) in
+    let d = laws.middle-beyond s (a .at) (a .first) (a .bracket) (a .out .now) (a .n) (c .before .before .before .before .before .before .before .before .before .before .before .before .before .before .before .before .before .before .before .before .before .before .before .before .before .pre .1 .1 .1) (k .0 .0) (k .0 .1 .0) q i (x .0 .0) (x .0 .1 .0) e in
+    let l = c .before .before .before .before .before .before .k1 .given in
+    let j = rw (l .1) at (c .before .before .before .before .before .before .before .before .before .before .condition2 .ensures) in
+    let q₁ = c .before .before .before .before .before .before .before .before .before .before .condition2 .last .1 .1 .0 in
+    let v = laws.bounds s (x .0 .1 .0) q (k .0 .1 .0) q₁ (l .0 .0) (l .0 .1 .0) j in
+    let p = c .before .before .before .before .before .before .before .before .before .before .before .before .before .before .before .before .before .before .before .before .before .before .before .before .before .pre .1 in (omega (arith, w .behind, w .within, v .within, p .0 .few, p .0 .short), omega (arith, p .1 .0, p .0 .short)))
     (λ c. let a = c .before .before .before .before .before .before .before .before .before .before .before .before .before .before .before .before .before .before .before .before .before .before .before .before .before .before .before .before .args in
     let s = a .s .now in
     let g = laws.first-beyond s (a .at) (a .first) (a .bracket) (a .out .now) (a .n) (c .before .before .before .before .before .before .before .before .before .before .before .before .before .before .before .before .before .before .before .before .before .before .before .before .before .before .before .before .pre .1 .1 .1) in
