@@ -12,49 +12,52 @@ use Rattle.condition.specs.declared.Answer.the-variants as answer
 use Rattle.condition.specs.declared.read.ConditionRead.the-variants as read
 use Rattle.condition.specs.Condition.{Condition, spellCondition, parts}
 use Rattle.condition.specs.Reading.{most-bytes, most-parts, Spells, Refused, Taken, words, Held, ConditionRead}
-use Rattle.condition.specs.Parsing.{parseCondition, Stored, Reads}
+use Rattle.condition.specs.Parsing.{parseCondition, Reads, TellsWhole}
 use Rattle.condition.proofs.Spelling.{condition-sound, whole-complete, condition-unique}
 use Rattle.condition.proofs.Readers.{tells-found, tells-not, words-length}
 
 module _ (t o q : List ℕ) where
   -- nothing was found
-  pub whole-not : Reads t 0 o 0 q read.Misspelled → (c : Condition) → Spells t c → ⊥
+  pub whole-not : Reads t 0 o 0 q read.Misspelled → TellsWhole t o q read.Misspelled
   whole-not i c s =
       let z : _≡_ {A = ℕ} 0 1 = cc (tells-not (parseCondition (length t) t) t 0 o 0 q (i (length t) (omega arith)), whole-complete t c s) in
       omega arith
 
   module _ (k m : ℕ) (i : Reads t 0 o 0 q (read.Found k m)) where
     -- a condition was found, and more follows
-    pub whole-more : k < length t → (c : Condition) → Spells t c → ⊥
+    pub whole-more : k < length t → TellsWhole t o q read.Misspelled
     whole-more h c s =
         tells-found (parseCondition (length t) t) t 0 o 0 q k m (i (length t) (omega arith)) λ d e _.
         let w : drop k t ≡ [] = cc (whole-complete t c s) in
         let x : length t - k ≡ 0 = sym (length-drop k t) ∙ ap length w in
         omega arith
 
-    module _ (h : length t ≤ k) where
-      whole-found : {C : Type 0} → ((c : Condition) → Spells t c → Stored c 0 o 0 q m → C) → C
-      whole-found g =
-          tells-found (parseCondition (length t) t) t 0 o 0 q k m (i (length t) (omega arith)) λ c e s.
-          let j = condition-sound (length t) t c (drop k t) e in
-          g c (record { spelling = j .0 ∙ rw (drop-of-length-le t h) (append-nil (spellCondition c)); valid = j .1 }) s
+    pub whole-found : length t ≤ k → TellsWhole t o q (read.Found k m)
+    whole-found h =
+        tells-found (parseCondition (length t) t) t 0 o 0 q k m (i (length t) (omega arith)) λ c e s.
+        let j = condition-sound (length t) t c (drop k t) e in
+        (c, record { spelling = j .0 ∙ rw (drop-of-length-le t h) (append-nil (spellCondition c)); valid = j .1 }, s)
 
-      pub whole-many : length t ≤ most-bytes → most-parts < m → Refused t PartCount
-      whole-many b f = whole-found λ c s d. let n = d .counted in (b, c, s, omega arith)
+  pub none-refused : TellsWhole t o q read.Misspelled → length t ≤ most-bytes → Refused t Misspelled
+  none-refused w b = (b, w)
 
-      pub whole-taken : length t ≤ most-bytes → m ≤ most-parts → length o ≡ most-parts → ConditionRead t (answer.Taken m) q
-      whole-taken b f r =
-          whole-found λ c s d.
-          let n = d .counted in
-          let l = words-length c 0 0 in (
-            c,
-            record { short = b; spells = s; few = omega arith },
-            record {
-              counted = omega arith;
-              kept = rw (d .text, sets-eq (words c 0 0) o 0 (omega arith)) (take-at (words c 0 0) (drop (0 + length (words c 0 0)) o) m (omega arith));
-              room = ap length (d .text) ∙ length-sets o 0 (words c 0 0) ∙ r;
-            },
-          )
+  module _ (k m : ℕ) (w : TellsWhole t o q (read.Found k m)) (b : length t ≤ most-bytes) where
+    pub many-refused : most-parts < m → Refused t PartCount
+    many-refused f = let n = w .2 .counted in (b, w .0, w .1, omega arith)
+
+    pub few-taken : m ≤ most-parts → length o ≡ most-parts → ConditionRead t (answer.Taken m) q
+    few-taken f r =
+        let c = w .0 in
+        let n = w .2 .counted in
+        let l = words-length c 0 0 in (
+          c,
+          record { short = b; spells = w .1; few = omega arith },
+          record {
+            counted = omega arith;
+            kept = rw (w .2 .text, sets-eq (words c 0 0) o 0 (omega arith)) (take-at (words c 0 0) (drop (0 + length (words c 0 0)) o) m (omega arith));
+            room = ap length (w .2 .text) ∙ length-sets o 0 (words c 0 0) ∙ r;
+          },
+        )
 
 -- the text of a condition that is to be taken is read, and gives it back
 pub read-back : (t : List ℕ) (c : Condition) → Taken t c → (a : Answer) (ws : List ℕ) → ConditionRead t a ws → (a ≡ answer.Taken (length (parts c))) × Held c (length (parts c)) ws

@@ -11,7 +11,7 @@ use Rattle.language.specs.Parsing.{Parsed, found, misspelled, after, afterOr, w
 use Rattle.ctl.specs.Paths.{Quant, E, A}
 use Rattle.flow.specs.Flow.{forward, backward}
 use Rattle.condition.specs.Condition.{next, finally, globally, until, weak, Unary, negation, Binary, conjunction, disjunction, Condition, atom, unary, binary, prefix, middle, parts, true-word, false-word, entry-word, exit-word, node-word, stmt-word, def-word, use-word, trans-word}
-use Rattle.condition.specs.Reading.{most-bytes, words}
+use Rattle.condition.specs.Reading.{most-bytes, Spells, words}
 use Rattle.condition.specs.declared.Atom.{Atom}
 use Rattle.condition.specs.declared.Atom.the-variants.{True, False, Entry, Exit, Node, Stmt, Def, Use, Trans}
 use Rattle.condition.specs.declared.read.AtomRead.{AtomRead}
@@ -174,6 +174,11 @@ Reads s at o n q r = (f : ℕ) → length s - at ≤ f → Tells (parseCondition
 
 abbrev pub ReadsBy : ((List ℕ → Parsed Condition) → Parsed Condition) → List ℕ → ℕ → List ℕ → ℕ → List ℕ → ConditionRead → Type 0
 ReadsBy p s at o n q r = (f : ℕ) → length s - at ≤ f + 1 → Tells (p (parseCondition f)) s at o n q r
+
+-- the answer says which condition the whole text t spells
+abbrev pub TellsWhole : List ℕ → List ℕ → List ℕ → ConditionRead → Type 0
+TellsWhole t o q (Found k m) = (c : Condition) × Spells t c × Stored c 0 o 0 q m
+TellsWhole t o q Misspelled = (c : Condition) → Spells t c → ⊥
 
 -- what the readers ask: a short text, and no more parts than bytes so far
 pub record Ready (s : List ℕ) (at n : ℕ) : Type 0 where

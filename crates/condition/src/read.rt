@@ -7,7 +7,7 @@ ghost use Rattle.ctl.specs.Paths.{Quant};
 ghost use Rattle.language.specs.Parsing.{parsedWord, parseWord};
 ghost use Rattle.condition.specs.Condition.{prefix, middle};
 ghost use Rattle.condition.specs.Reading.{most-bytes, most-parts, ConditionRead as WholeRead, word, unaryCode, binaryCode};
-ghost use Rattle.condition.specs.Parsing.{parsedAtom, parseEnded, parseConstant, parseNode, parseStmt, parseDef, parseUse, parseTrans, parseAtom, parsedOperator, coded, allOf, parseLetter, unaries, parsePrefix, binaries, opened, openingOf, closingOf, parseMiddle, parseLeaf, parseUnary, parsePair, parseBracketed, Tells, Reads, ReadsBy, Ready};
+ghost use Rattle.condition.specs.Parsing.{parsedAtom, parseEnded, parseConstant, parseNode, parseStmt, parseDef, parseUse, parseTrans, parseAtom, parsedOperator, coded, allOf, parseLetter, unaries, parsePrefix, binaries, opened, openingOf, closingOf, parseMiddle, parseLeaf, parseUnary, parsePair, parseBracketed, Tells, Reads, ReadsBy, TellsWhole, Ready};
 use crate::Answer;
 use crate::Atom;
 use crate::MOST_BYTES;
@@ -390,6 +390,20 @@ fn refused(r: Refusal, words: [u64; MOST_PARTS]) -> Reading
     }
 }
 
+// The condition that the whole text spells.
+fn whole(text: &[u8], out: &mut [u64]) -> ConditionRead
+    requires { ⌜ length (now text) ≤ most-bytes ⌝ }
+    ensures { λ r. ⌜ TellsWhole (now (text .entry)) (now (out .entry)) (now (out .exit)) r ⌝ }
+{
+    let ConditionRead::Found(next, parts) = condition(text, 0, out, 0) else {
+        return ConditionRead::Misspelled;
+    };
+    if next < text.len() {
+        return ConditionRead::Misspelled;
+    }
+    ConditionRead::Found(next, parts)
+}
+
 // The whole text is read before its parts are counted.
 pub fn read(text: &[u8]) -> Reading
     ensures { λ r. ⌜ WholeRead (now (text .entry)) (r .answer) (r .words) ⌝ }
@@ -398,12 +412,9 @@ pub fn read(text: &[u8]) -> Reading
     if MOST_BYTES < text.len() {
         return refused(Refusal::Length, words);
     }
-    let ConditionRead::Found(next, parts) = condition(text, 0, &mut words, 0) else {
+    let ConditionRead::Found(_, parts) = whole(text, &mut words) else {
         return refused(Refusal::Misspelled, words);
     };
-    if next < text.len() {
-        return refused(Refusal::Misspelled, words);
-    }
     if MOST_PARTS < parts {
         return refused(Refusal::PartCount, words);
     }

@@ -1,3 +1,5 @@
+-- `condition`, `unary`, `binary`, `bracketed` and `pair` meet their contracts: at each return the readers that were called say what the list
+-- parser finds. The measure is the length of the unread text. Assumes nothing.
 use mathlib.Core.Path.{_≡_, refl, ap, sym, _∙_}
 use mathlib.Core.List.{[], _∷_}
 use native.Mathlib.Omega.{arith}

@@ -1,3 +1,4 @@
+-- `atom` meets its contract: the readers that were tried before found nothing. Assumes nothing.
 use Rattle.condition.specs.Parsing.{parsedAtom, parseAtom}
 use mathlib.Core.Path.{sym, ap, _∙_}
 use borrow.Author.Needs.{needs}

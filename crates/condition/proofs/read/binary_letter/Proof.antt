@@ -1,3 +1,4 @@
+-- `binary_letter` meets its contract: each letter has its operator's code, and no other byte is one. Assumes nothing.
 use Rattle.condition.proofs.Operators.{binary-ended}
 use Rattle.condition.specs.Parsing.{parseLetter, byLetter}
 use Rattle.condition.specs.Condition.{until, weak}

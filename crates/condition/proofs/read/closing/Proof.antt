@@ -1,3 +1,4 @@
+-- `closing` meets its contract, by cases on the bracket. Assumes nothing.
 use borrow.Author.Needs.{needs}
 use Rattle.condition.proofs.read.closing.Statement.{statement}
 use Rattle.condition.proofs.read.closing.Tie as tie

@@ -1,3 +1,4 @@
+-- `connective` meets its contract: `&` and `|` have their codes, and no other byte is one. Assumes nothing.
 use Rattle.condition.proofs.Operators.{coded-ended}
 use Rattle.condition.specs.Parsing.{parseLetter, byLetter}
 use Rattle.condition.specs.Reading.{binaryCode}

@@ -1,3 +1,4 @@
+-- `constant` meets its contract: the words that were tried before don't stand there. Assumes nothing.
 use Rattle.condition.specs.Parsing.{parsedAtom, parseConstant}
 use mathlib.Core.Path.{sym, ap, _∙_}
 use borrow.Author.Needs.{needs}

@@ -1,3 +1,4 @@
+-- `leaf` meets its contract: an atom's part is one word. Assumes nothing.
 use Rattle.condition.proofs.Readers.{leaf-found, leaf-not}
 use Rattle.condition.specs.Parsing.{parsedAtom}
 use mathlib.Core.Path.{sym, ap, _∙_}

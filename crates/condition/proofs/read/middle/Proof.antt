@@ -1,3 +1,4 @@
+-- `middle` meets its contract: after a space, the bracket picks the letters. Assumes nothing.
 use Rattle.condition.specs.Parsing.{parseMiddle}
 use Rattle.language.specs.Parsing.{parsedWord}
 use Rattle.ctl.specs.Paths.{E, A}

@@ -1,3 +1,4 @@
+-- `prefix` meets its contract: the first byte is `!` or picks the quantifier. Assumes nothing.
 use Rattle.condition.specs.Parsing.{parsePrefix}
 use Rattle.ctl.specs.Paths.{E, A}
 use borrow.Author.Tests.{ne-eqb}

@@ -1,3 +1,4 @@
+-- `push` meets its contract: a place beyond the room is kept. Assumes nothing.
 use lib.Seq.{set-out}
 use mathlib.Core.Path.{sym}
 use borrow.Author.Needs.{needs}

@@ -1,3 +1,4 @@
+-- `trans` meets its contract: at each return the readers that were called say what the list parser finds. Assumes nothing.
 use Rattle.condition.specs.Parsing.{parseTrans}
 use Rattle.language.specs.Parsing.{parsedWord, parsedExpression}
 use mathlib.Core.Path.{sym, ap, _∙_}

@@ -1,3 +1,4 @@
+-- `unary_letter` meets its contract: each letter has its operator's code, and no other byte is one. Assumes nothing.
 use Rattle.condition.proofs.Operators.{unary-ended}
 use Rattle.condition.specs.Parsing.{parseLetter, byLetter}
 use Rattle.condition.specs.Condition.{next, finally, globally}
