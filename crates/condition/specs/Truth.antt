@@ -35,13 +35,17 @@ Defines (Assign y e) x = x ≡ y
 Defines (Branch y n m) x = ⊥
 Defines Skip x = ⊥
 
--- "`use(X)` (X in the right side, tested by `if`, or written)"
+-- the variables that a statement's text shows as used: "in the right side, tested by `if`, or written"
+abbrev pub Shows : Statement → ℕ → Type 0
+Shows (Read y) x = ⊥
+Shows (Write y) x = x ≡ y
+Shows (Assign y e) x = In x e
+Shows (Branch y n m) x = x ≡ y
+Shows Skip x = ⊥
+
+-- "`use(X)`"
 abbrev pub Uses : Statement → ℕ → Type 0
-Uses (Read y) x = ⊥
-Uses (Write y) x = x ≡ y
-Uses (Assign y e) x = In x e
-Uses (Branch y n m) x = x ≡ y
-Uses Skip x = ⊥
+Uses i x = Shows i x
 
 -- "`entry` (statement 1), `exit` (statement N), `node(n)`, `stmt(I)` (the statement is I) .., `trans(E)` (no variable of E is defined
 -- here)": at place s of N, where the statement i stands

@@ -1,0 +1,48 @@
+-- Two runs side by side: document 01, "What a contract says here".
+use mathlib.Core.Path.{_≡_}
+use mathlib.Core.Logic.{_⊎_}
+use mathlib.Core.List.{List}
+use Prim.Native.Nat.{ℕ, _<_}
+use lib.IntN.{ℤ}
+use lib.ListN.{length, getD}
+use Rattle.language.specs.declared.Statement.{Statement}
+use Rattle.program.specs.Program.{at}
+use Rattle.machine.specs.Machine.{State, before, ended}
+use Rattle.machine.specs.declared.Answer.{Answer}
+use Rattle.machine.specs.declared.Answer.the-variants.{Ended, Spent}
+use Rattle.condition.specs.Truth.{Sat}
+use Rattle.marks.specs.Marks.{ValidMark}
+use Rattle.marks.specs.declared.Mark.{Mark}
+use Rattle.rewriting.specs.Rewriting.{Fits, live, published, makes}
+
+-- the statement at place s becomes i: it is kept, or a mark is made that fits it and whose condition is true there
+abbrev pub Change : List Statement → ℕ → Statement → Type 0
+Change P s i =
+    (i ≡ at P s) ⊎ ((m : Mark) × ValidMark m × Fits m (at P s) × Sat P (published m) s × (i ≡ makes m (at P s)))
+
+-- Q is P with some changes
+pub record Changed (P Q : List Statement) : Type 0 where
+  pub same : length Q ≡ length P
+  pub changes : (s : ℕ) → s < length P → Change P s (at Q s)
+
+-- every variable that P may still use before defining it holds the same value in both
+abbrev pub Agree : List Statement → ℕ → List ℕ → List ℕ → Type 0
+Agree P s vs ws = (x : ℕ) → Sat P (live x) s → getD vs x 0 ≡ getD ws x 0
+
+-- both runs stand before the same statement, and R is true there; or both have ended with the same value
+abbrev pub Side : (ℕ → List ℕ → List ℕ → Type 0) → State → State → Type 0
+Side R (before s vs) (before t ws) = (s ≡ t) × R s vs ws
+Side R (before s vs) (ended w) = ⊥
+Side R (ended v) (before t ws) = ⊥
+Side R (ended v) (ended w) = v ≡ w
+
+-- "After k steps .. a run either stands before one statement or has ended with its value": both alike
+abbrev pub Together : State → State → Type 0
+Together a b = Side (λ s vs ws. Unit) a b
+
+-- "the two runs answer the same value and the same steps, or 'spent' at the same statement; the 32 values told with 'spent' may differ"
+abbrev pub Alike : Answer → Answer → Type 0
+Alike (Ended v k) (Ended w l) = (v ≡ w) × (k ≡ l)
+Alike (Ended v k) (Spent n) = ⊥
+Alike (Spent n) (Ended w l) = ⊥
+Alike (Spent n) (Spent m) = n ≡ m

@@ -1,0 +1,51 @@
+-- Marks and how a list of them is spelled: document 01, "Marks".
+use mathlib.Core.Path.{_≡_}
+use mathlib.Core.List.{List, [], _∷_, _++_}
+use Prim.Native.Nat.{ℕ}
+use Rattle.language.specs.Spelling.{spellStatementNumber, ValidStatementNumber, spellVariable, ValidVariable, spellOperand, ValidOperand, spellExpression, ValidExpression}
+use Rattle.marks.specs.declared.Mark.{Mark}
+use Rattle.marks.specs.declared.Mark.the-variants.{Rm, Rpl}
+
+-- `: mark(`, `rm, `, `rpl, ` and `, ` as bytes
+abbrev pub mark-word : List ℕ
+mark-word = 58 ∷ 32 ∷ 109 ∷ 97 ∷ 114 ∷ 107 ∷ 40 ∷ []
+
+abbrev pub rm-word : List ℕ
+rm-word = 114 ∷ 109 ∷ 44 ∷ 32 ∷ []
+
+abbrev pub rpl-word : List ℕ
+rpl-word = 114 ∷ 112 ∷ 108 ∷ 44 ∷ 32 ∷ []
+
+abbrev pub comma-word : List ℕ
+comma-word = 44 ∷ 32 ∷ []
+
+-- "`n: mark(rm, X, E)` or `n: mark(rpl, X, A)`": a mark's line without its byte 10
+unfoldable pub spellMark : Mark → List ℕ
+spellMark (Rm n x e) =
+    spellStatementNumber n ++ (mark-word ++ (rm-word ++ (spellVariable x ++ (comma-word ++ (spellExpression e ++ 41 ∷ [])))))
+spellMark (Rpl n x a) =
+    spellStatementNumber n ++ (mark-word ++ (rpl-word ++ (spellVariable x ++ (comma-word ++ (spellOperand a ++ 41 ∷ [])))))
+
+-- what it names lies in its range
+abbrev pub ValidMark : Mark → Type 0
+ValidMark (Rm n x e) = ValidStatementNumber n × ValidVariable x × ValidExpression e
+ValidMark (Rpl n x a) = ValidStatementNumber n × ValidVariable x × ValidOperand a
+
+-- "lines, each ended by byte 10"
+unfoldable pub text : List Mark → List ℕ
+text [] = []
+text (m ∷ ms) = spellMark m ++ 10 ∷ text ms
+
+abbrev pub AllValid : List Mark → Type 0
+AllValid [] = Unit
+AllValid (m ∷ ms) = ValidMark m × AllValid ms
+
+-- the text t is the lines of the valid marks ms
+pub record Spells (t : List ℕ) (ms : List Mark) : Type 0 where
+  pub lines : t ≡ text ms
+  pub valid : AllValid ms
+
+-- the number of the statement that a mark names
+abbrev pub names : Mark → ℕ
+names (Rm n x e) = n
+names (Rpl n x a) = n

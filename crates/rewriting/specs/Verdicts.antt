@@ -1,0 +1,74 @@
+-- The verdict of each mark of a list, and the program with the accepted marks made: document 01, "Marks" and "Numbers for a refused
+-- call or mark".
+use mathlib.Core.Path.{_≡_}
+use mathlib.Core.Logic.{_⊎_}
+use mathlib.Core.List.{List, [], _∷_}
+use Prim.Native.Nat.{ℕ, _-_, _≤_, _<_}
+use lib.Dec.{eqb}
+use lib.ListN.{length, getD, take}
+use Rattle.language.specs.declared.Operand.the-variants.{Constant}
+use Rattle.language.specs.declared.Expression.the-variants.{Single}
+use Rattle.language.specs.declared.Statement.{Statement}
+use Rattle.program.specs.Program.{at}
+use Rattle.bits.specs.Row.{countBelow}
+use Rattle.condition.specs.Truth.{Sat}
+use Rattle.marks.specs.Marks.{names}
+use Rattle.marks.specs.declared.Mark.{Mark}
+use Rattle.marks.specs.declared.Mark.the-variants.{Rm}
+use Rattle.rewriting.specs.Rewriting.{Fits, published, makes}
+use Rattle.rewriting.specs.declared.Verdict.{Verdict}
+use Rattle.rewriting.specs.declared.Verdict.the-variants.{Accepted, Missing, Repeated, Unfit, Unmet}
+
+-- "(verdict byte; 0 is accepted): 11: n is 0 or above N. 12: an earlier line names n, accepted or not. 13: the mark doesn't fit. 14: its
+-- condition is false at n."
+abbrev pub number : Verdict → ℕ
+number Accepted = 0
+number Missing = 11
+number Repeated = 12
+number Unfit = 13
+number Unmet = 14
+
+-- statement n is one of N
+abbrev pub Inside : ℕ → ℕ → Type 0
+Inside N n = (1 ≤ n) × (n ≤ N)
+
+-- one of the marks names n
+abbrev pub Named : List Mark → ℕ → Type 0
+Named [] n = ⊥
+Named (m ∷ ms) n = (names m ≡ n) ⊎ Named ms n
+
+-- the place of the statement that a mark names
+abbrev pub place : Mark → ℕ
+place m = names m - 1
+
+-- the mark m, standing after the earlier ones, gets this verdict on P: it applies, and none before it does
+abbrev pub Judged : List Statement → List Mark → Mark → Verdict → Type 0
+Judged P earlier m Missing = Inside (length P) (names m) → ⊥
+Judged P earlier m Repeated = Inside (length P) (names m) × Named earlier (names m)
+Judged P earlier m Unfit = Inside (length P) (names m) × (Named earlier (names m) → ⊥) × (Fits m (at P (place m)) → ⊥)
+Judged P earlier m Unmet =
+    Inside (length P) (names m) × (Named earlier (names m) → ⊥) × Fits m (at P (place m)) × (Sat P (published m) (place m) → ⊥)
+Judged P earlier m Accepted =
+    Inside (length P) (names m) × (Named earlier (names m) → ⊥) × Fits m (at P (place m)) × Sat P (published m) (place m)
+
+-- the mark of line j, counted from 0
+abbrev pub markAt : List Mark → ℕ → Mark
+markAt ms j = getD ms j (Rm 0 0 (Single (Constant 0)))
+
+-- "Each is judged on the given program, line j's verdict filling byte j, counted from 0."
+abbrev pub Verdicts : List Statement → List Mark → List ℕ → Type 0
+Verdicts P ms vs = (j : ℕ) → j < length ms → (v : Verdict) × Judged P (take j ms) (markAt ms j) v × (getD vs j 0 ≡ number v)
+
+-- "A mark is accepted where its verdict byte is 0"
+abbrev pub Accepts : List Mark → List ℕ → ℕ → Type 0
+Accepts ms vs j = (j < length ms) × (getD vs j 0 ≡ 0)
+
+-- "the number .. of accepted marks"
+abbrev pub acceptedCount : List Mark → List ℕ → ℕ
+acceptedCount ms vs = countBelow (λ j. eqb (getD vs j 0) 0) (length ms)
+
+-- "Accepted marks are all made together, refused ones aren't. The result has the same line count."
+pub record Rewritten (P : List Statement) (ms : List Mark) (vs : List ℕ) (Q : List Statement) : Type 0 where
+  pub same : length Q ≡ length P
+  pub made : (j : ℕ) → Accepts ms vs j → at Q (place (markAt ms j)) ≡ makes (markAt ms j) (at P (place (markAt ms j)))
+  pub kept : (s : ℕ) → s < length P → ((j : ℕ) → Accepts ms vs j → place (markAt ms j) ≡ s → ⊥) → at Q s ≡ at P s
