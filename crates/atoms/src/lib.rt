@@ -2,7 +2,7 @@
 ghost use mathlib.Core.Path.{_≡_};
 ghost use Prim.Native.Nat.{ℕ, _<_};
 ghost use Rattle.program.specs.Reading.{Decides};
-ghost use Rattle.condition.specs.Truth.{InOperand, In, Defines, Uses, HoldsAt};
+ghost use Rattle.condition.specs.Truth.{InOperand, In, Defines, Shows, Uses, HoldsAt};
 ghost use Rattle.atoms.specs.Codes.{operandCode, operatorCode, assignCode, statementCode};
 use condition::Atom;
 use language::Expression;
@@ -147,8 +147,9 @@ pub fn defines(s: Statement, x: u8) -> bool
     }
 }
 
-pub fn uses(s: Statement, x: u8) -> bool
-    ensures { λ r. ⌜ Decides r (Uses s x) ⌝ }
+// Whether the text of the statement shows the variable as used.
+pub fn shows(s: Statement, x: u8) -> bool
+    ensures { λ r. ⌜ Decides r (Shows s x) ⌝ }
 {
     match s {
         Statement::Read(_) => false,
@@ -157,6 +158,13 @@ pub fn uses(s: Statement, x: u8) -> bool
         Statement::Branch(y, _, _) => x == y,
         Statement::Skip => false,
     }
+}
+
+// Whether the statement uses the variable.
+pub fn uses(s: Statement, x: u8) -> bool
+    ensures { λ r. ⌜ Decides r (Uses s x) ⌝ }
+{
+    shows(s, x)
 }
 
 // Whether the statement defines no variable of the expression.

@@ -1,5 +1,13 @@
 // What a mark asks of the statement that it names, and what it makes of it.
+ghost use mathlib.Core.Path.{_≡_};
+ghost use Rattle.program.specs.Reading.{Decides};
+ghost use Rattle.marks.specs.Marks.{names};
+ghost use Rattle.rewriting.specs.Rewriting.{IsVariable, Takes, Fits, replaceOperand, replaceIn, replaceVariable, replace as replaceStatement, makes as madeOf};
 ghost use Rattle.rewriting.specs.Verdicts.{number};
+use language::Expression;
+use language::Operand;
+use language::Statement;
+use marks::Mark;
 
 // What a mark gets: accepted; no such statement; an earlier line names it; the mark doesn't fit; its condition is false.
 pub enum Verdict {
@@ -8,4 +16,128 @@ pub enum Verdict {
     Repeated,
     Unfit,
     Unmet,
+}
+
+// The number of a verdict in document 01.
+pub fn number_of(v: Verdict) -> u8
+    ensures { λ k. ⌜ k ≡ number v ⌝ }
+{
+    match v {
+        Verdict::Accepted => 0,
+        Verdict::Missing => 11,
+        Verdict::Repeated => 12,
+        Verdict::Unfit => 13,
+        Verdict::Unmet => 14,
+    }
+}
+
+// The number of the statement that the mark names.
+pub fn statement_of(m: Mark) -> u32
+    ensures { λ n. ⌜ n ≡ names m ⌝ }
+{
+    match m {
+        Mark::Rm(n, _, _) => n,
+        Mark::Rpl(n, _, _) => n,
+    }
+}
+
+fn is_variable(a: Operand) -> bool
+    ensures { λ r. ⌜ Decides r (IsVariable a) ⌝ }
+{
+    match a {
+        Operand::Variable(_) => true,
+        Operand::Constant(_) => false,
+    }
+}
+
+// Whether the operand can stand for a variable that the statement uses.
+fn takes(i: Statement, a: Operand) -> bool
+    ensures { λ r. ⌜ Decides r (Takes i a) ⌝ }
+{
+    match i {
+        Statement::Read(_) => true,
+        Statement::Write(_) => is_variable(a),
+        Statement::Assign(_, _) => true,
+        Statement::Branch(_, _, _) => is_variable(a),
+        Statement::Skip => true,
+    }
+}
+
+// Whether the mark fits the statement.
+pub fn fits(m: Mark, i: Statement) -> bool
+    ensures { λ r. ⌜ Decides r (Fits m i) ⌝ }
+{
+    match m {
+        Mark::Rm(_, x, e) => atoms::same_statement(i, Statement::Assign(x, e)),
+        Mark::Rpl(_, x, a) => {
+            if !atoms::shows(i, x) {
+                return false;
+            }
+            takes(i, a)
+        }
+    }
+}
+
+// In each: the operand a for every use of the variable x.
+fn replace_operand(x: u8, a: Operand, b: Operand) -> Operand
+    ensures { λ r. ⌜ r ≡ replaceOperand x a b ⌝ }
+{
+    match b {
+        Operand::Variable(y) => {
+            if x == y {
+                return a;
+            }
+            Operand::Variable(y)
+        }
+        Operand::Constant(n) => Operand::Constant(n),
+    }
+}
+
+fn replace_in(x: u8, a: Operand, e: Expression) -> Expression
+    ensures { λ r. ⌜ r ≡ replaceIn x a e ⌝ }
+{
+    match e {
+        Expression::Single(b) => Expression::Single(replace_operand(x, a, b)),
+        Expression::Binary(b, o, c) => {
+            let left = replace_operand(x, a, b);
+            let right = replace_operand(x, a, c);
+            Expression::Binary(left, o, right)
+        }
+    }
+}
+
+fn replace_variable(x: u8, a: Operand, y: u8) -> u8
+    ensures { λ r. ⌜ r ≡ replaceVariable x a y ⌝ }
+{
+    match a {
+        Operand::Variable(z) => {
+            if x == y {
+                return z;
+            }
+            y
+        }
+        Operand::Constant(_) => y,
+    }
+}
+
+fn replace(x: u8, a: Operand, i: Statement) -> Statement
+    ensures { λ r. ⌜ r ≡ replaceStatement x a i ⌝ }
+{
+    match i {
+        Statement::Read(y) => Statement::Read(y),
+        Statement::Write(y) => Statement::Write(replace_variable(x, a, y)),
+        Statement::Assign(y, e) => Statement::Assign(y, replace_in(x, a, e)),
+        Statement::Branch(y, n, m) => Statement::Branch(replace_variable(x, a, y), n, m),
+        Statement::Skip => Statement::Skip,
+    }
+}
+
+// What the mark makes of the statement.
+pub fn makes(m: Mark, i: Statement) -> Statement
+    ensures { λ r. ⌜ r ≡ madeOf m i ⌝ }
+{
+    match m {
+        Mark::Rm(_, _, _) => Statement::Skip,
+        Mark::Rpl(_, x, a) => replace(x, a, i),
+    }
 }

@@ -1,7 +1,7 @@
 use borrow.Author.Needs.{needs}
 use Rattle.program.proofs.Decides.{decides-eqb}
-use Rattle.atoms.proofs.uses.Statement.{statement}
-use Rattle.atoms.proofs.uses.Tie as tie
+use Rattle.atoms.proofs.shows.Statement.{statement}
+use Rattle.atoms.proofs.shows.Tie as tie
 
 returns : tie.Need-returns
 returns c = rw (c .enum-told .given .1) (λ h. h)
@@ -18,8 +18,8 @@ returns-4 c = rw (c .before .s3 .given .1) (decides-eqb (c .before .before .befo
 returns-5 : tie.Need-returns-5
 returns-5 c = rw (c .enum-told2 .given .1) (λ h. h)
 
-pub uses-spec : {M : Type 1} → statement M
-uses-spec =
+pub shows-spec : {M : Type 1} → statement M
+shows-spec =
     tie.close
     (tie.spec
     (λ c. search needs)

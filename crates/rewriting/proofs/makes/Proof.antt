@@ -1,0 +1,9 @@
+use borrow.Author.Needs.{needs}
+use Rattle.rewriting.proofs.makes.Statement.{statement}
+use Rattle.rewriting.proofs.makes.Tie as tie
+
+returns-2 : tie.Need-returns-2
+returns-2 c = rw (c .before .before .m .given .1, c .replace .ensures)
+
+pub makes-spec : {M : Type 1} → statement M
+makes-spec = tie.close (tie.spec (λ c. search needs) (λ c. search needs) (λ c κs. search needs) (λ c. search needs) returns-2)
