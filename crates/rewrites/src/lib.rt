@@ -94,7 +94,8 @@ pub fn tabulate(program: &[u8], condition: &[u8], table: &mut [u64]) -> Tabulate
         condition::Answer::Taken(parts) => {
             let words = conditions.words;
             let count = parts as usize;
-            table::fill(condition, words, count, p, table);
+            let flow = flow::of(p);
+            table::fill(condition, words, count, p, flow, table);
             let last = count - 1;
             let summary = table::summary_of(&*table, last);
             TabulateAnswer::Filled(parts, summary.satisfied, summary.first)

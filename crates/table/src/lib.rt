@@ -10,7 +10,8 @@ ghost use Rattle.condition.specs.declared.Atom.{Atom as AtomOf};
 ghost use Rattle.table.specs.Table.{part-words, row, Written, partAt};
 ghost use Rattle.table.specs.Summary.{Counts};
 ghost use Rattle.table.specs.Fill.{leftOf, PartReady, SomeReady, HeldOf, SomeHeld, TableOf};
-ghost use Rattle.program.specs.Program.{WellFormed};
+ghost use Rattle.program.specs.Program.{most};
+ghost use Rattle.flow.specs.FlowOf.{FlowOf};
 ghost use Rattle.condition.specs.Condition.{Condition};
 ghost use Rattle.bits.specs.Row.{member};
 ghost use Rattle.ctl.specs.Paths.{So};
@@ -142,7 +143,7 @@ fn atom_row(a: Atom, p: Program, out: &mut [u64])
 }
 
 // The words of part k.
-fn row_of(table: &[u64], k: usize) -> [u64; WORDS]
+pub fn row_of(table: &[u64], k: usize) -> [u64; WORDS]
     requires { ⌜ part-words * k + part-words ≤ length (now table) ⌝ }
     ensures { λ r. ⌜ r ≡ row (now (table .entry)) k ⌝ }
 {
@@ -215,14 +216,20 @@ fn fill_part(text: &[u8], w: u64, p: Program, flow: Flow, table: &mut [u64], k: 
 }
 
 // Fills the table with the row of each part of the condition whose text and words these are.
-pub fn fill(text: &[u8], words: [u64; MOST_PARTS], parts: usize, p: Program, table: &mut [u64])
-    requires { ⌜ Held p ⌝ }
-    requires { ⌜ WellFormed (statements p) ⌝ }
+pub fn fill(
+    text: &[u8],
+    words: [u64; MOST_PARTS],
+    parts: usize,
+    p: Program,
+    flow: Flow,
+    table: &mut [u64],
+)
+    requires { ⌜ Held p × (length (statements p) ≤ most) ⌝ }
+    requires { ⌜ FlowOf (statements p) flow ⌝ }
     requires { ⌜ SomeHeld (now text) parts words ⌝ }
     requires { ⌜ part-words * parts ≤ length (now table) ⌝ }
     ensures { λ _. ⌜ ((c : Condition) → HeldOf (now (text .entry)) c parts words → TableOf (statements p) c (now (table .entry)) (now (table .exit))) ⌝ }
 {
-    let flow = flow::of(p);
     let mut k: usize = 0;
     while k < parts {
         let w = words[k];

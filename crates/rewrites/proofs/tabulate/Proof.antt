@@ -26,19 +26,22 @@ program-taken c = rw (c .enum-told .given .1) at (c .before .before .read .ensur
 condition-held : (c : tie.After-told2) → SomeHeld (c .before .before .before .before .before .before .before .before .before .before .before .args .condition .now) (c .told2 .given .0 .0) (c .before .before .read2 .result .words)
 condition-held c = let h = rw (c .told2 .given .1) at (c .before .before .read2 .ensures) in record { c = h .0; held = record { taken = h .1; held = h .2 } }
 
+of-requires : tie.Need-of-requires
+of-requires c κs = let p = program-taken (c .before .before .before .before .before .before) in (p .1, p .0 .program)
+
 fill-requires : tie.Need-fill-requires
 fill-requires c κs =
-    let h = condition-held (c .before .before .before) in
-    let p = program-taken (c .before .before .before .before .before .before .before) in
+    let h = condition-held (c .before .before .before .before) in
+    let p = program-taken (c .before .before .before .before .before .before .before .before) in
     let few = held-few (h .held) in
-    (p .1, (p .0 .program, (h, omega arith)))
+    ((p .1, p .0 .program .counted .1), (c .before .of .ensures, (h, omega arith)))
 
 sub-last : tie.Need-sub-last
-sub-last c = omega (arith, held-some (condition-held (c .before .before .before .before .before .before) .held))
+sub-last c = omega (arith, held-some (condition-held (c .before .before .before .before .before .before .before) .held))
 
 summary-of-requires : tie.Need-summary-of-requires
 summary-of-requires c κs =
-    let h = condition-held (c .before .before .before .before .before .before .before) in
+    let h = condition-held (c .before .before .before .before .before .before .before .before) in
     let some = held-some (h .held) in
     let few = held-few (h .held) in
     let same = c .before .before .before .fill .ensures (h .c) (h .held) .same in
@@ -50,8 +53,8 @@ returns-3 c =
 
 returns-4 : tie.Need-returns-4
 returns-4 c =
-    let h = condition-held (c .before .before .before .before .before .before .before .before) in
-    tabulated (h .held) (program-taken (c .before .before .before .before .before .before .before .before .before .before .before .before) .0) (c .before .before .before .before .before .before .before .before .before .before .before .before .before .before .before .if1 .left) (c .before .before .before .before .fill .ensures (h .c) (h .held)) (c .summary-of .ensures)
+    let h = condition-held (c .before .before .before .before .before .before .before .before .before) in
+    tabulated (h .held) (program-taken (c .before .before .before .before .before .before .before .before .before .before .before .before .before) .0) (c .before .before .before .before .before .before .before .before .before .before .before .before .before .before .before .before .if1 .left) (c .before .before .before .before .fill .ensures (h .c) (h .held)) (c .summary-of .ensures)
 
 pub tabulate-spec : {M : Type 1} → statement M
 tabulate-spec =
@@ -68,6 +71,7 @@ tabulate-spec =
     (λ c κs. search needs)
     (λ c. search needs)
     (λ c. search needs)
+    of-requires
     fill-requires
     sub-last
     summary-of-requires
