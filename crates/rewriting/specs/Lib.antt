@@ -1,2 +1,3 @@
 pub mod Rewriting
+pub mod Published
 pub mod Verdicts

@@ -46,10 +46,17 @@ copied x a =
     (binary conjunction (binary conjunction (unary negation (atom (Def x))) (atom (Trans (Single a)))) (unary negation (atom Entry)))
     (atom (Stmt (Assign x (Single a))))
 
--- "Condition: `!EX E[!def(X) U use(X)]`." "Condition: `AY A[((!def(X) & trans(A)) & !entry) B stmt(X := A)]`."
+-- "Condition: `!EX E[!def(X) U use(X)]`."
+abbrev pub unneeded : ℕ → Condition
+unneeded x = unary negation (unary (Unary.path E forward next) (live x))
+
+-- "Condition: `AY A[((!def(X) & trans(A)) & !entry) B stmt(X := A)]`."
+abbrev pub copiedBefore : ℕ → Operand → Condition
+copiedBefore x a = unary (Unary.path A backward next) (copied x a)
+
 abbrev pub published : Mark → Condition
-published (Rm n x e) = unary negation (unary (Unary.path E forward next) (live x))
-published (Rpl n x a) = unary (Unary.path A backward next) (copied x a)
+published (Rm n x e) = unneeded x
+published (Rpl n x a) = copiedBefore x a
 
 -- "A for every use of X": in an operand, in an expression, where only a variable can stand
 abbrev pub pickOperand : Bool → Operand → Operand → Operand
