@@ -65,7 +65,7 @@ leads-first N s (Branch x n m) t e =
 leads-first N s Skip t e = omega (arith, eqb-true (s + 1) 0 e)
 
 module _ (P : List Statement) (w : WellFormed P) where
-  forward-step : (s t : ℕ) → leads (at P s) s t ≡ true → steps P forward s t ≡ true
+  pub forward-step : (s t : ℕ) → leads (at P s) s t ≡ true → steps P forward s t ≡ true
   forward-step s t go = or-left (leads (at P s) s t) (isWrite (at P s) && eqb s t) go
 
   backward-step : (s t : ℕ) → s < length P → leads (at P s) s t ≡ true → steps P backward t s ≡ true

@@ -1,3 +1,4 @@
 pub mod Decisions
 pub mod Likeness
 pub mod Conditions
+pub mod Lockstep
