@@ -2,3 +2,5 @@ pub mod Decisions
 pub mod Likeness
 pub mod Conditions
 pub mod Lockstep
+pub mod Changed
+pub mod Answers
