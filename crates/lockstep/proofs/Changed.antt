@@ -1,8 +1,8 @@
 -- A program with some changes is a program again: what is made is valid, stands in its place and has the targets of what it replaces.
 -- Assumes nothing.
-use mathlib.Core.Path.{_≡_, sym, subst}
+use mathlib.Core.Path.{sym, subst}
 use mathlib.Core.Bool.{Bool, true, false}
-use mathlib.Core.Logic.{_⊎_, inl, inr}
+use mathlib.Core.Logic.{inl, inr}
 use mathlib.Core.List.{List, [], _∷_}
 use Prim.Native.Nat.{ℕ, suc, _<_}
 use native.Mathlib.Omega.{arith}
@@ -87,7 +87,7 @@ all-valid : (Q : List Statement) → ((s : ℕ) → s < length Q → Valid (at Q
 all-valid [] h = tt
 all-valid (i ∷ Q) h = (h 0 (omega arith), all-valid Q (λ s l. h (suc s) (omega arith)))
 
--- what a mark that fits makes true of what it makes is true of what a change makes
+-- what every valid mark that fits keeps true of the statement, a change keeps true of it
 change-keeps :
     (P : List Statement) (s : ℕ) (i : Statement) (X : Statement → Type 0)
     → ((m : Mark) → ValidMark m → Fits m (at P s) → X (at P s) → X (makes m (at P s))) → Change P s i → X (at P s) → X i
@@ -108,7 +108,9 @@ changed-wellformed {P} {Q} w d = record {
         change-keeps P s (at Q s) Valid (λ m v fit. made-valid m (at P s) v) (d .changes s inside) (at-valid P s (w .valid) inside)
 
     placed : (s : ℕ) → s < length P → InPlace (length P) s (at Q s)
-    placed s l = change-keeps P s (at Q s) (InPlace (length P) s) (λ m v. made-placed (length P) s m (at P s)) (d .changes s l) (w .placed s l)
+    placed s l =
+        change-keeps P s (at Q s) (InPlace (length P) s) (λ m v. made-placed (length P) s m (at P s)) (d .changes s l) (w .placed s l)
 
     aimed : (s : ℕ) → s < length P → Targets (length P) (at Q s)
-    aimed s l = change-keeps P s (at Q s) (Targets (length P)) (λ m v fit. made-aimed (length P) m (at P s)) (d .changes s l) (w .aimed s l)
+    aimed s l =
+        change-keeps P s (at Q s) (Targets (length P)) (λ m v fit. made-aimed (length P) m (at P s)) (d .changes s l) (w .aimed s l)

@@ -4,3 +4,4 @@ pub mod Conditions
 pub mod Lockstep
 pub mod Changed
 pub mod Answers
+pub mod Rewritten

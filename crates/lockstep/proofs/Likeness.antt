@@ -1,8 +1,8 @@
 -- Statements that do the same on two lists of values: a statement and itself, where the lists agree on what it uses; a statement and
 -- the one with an operand for a variable, where the variable's value is the operand's. Assumes nothing.
-use mathlib.Core.Path.{_≡_, refl, sym, _∙_, ap, ap₂}
-use mathlib.Core.Bool.{Bool, true, false}
-use mathlib.Core.Logic.{_⊎_, inl, inr, ⊎-elim}
+use mathlib.Core.Path.{_≡_, refl, sym, ap, ap₂}
+use mathlib.Core.Bool.{true, false}
+use mathlib.Core.Logic.{inl, inr, ⊎-elim}
 use mathlib.Core.List.{List}
 use Prim.Native.Nat.{ℕ, _<_}
 use lib.Dec.{eqb}
@@ -62,7 +62,8 @@ module _ (vs ws : List ℕ) where
   -- ---- the operand a for the variable x, where x has in vs what a has in ws
 
   module _ (x : ℕ) (a : Operand) (same : getD vs x 0 ≡ operandValue ws a) where
-    operand-like : (b : Operand) → ((y : ℕ) → InOperand y b → Same vs ws y) → operandValue vs b ≡ operandValue ws (replaceOperand x a b)
+    operand-like :
+        (b : Operand) → ((y : ℕ) → InOperand y b → Same vs ws y) → operandValue vs b ≡ operandValue ws (replaceOperand x a b)
     operand-like (Constant n) h = refl
     operand-like (Variable y) h = ⊎-elim there other (split (eqb x y))
       where
@@ -77,7 +78,9 @@ module _ (vs ws : List ℕ) where
     expression-like (Binary b o c) h = ap₂ (apply o) (operand-like b (λ y u. h y (inl u))) (operand-like c (λ y u. h y (inr u)))
 
   -- where only a variable can stand
-  variable-like : (x : ℕ) (a : Operand) → getD vs x 0 ≡ operandValue ws a → IsVariable a → (y : ℕ) → Same vs ws y → getD vs y 0 ≡ getD ws (replaceVariable x a y) 0
+  variable-like :
+      (x : ℕ) (a : Operand) → getD vs x 0 ≡ operandValue ws a → IsVariable a
+      → (y : ℕ) → Same vs ws y → getD vs y 0 ≡ getD ws (replaceVariable x a y) 0
   variable-like x (Constant n) same v y h = absurd v
   variable-like x (Variable z) same v y h = ⊎-elim there other (split (eqb x y))
     where

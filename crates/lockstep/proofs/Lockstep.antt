@@ -2,7 +2,7 @@
 -- every variable that the given program may still use before defining it; or both have ended with the same value. By induction on the
 -- number of steps, with the invariant `Held`. Assumes nothing.
 use mathlib.Core.Path.{_≡_, refl, sym, _∙_, ap, subst}
-use mathlib.Core.Bool.{Bool, true, false, _||_}
+use mathlib.Core.Bool.{Bool, true, false}
 use mathlib.Core.Logic.{_⊎_, inl, inr}
 use mathlib.Core.List.{List}
 use Prim.Native.Nat.{ℕ, zero, suc, _+_, _-_, _<_}
@@ -17,16 +17,15 @@ use Rattle.language.specs.declared.Operand.{Operand}
 use Rattle.language.specs.declared.Expression.{Expression}
 use Rattle.language.specs.declared.Expression.the-variants.{Single}
 use Rattle.language.specs.declared.Statement.{Statement}
-use Rattle.language.specs.declared.Statement.the-variants.{Read, Write, Assign, Branch, Skip}
+use Rattle.language.specs.declared.Statement.the-variants.{Read, Assign, Branch, Skip}
 use Rattle.program.specs.Program.{at, InPlace, WellFormed}
 use Rattle.program.proofs.Held.{at-valid}
 use Rattle.machine.specs.Machine.{State, before, ended, after, perform, stepFrom, pick, operandValue, value}
 use Rattle.flow.specs.Flow.{leads}
 use Rattle.flow.proofs.Model.{forward-inside}
-use Rattle.condition.specs.Truth.{InOperand, In, Defines, Shows, Uses, Sat}
-use Rattle.marks.specs.declared.Mark.{Mark}
+use Rattle.condition.specs.Truth.{InOperand, Defines, Shows, Uses, Sat}
 use Rattle.marks.specs.declared.Mark.the-variants.{Rm, Rpl}
-use Rattle.rewriting.specs.Rewriting.{Fits, live, published, makes, replace}
+use Rattle.rewriting.specs.Rewriting.{live, replace}
 use Rattle.lockstep.specs.Lockstep.{Change, Changed, Agree, Side, Together}
 use Rattle.lockstep.proofs.Decisions.{operand-decided, defines-decided}
 use Rattle.lockstep.proofs.Likeness.{stored-here, operand-self, operand-agrees, Like, reads, writes, assigns, branches, skips, kept-like, replaced-like}
@@ -59,7 +58,7 @@ module _ (P : List Statement) (w : WellFormed P) where
 
   -- ---- the first statement
 
-  first-no-copy : (x : ℕ) (a : Operand) → ¬ Copies P w x a 0
+  first-no-copy : (x : ℕ) (a : Operand) → ¬ Copies P x a 0
   first-no-copy x a e =
       let placed : InPlace (length P) 0 (at P 0) = w .placed 0 (omega (arith, w .counted .0)) in
       let inner : InPlace (length P) 0 (Assign x (Single a)) = rw e at placed in
@@ -71,7 +70,7 @@ module _ (P : List Statement) (w : WellFormed P) where
     whole = l;
     whole′ = l;
     agree = λ x h. refl;
-    copies = λ x a o c. absurd (first-uncopied P w x a (first-no-copy x a) c);
+    copies = λ x a o c. absurd (first-uncopied P x a w (first-no-copy x a) c);
   }
 
   -- ---- one step of both from place s, where i stands: what holds before it holds after it
@@ -95,13 +94,13 @@ module _ (P : List Statement) (w : WellFormed P) where
       where
         by : Dec (Defines i x) → getD vs′ x 0 ≡ getD ws′ x 0
         by (yes d) = stores x d l
-        by (no d) = frame x d ∙ held .agree x (live-step P w x s t there (rw is d) l) ∙ sym (frame′ x d)
+        by (no d) = frame x d ∙ held .agree x (live-step P x s t there (rw is d) l) ∙ sym (frame′ x d)
 
     copies-on : (x : ℕ) (a : Operand) → ¬ InOperand x a → Sat P (copiedBefore x a) t
         → (getD vs′ x 0 ≡ operandValue vs′ a) × (getD vs′ x 0 ≡ operandValue ws′ a)
-    copies-on x a o c = by (copied-cases P w x a s t (held .inside) there c)
+    copies-on x a o c = by (copied-cases P x a w s t (held .inside) there c)
       where
-        by : Copies P w x a s ⊎ (Between P w x a s × Sat P (copiedBefore x a) s)
+        by : Copies P x a s ⊎ (Between P x a s × Sat P (copiedBefore x a) s)
             → (getD vs′ x 0 ≡ operandValue vs′ a) × (getD vs′ x 0 ≡ operandValue ws′ a)
         -- the copy itself: its operand is used here, so live, and stays
         by (inl e) = (new ∙ sym given, new ∙ both ∙ sym changed)
@@ -136,7 +135,7 @@ module _ (P : List Statement) (w : WellFormed P) where
 
     held-on : Held t vs′ ws′
     held-on = record {
-      inside = forward-inside P w s t (held .inside) (forward-step P w s t there);
+      inside = forward-inside P w s t (held .inside) (forward-step P s t there);
       whole = long;
       whole′ = long′;
       agree = agree-on;
@@ -191,7 +190,7 @@ module _ (P : List Statement) (w : WellFormed P) where
           held-on s (s + 1) vs ws (set vs x (value vs e)) ws held (Assign x e) is next-line
               (length-set vs x (value vs e) ∙ held .whole) (held .whole′)
               (λ y d. getD-set-other vs x y (value vs e) 0 d) (λ y d. refl)
-              (λ y d l. absurd (dead (live-next P w x s (s + 1) (rw is next-line) (rw d at l))))
+              (λ y d l. absurd (dead (live-next P x s (s + 1) (rw is next-line) (rw d at l))))
               (λ y a q. copy-stores vs x e y a (rw (held .whole) below) q),
         )
 
