@@ -46,7 +46,7 @@ copy-stores vs x e y a l q =
     stored-here vs x (value vs e) y l to ∙ ap (value vs) from
 
 module _ (P : List Statement) (w : WellFormed P) where
-  -- What holds before each step: the place is one of the program's; both runs have their 32 values; these agree on what is live; and
+  -- What holds before each step: the place is one of the program's; both runs have all their values; these agree on what is live; and
   -- where a copy of a in x is sure to have been made, the given x holds the given a and the changed run's a.
   record Held (s : ℕ) (vs ws : List ℕ) : Type 0 where
     inside : s < length P
@@ -119,8 +119,11 @@ module _ (P : List Statement) (w : WellFormed P) where
             changed : operandValue ws′ a ≡ operandValue ws a
             changed = operand-agrees ws′ ws a (λ y u. frame′ y (kept y u))
 
+            used : (y : ℕ) → InOperand y a → Uses (at P s) y
+            used y u = subst (λ (j : Statement). Uses j y) (sym e) u
+
             both : operandValue vs a ≡ operandValue ws a
-            both = operand-agrees vs ws a (λ y u. held .agree y (live-use P w y s (held .inside) (subst (λ (j : Statement). Uses j y) (sym e) u)))
+            both = operand-agrees vs ws a (λ y u. held .agree y (live-use P w y s (held .inside) (used y u)))
         -- a statement between: it defines neither x nor a variable of a
         by (inr (((nd, clear), later), c′)) = (frame x (stays x nd) ∙ was .0 ∙ sym given, frame x (stays x nd) ∙ was .1 ∙ sym changed)
           where
@@ -226,19 +229,23 @@ module _ (P : List Statement) (w : WellFormed P) where
     held-after vs l zero = (refl, held-first vs l)
     held-after vs l (suc k) = step-on (after P vs input k) (after Q vs input k) (held-after vs l k)
 
--- what is said of two runs follows from what implies it
-side-map : (R S : ℕ → List ℕ → List ℕ → Type 0) → ((s : ℕ) (vs ws : List ℕ) → R s vs ws → S s vs ws) → (a b : State) → Side R a b → Side S a b
+-- where both stand, what is true may be weakened
+side-map :
+    (R S : ℕ → List ℕ → List ℕ → Type 0) → ((s : ℕ) (vs ws : List ℕ) → R s vs ws → S s vs ws)
+    → (a b : State) → Side R a b → Side S a b
 side-map R S f (before s vs) (before t ws) (same, h) = (same, f s vs ws h)
 side-map R S f (before s vs) (ended v) h = h
 side-map R S f (ended v) (before t ws) h = h
 side-map R S f (ended v) (ended u) h = h
 
+-- for every start, input and number of steps
 pub lockstep :
     {P Q : List Statement} → WellFormed P → Changed P Q → (vs : List ℕ) → length vs ≡ variables → (input k : ℕ)
     → Side (Agree P) (after P vs input k) (after Q vs input k)
 lockstep {P} {Q} w changed vs l input k =
     side-map (Held P w) (Agree P) (λ s us ws h. h .agree) (after P vs input k) (after Q vs input k) (held-after P w Q changed input vs l k)
 
+-- "After k steps, for every k from 0 on and beyond any budget": the same without the variables
 pub together :
     {P Q : List Statement} → WellFormed P → Changed P Q → (vs : List ℕ) → length vs ≡ variables → (input k : ℕ)
     → Together (after P vs input k) (after Q vs input k)

@@ -26,21 +26,22 @@ mark-valid [] j v l = absurd (omega arith)
 mark-valid (m ∷ ms) zero v l = v .0
 mark-valid (m ∷ ms) (suc j) v l = mark-valid ms j (v .1) (omega arith)
 
--- 0 is the number of no other verdict
-zero-accepted : (P : List Statement) (earlier : List Mark) (m : Mark) (v : Verdict) → number v ≡ 0 → Judged P earlier m v → Judged P earlier m Accepted
-zero-accepted P earlier m Accepted e h = h
-zero-accepted P earlier m Missing e h = absurd (omega arith)
-zero-accepted P earlier m Repeated e h = absurd (omega arith)
-zero-accepted P earlier m Unfit e h = absurd (omega arith)
-zero-accepted P earlier m Unmet e h = absurd (omega arith)
+module _ (P : List Statement) (earlier : List Mark) (m : Mark) where
+  -- 0 is the number of no other verdict
+  zero-accepted : (v : Verdict) → number v ≡ 0 → Judged P earlier m v → Judged P earlier m Accepted
+  zero-accepted Accepted e h = h
+  zero-accepted Missing e h = absurd (omega arith)
+  zero-accepted Repeated e h = absurd (omega arith)
+  zero-accepted Unfit e h = absurd (omega arith)
+  zero-accepted Unmet e h = absurd (omega arith)
 
--- no other verdict is right beside it
-accepted-zero : (P : List Statement) (earlier : List Mark) (m : Mark) (v : Verdict) → Judged P earlier m Accepted → Judged P earlier m v → number v ≡ 0
-accepted-zero P earlier m Accepted a h = refl
-accepted-zero P earlier m Missing a h = absurd (h (a .0))
-accepted-zero P earlier m Repeated a h = absurd (a .1 (h .1))
-accepted-zero P earlier m Unfit a h = absurd (h .2 (a .2))
-accepted-zero P earlier m Unmet a h = absurd (h .3 (a .3))
+  -- and no other is right beside it
+  accepted-zero : (v : Verdict) → Judged P earlier m Accepted → Judged P earlier m v → number v ≡ 0
+  accepted-zero Accepted a h = refl
+  accepted-zero Missing a h = absurd (h (a .0))
+  accepted-zero Repeated a h = absurd (a .1 (h .1))
+  accepted-zero Unfit a h = absurd (h .2 (a .2))
+  accepted-zero Unmet a h = absurd (h .3 (a .3))
 
 module _ (P : List Statement) (ms : List Mark) (vs : List ℕ) (judged : Verdicts P ms vs) where
   -- "that byte is 0 exactly where none of 11 to 14 applies"
