@@ -1,0 +1,59 @@
+-- Under every budget the given and the changed program answer alike: what one run answers, the run beside it answers too, and of one run
+-- two answers are the same. Assumes nothing.
+use mathlib.Core.Path.{_≡_, refl, sym, _∙_, ap, subst}
+use mathlib.Core.List.{List}
+use Prim.Native.Nat.{ℕ}
+use native.Mathlib.Omega.{arith}
+use lib.ListN.{length}
+use Rattle.language.specs.Spelling.{variables}
+use Rattle.language.specs.declared.Statement.{Statement}
+use Rattle.program.specs.Program.{WellFormed}
+use Rattle.machine.specs.Machine.{State, before, ended, after}
+use Rattle.machine.specs.Answer.{Ends, Answers}
+use Rattle.machine.specs.declared.Answer.{Answer}
+use Rattle.machine.specs.declared.Answer.the-variants.{Ended, Spent}
+use Rattle.machine.proofs.Unique.{answer-unique}
+use Rattle.lockstep.specs.Lockstep.{Changed, Together, Alike}
+use Rattle.lockstep.proofs.Lockstep.{together}
+
+stands-beside : (a b : State) (s : ℕ) (us : List ℕ) → Together a b → a ≡ before s us → (ws : List ℕ) × (b ≡ before s ws)
+stands-beside (before t vs) (before r ws) s us h e = let same : t ≡ s = cc in (ws, ap (λ (q : ℕ). before q ws) (sym (h .0) ∙ same))
+stands-beside (before t vs) (ended v) s us h e = absurd h
+stands-beside (ended v) (before r ws) s us h e = absurd h
+stands-beside (ended v) (ended u) s us h e = absurd (let z : _≡_ {A = ℕ} 0 1 = cc in omega arith)
+
+ended-beside : (a b : State) (v : ℕ) → Together a b → a ≡ ended v → b ≡ ended v
+ended-beside (before t vs) (before r ws) v h e = absurd (let z : _≡_ {A = ℕ} 0 1 = cc in omega arith)
+ended-beside (before t vs) (ended u) v h e = absurd h
+ended-beside (ended u) (before r ws) v h e = absurd h
+ended-beside (ended u) (ended r) v h e = cc
+
+alike-self : (a : Answer) → Alike a a
+alike-self (Ended v k) = (refl, refl)
+alike-self (Spent n) = refl
+
+module _ (P Q : List Statement) (vs : List ℕ) (input : ℕ) (beside : (k : ℕ) → Together (after P vs input k) (after Q vs input k)) where
+  ends-beside : (k v : ℕ) → Ends P vs input k v → Ends Q vs input k v
+  ends-beside k v e =
+      let there = stands-beside (after P vs input (e .steps)) (after Q vs input (e .steps)) (e .last) (e .left) (beside (e .steps)) (e .stands) in
+      record {
+        last = e .last;
+        left = there .0;
+        steps = e .steps;
+        counted = e .counted;
+        stands = there .1;
+        over = ended-beside (after P vs input k) (after Q vs input k) v (beside k) (e .over);
+      }
+
+  answers-beside : (budget : ℕ) (a : Answer) (ws : List ℕ) → Answers P vs input budget a ws → (us : List ℕ) × Answers Q vs input budget a us
+  answers-beside budget (Ended x k) ws (v, e, l, is, kept) = (vs, (v, ends-beside k v e, l, is, refl))
+  answers-beside budget (Spent n) ws (s, is, stands) =
+      let there = stands-beside (after P vs input budget) (after Q vs input budget) s ws (beside budget) stands in
+      (there .0, (s, is, there .1))
+
+pub answers-alike :
+    {P Q : List Statement} → WellFormed P → Changed P Q → (vs : List ℕ) → length vs ≡ variables → (input budget : ℕ)
+    (a b : Answer) (ws us : List ℕ) → Answers P vs input budget a ws → Answers Q vs input budget b us → Alike a b
+answers-alike {P} {Q} w changed vs l input budget a b ws us p q =
+    let there = answers-beside P Q vs input (together w changed vs l input) budget a ws p in
+    subst (Alike a) (answer-unique Q vs input budget a b (there .0) us (there .1) q .0) (alike-self a)

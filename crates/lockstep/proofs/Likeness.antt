@@ -1,0 +1,100 @@
+-- Statements that do the same on two lists of values: a statement and itself, where the lists agree on what it uses; a statement and
+-- the one with an operand for a variable, where the variable's value is the operand's. Assumes nothing.
+use mathlib.Core.Path.{_≡_, refl, sym, ap, ap₂}
+use mathlib.Core.Bool.{true, false}
+use mathlib.Core.Logic.{inl, inr, ⊎-elim}
+use mathlib.Core.List.{List}
+use Prim.Native.Nat.{ℕ, _<_}
+use lib.Dec.{eqb}
+use lib.ListN.{length, getD, set}
+use lib.Seq.{getD-set-same}
+use borrow.Author.Tests.{eqb-true}
+use Rattle.bits.proofs.Tests.{split}
+use Rattle.language.specs.declared.Operand.{Operand}
+use Rattle.language.specs.declared.Operand.the-variants.{Variable, Constant}
+use Rattle.language.specs.declared.Expression.{Expression}
+use Rattle.language.specs.declared.Expression.the-variants.{Single, Binary}
+use Rattle.language.specs.declared.Statement.{Statement}
+use Rattle.language.specs.declared.Statement.the-variants.{Read, Write, Assign, Branch, Skip}
+use Rattle.machine.specs.Machine.{apply, operandValue, value}
+use Rattle.condition.specs.Truth.{InOperand, In, Shows}
+use Rattle.rewriting.specs.Rewriting.{IsVariable, Takes, pickOperand, pickVariable, replaceOperand, replaceIn, replaceVariable, replace}
+
+-- the value stored last is the one found
+pub stored-here : (vs : List ℕ) (x v y : ℕ) → x < length vs → y ≡ x → getD (set vs x v) y 0 ≡ v
+stored-here vs x v y l e = rw e (getD-set-same vs x v 0 l)
+
+-- an operand's own variable has its value
+pub operand-self : (a : Operand) (x : ℕ) (vs : List ℕ) → InOperand x a → operandValue vs a ≡ getD vs x 0
+operand-self (Variable y) x vs e = ap (λ (z : ℕ). getD vs z 0) (sym e)
+operand-self (Constant n) x vs e = absurd e
+
+-- j does with ws what i does with vs: the same kind of statement, to the same variable, on equal values
+pub data Like (vs ws : List ℕ) : Statement → Statement → Type 0 where
+  reads : {x : ℕ} → Like vs ws (Read x) (Read x)
+  writes : {x y : ℕ} → getD vs x 0 ≡ getD ws y 0 → Like vs ws (Write x) (Write y)
+  assigns : {x : ℕ} {e f : Expression} → value vs e ≡ value ws f → Like vs ws (Assign x e) (Assign x f)
+  branches : {x y n m : ℕ} → getD vs x 0 ≡ getD ws y 0 → Like vs ws (Branch x n m) (Branch y n m)
+  skips : Like vs ws Skip Skip
+
+-- the two lists hold the same at x
+abbrev pub Same : List ℕ → List ℕ → ℕ → Type 0
+Same vs ws x = getD vs x 0 ≡ getD ws x 0
+
+module _ (vs ws : List ℕ) where
+  -- ---- lists that agree on what is used
+
+  pub operand-agrees : (a : Operand) → ((y : ℕ) → InOperand y a → Same vs ws y) → operandValue vs a ≡ operandValue ws a
+  operand-agrees (Variable x) h = h x refl
+  operand-agrees (Constant n) h = refl
+
+  value-agrees : (e : Expression) → ((y : ℕ) → In y e → Same vs ws y) → value vs e ≡ value ws e
+  value-agrees (Single a) h = operand-agrees a h
+  value-agrees (Binary a o b) h = ap₂ (apply o) (operand-agrees a (λ y u. h y (inl u))) (operand-agrees b (λ y u. h y (inr u)))
+
+  pub kept-like : (i : Statement) → ((y : ℕ) → Shows i y → Same vs ws y) → Like vs ws i i
+  kept-like (Read x) h = reads
+  kept-like (Write x) h = writes (h x refl)
+  kept-like (Assign x e) h = assigns (value-agrees e h)
+  kept-like (Branch x n m) h = branches (h x refl)
+  kept-like Skip h = skips
+
+  -- ---- the operand a for the variable x, where x has in vs what a has in ws
+
+  module _ (x : ℕ) (a : Operand) (same : getD vs x 0 ≡ operandValue ws a) where
+    operand-like :
+        (b : Operand) → ((y : ℕ) → InOperand y b → Same vs ws y) → operandValue vs b ≡ operandValue ws (replaceOperand x a b)
+    operand-like (Constant n) h = refl
+    operand-like (Variable y) h = ⊎-elim there other (split (eqb x y))
+      where
+        there : eqb x y ≡ true → getD vs y 0 ≡ operandValue ws (pickOperand (eqb x y) a (Variable y))
+        there e = rw e (rw (eqb-true x y e) at same)
+
+        other : eqb x y ≡ false → getD vs y 0 ≡ operandValue ws (pickOperand (eqb x y) a (Variable y))
+        other e = rw e (h y refl)
+
+    expression-like : (e : Expression) → ((y : ℕ) → In y e → Same vs ws y) → value vs e ≡ value ws (replaceIn x a e)
+    expression-like (Single b) h = operand-like b h
+    expression-like (Binary b o c) h = ap₂ (apply o) (operand-like b (λ y u. h y (inl u))) (operand-like c (λ y u. h y (inr u)))
+
+  -- where only a variable can stand
+  variable-like :
+      (x : ℕ) (a : Operand) → getD vs x 0 ≡ operandValue ws a → IsVariable a
+      → (y : ℕ) → Same vs ws y → getD vs y 0 ≡ getD ws (replaceVariable x a y) 0
+  variable-like x (Constant n) same v y h = absurd v
+  variable-like x (Variable z) same v y h = ⊎-elim there other (split (eqb x y))
+    where
+      there : eqb x y ≡ true → getD vs y 0 ≡ getD ws (pickVariable (eqb x y) z y) 0
+      there e = rw e (rw (eqb-true x y e) at same)
+
+      other : eqb x y ≡ false → getD vs y 0 ≡ getD ws (pickVariable (eqb x y) z y) 0
+      other e = rw e h
+
+  pub replaced-like :
+      (x : ℕ) (a : Operand) → getD vs x 0 ≡ operandValue ws a
+      → (i : Statement) → Takes i a → ((y : ℕ) → Shows i y → Same vs ws y) → Like vs ws i (replace x a i)
+  replaced-like x a same (Read y) v h = reads
+  replaced-like x a same (Write y) v h = writes (variable-like x a same v y (h y refl))
+  replaced-like x a same (Assign y e) v h = assigns (expression-like x a same e h)
+  replaced-like x a same (Branch y n m) v h = branches (variable-like x a same v y (h y refl))
+  replaced-like x a same Skip v h = skips
