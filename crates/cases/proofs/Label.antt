@@ -1,0 +1,135 @@
+-- A labeller that computes: for every condition on every program, the places at which it is true by paths. So each condition is decided at
+-- each place. Assumes nothing.
+use mathlib.Core.Path.{_≡_, refl, sym, _∙_}
+use mathlib.Core.List.{List}
+use mathlib.Core.Bool.{Bool, true, false, not, _&&_, _||_}
+use mathlib.Core.Logic.{_↔_, inl, inr, ⊎-elim, Iff·trans}
+use Prim.Native.Nat.{ℕ, _<_}
+use lib.ListN.{length}
+use Rattle.language.specs.declared.Statement.{Statement}
+use Rattle.program.specs.Program.{at, WellFormed}
+use Rattle.bits.proofs.Tests.{split, clash, and-left, and-right, and-both, or-case, or-left, or-right, not-of-false, false-of-not}
+use Rattle.ctl.specs.Paths.{Quant, Paths, So}
+use Rattle.ctl.specs.Tables.{other}
+use Rattle.ctl.proofs.Least.{every, any, tests, test, tests-at, grow, done, least, onto, onto-iff, until-rule, until-least}
+use Rattle.ctl.proofs.Paths.{next-iff, finally-iff, globally-iff}
+use Rattle.ctl.proofs.Until.{until-table}
+use Rattle.ctl.proofs.Weak.{non, nor, weak-table}
+use Rattle.labelling.proofs.Labels.{said-iff}
+use Rattle.labelling.specs.declared.Operator.the-variants as op
+use Rattle.flow.specs.Flow.{some, Direction, steps}
+use Rattle.flow.proofs.Model.{steps-graph}
+use Rattle.condition.specs.Condition.{PathUnary, next, finally, globally, PathBinary, until, weak, Unary, negation, Binary, conjunction, disjunction, Condition, atom, unary, binary}
+use Rattle.condition.specs.Truth.{SaidOne, SaidTwo, Sat}
+use Rattle.table.proofs.Rows.{decides-iff}
+use Rattle.cases.proofs.Atoms.{holds, holds-decides}
+
+-- a set made by a test has the places at which the test holds
+tests-iff : (n : ℕ) (f : ℕ → Bool) (s : ℕ) → s < n → (test (tests n f) s ≡ true) ↔ (f s ≡ true)
+tests-iff n f s l = (λ e. sym (tests-at n f s l) ∙ e, λ e. tests-at n f s l ∙ e)
+
+abbrev everywhere : ℕ → Bool
+everywhere s = true
+
+abbrev nowhere : ℕ → Bool
+nowhere s = false
+
+module _ (P : List Statement) (w : WellFormed P) where
+  -- ---- path operators, of sets
+
+  unfoldable pub until-set : Quant → Direction → (ℕ → Bool) → (ℕ → Bool) → List Bool
+  unfolding least grow done until-rule onto tests any every some
+  until-set k d p q = least (length P) (until-rule (steps-graph P w d) k p q)
+
+  unfoldable pub weak-set : Quant → Direction → (ℕ → Bool) → (ℕ → Bool) → List Bool
+  unfolding until-set
+  weak-set k d p q = let z = until-set (other k) d (non q) (nor p q) in tests (length P) (λ s. not (test z s))
+
+  unfoldable pub one-set : PathUnary → Quant → Direction → (ℕ → Bool) → List Bool
+  unfolding until-set weak-set
+  one-set next k d p = tests (length P) (onto (steps-graph P w d) k p)
+  one-set finally k d p = until-set k d everywhere p
+  one-set globally k d p = weak-set k d p nowhere
+
+  unfoldable pub two-set : PathBinary → Quant → Direction → (ℕ → Bool) → (ℕ → Bool) → List Bool
+  unfolding until-set weak-set
+  two-set until k d p q = until-set k d p q
+  two-set weak k d p q = weak-set k d p q
+
+  module _ (k : Quant) (d : Direction) (s : ℕ) (l : s < length P) where
+    until-set-iff : (p q : ℕ → Bool) → (test (until-set k d p q) s ≡ true) ↔ Paths k (steps P d) s (SaidTwo until (So p) (So q))
+    unfolding until-set
+    until-set-iff p q = until-table (steps-graph P w d) p q k _ (until-least (steps-graph P w d) k p q) s l
+
+    weak-set-iff : (p q : ℕ → Bool) → (test (weak-set k d p q) s ≡ true) ↔ Paths k (steps P d) s (SaidTwo weak (So p) (So q))
+    unfolding weak-set until-set
+    weak-set-iff p q =
+        Iff·trans (tests-iff (length P) _ s l)
+        (weak-table (steps-graph P w d) p q _ s l k (until-least (steps-graph P w d) (other k) (non q) (nor p q)))
+
+    one-set-iff : (o : PathUnary) (p : ℕ → Bool) → (test (one-set o k d p) s ≡ true) ↔ Paths k (steps P d) s (SaidOne o (So p))
+    unfolding one-set
+    one-set-iff next p =
+        Iff·trans (tests-iff (length P) (onto (steps-graph P w d) k p) s l)
+        (Iff·trans (onto-iff (steps-graph P w d) k p s l) (next-iff (steps-graph P w d) k (So p) s l))
+    one-set-iff finally p = Iff·trans (until-set-iff everywhere p) (finally-iff (steps-graph P w d) k everywhere (So p) (λ t b. refl) s l)
+    one-set-iff globally p = Iff·trans (weak-set-iff p nowhere) (globally-iff (steps-graph P w d) k p nowhere (λ t b. refl) s l)
+
+    two-set-iff : (o : PathBinary) (p q : ℕ → Bool) → (test (two-set o k d p q) s ≡ true) ↔ Paths k (steps P d) s (SaidTwo o (So p) (So q))
+    unfolding two-set
+    two-set-iff until p q = until-set-iff p q
+    two-set-iff weak p q = weak-set-iff p q
+
+  -- ---- conditions
+
+  -- the places at which the condition is true
+  unfoldable pub label : Condition → List Bool
+  unfolding tests holds one-set two-set
+  label (atom a) = tests (length P) (λ s. holds (length P) (at P s) s a)
+  label (unary negation p) = let t = label p in tests (length P) (λ s. not (test t s))
+  label (unary (Unary.path k d o) p) = let t = label p in one-set o k d (test t)
+  label (binary conjunction p q) = let t = label p in let u = label q in tests (length P) (λ s. test t s && test u s)
+  label (binary disjunction p q) = let t = label p in let u = label q in tests (length P) (λ s. test t s || test u s)
+  label (binary (Binary.path k d o) p q) = let t = label p in let u = label q in two-set o k d (test t) (test u)
+
+  -- what is said of a path may be said in other words of its places
+  one-iff : (o : PathUnary) (k : Quant) (d : Direction) (X Y : ℕ → Type 0) → ((t : ℕ) → t < length P → X t ↔ Y t)
+      → (s : ℕ) → s < length P → Paths k (steps P d) s (SaidOne o X) ↔ Paths k (steps P d) s (SaidOne o Y)
+  one-iff next k d X Y f = said-iff (steps-graph P w d) op.Next k X X Y Y f f
+  one-iff finally k d X Y f = said-iff (steps-graph P w d) op.Finally k X X Y Y f f
+  one-iff globally k d X Y f = said-iff (steps-graph P w d) op.Globally k X X Y Y f f
+
+  two-iff : (o : PathBinary) (k : Quant) (d : Direction) (X Y X′ Y′ : ℕ → Type 0) → ((t : ℕ) → t < length P → X t ↔ X′ t) → ((t : ℕ) → t < length P → Y t ↔ Y′ t)
+      → (s : ℕ) → s < length P → Paths k (steps P d) s (SaidTwo o X Y) ↔ Paths k (steps P d) s (SaidTwo o X′ Y′)
+  two-iff until k d X Y X′ Y′ f g = said-iff (steps-graph P w d) op.Until k X Y X′ Y′ f g
+  two-iff weak k d X Y X′ Y′ f g = said-iff (steps-graph P w d) op.Weak k X Y X′ Y′ f g
+
+  -- the set of a condition is its truth by paths, at every place
+  pub labelled : (c : Condition) (s : ℕ) → s < length P → (test (label c) s ≡ true) ↔ Sat P c s
+  unfolding label Sat
+  labelled (atom a) s l =
+      Iff·trans (tests-iff (length P) (λ s. holds (length P) (at P s) s a) s l) (decides-iff (holds (length P) (at P s) s a) (holds-decides (length P) (at P s) s a))
+  labelled (unary negation p) s l =
+      Iff·trans (tests-iff (length P) (λ s. not (test (label p) s)) s l) (
+        λ e x. clash (labelled p s l .1 x) (false-of-not (test (label p) s) e),
+        λ n. ⊎-elim (λ t. absurd (n (labelled p s l .0 t))) (not-of-false (test (label p) s)) (split (test (label p) s)),
+      )
+  labelled (unary (Unary.path k d o) p) s l =
+      Iff·trans (one-set-iff k d s l o (test (label p))) (one-iff o k d (So (test (label p))) (Sat P p) (labelled p) s l)
+  labelled (binary conjunction p q) s l =
+      Iff·trans (tests-iff (length P) (λ s. test (label p) s && test (label q) s) s l) (
+        λ e. (labelled p s l .0 (and-left (test (label p) s) (test (label q) s) e), labelled q s l .0 (and-right (test (label p) s) (test (label q) s) e)),
+        λ h. and-both (test (label p) s) (test (label q) s) (labelled p s l .1 (h .0)) (labelled q s l .1 (h .1)),
+      )
+  labelled (binary disjunction p q) s l =
+      Iff·trans (tests-iff (length P) (λ s. test (label p) s || test (label q) s) s l) (
+        λ e. ⊎-elim (λ t. inl (labelled p s l .0 t)) (λ t. inr (labelled q s l .0 t)) (or-case (test (label p) s) (test (label q) s) e),
+        λ h. ⊎-elim (λ x. or-left (test (label p) s) (test (label q) s) (labelled p s l .1 x)) (λ x. or-right (test (label p) s) (test (label q) s) (labelled q s l .1 x)) h,
+      )
+  labelled (binary (Binary.path k d o) p q) s l =
+      Iff·trans (two-set-iff k d s l o (test (label p)) (test (label q)))
+      (two-iff o k d (So (test (label p))) (So (test (label q))) (Sat P p) (Sat P q) (labelled p) (labelled q) s l)
+
+  -- so it is true or false there
+  pub sat-decided : (c : Condition) (s : ℕ) → s < length P → Dec (Sat P c s)
+  sat-decided c s l = ⊎-elim (λ t. yes (labelled c s l .0 t)) (λ f. no (λ x. clash (labelled c s l .1 x) f)) (split (test (label c) s))

@@ -1,0 +1,1 @@
+// Document 01's starred cases: definitions in specs/, the theorem in proofs/, no code.
