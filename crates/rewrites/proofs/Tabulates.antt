@@ -16,21 +16,11 @@ use Rattle.bits.proofs.Tests.{clash}
 use Rattle.labelling.specs.Labels.{Labelled}
 use Rattle.condition.specs.Condition.{Condition, atom, unary, binary, parts}
 use Rattle.condition.specs.Truth.{Sat}
-use Rattle.condition.proofs.Words.{parts-last}
 use Rattle.table.specs.Table.{part-words, row, partAt}
 use Rattle.table.specs.Fill.{HeldOf, SomeHeld, TableOf}
+use Rattle.table.proofs.Whole.{held-some, whole-labelled}
 use Rattle.table.specs.Summary.{Counts}
 use Rattle.rewrites.specs.Tabulate.{table-words, TabulateFilled}
-
--- a condition has a part
-parts-some : (c : Condition) → 0 < length (parts c)
-unfolding parts
-parts-some (atom a) = omega arith
-parts-some (unary o p) = let l = length-append (parts p) (unary o p ∷ []) in omega arith
-parts-some (binary o p q) =
-    let l = length-append (parts p) (parts q ++ binary o p q ∷ []) in
-    let k = length-append (parts q) (binary o p q ∷ []) in
-    omega arith
 
 -- a bit of a row is set exactly at the places below n of which X is true
 labelled-bit : {n : ℕ} {y : ℕ → Bool} {X : ℕ → Type 0} → Labelled n y X → (s : ℕ) → (y s ≡ true) ↔ ((s < n) × X s)
@@ -47,18 +37,11 @@ row-bit ws k w b h l =
     ∙ ap (λ (x : ℕ). bit x b) (getD-take part-words (drop (part-words * k) ws) w 0 h ∙ getD-drop (part-words * k) ws w 0)
 
 module _ {u ws : List ℕ} {c : Condition} {m : ℕ} (h : HeldOf u c m ws) where
-  pub held-some : 0 < m
-  held-some = let a = h .held .counted in let b = parts-some c in omega arith
-
-  pub held-few : m ≤ 64
-  held-few = let a = h .held .counted in let b = h .taken .few in omega arith
-
   pub tabulated : {t old new : List ℕ} {P : List Statement} {satisfied first : ℕ} → Taken t P → table-words ≤ length old → TableOf P c old new → Counts (member (row new (m - 1))) (part-words * 64) satisfied first
       → TabulateFilled t u old new m satisfied first
   tabulated {new = new} {P = P} p room table counts =
       let n : m ≡ length (parts c) = h .held .counted in
-      let some = parts-some c in
-      let last : partAt c (m - 1) ≡ c = ap (λ (k : ℕ). partAt c (k - 1)) n ∙ parts-last c in
+      let some = held-some h in
       record {
         P = P;
         c = c;
@@ -70,6 +53,6 @@ module _ {u ws : List ℕ} {c : Condition} {m : ℕ} (h : HeldOf u c m ws) where
         bits = λ k l w b i j. rw (← row-bit new k w b i j) (labelled-bit (table .rows k (omega arith)) (w * 64 + b));
         kept = λ k l. table .past k (omega arith);
         truth = member (row new (m - 1));
-        decides = λ s. subst (λ (d : Condition). (member (row new (m - 1)) s ≡ true) ↔ ((s < length P) × Sat P d s)) last (labelled-bit (table .rows (m - 1) (omega arith)) s);
+        decides = λ s. labelled-bit (whole-labelled h table) s;
         counts = counts;
       }

@@ -6,3 +6,4 @@ pub mod Operands
 pub mod Parts
 pub mod Tables
 pub mod Summaries
+pub mod Whole

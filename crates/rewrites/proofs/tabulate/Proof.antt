@@ -7,7 +7,8 @@ use lib.ListN.{length}
 use Rattle.program.specs.Program.{Taken}
 use Rattle.program.specs.Reading.{statements, Held}
 use Rattle.table.specs.Fill.{SomeHeld}
-use Rattle.rewrites.proofs.Tabulates.{held-some, held-few, tabulated}
+use Rattle.table.proofs.Whole.{held-some, held-few}
+use Rattle.rewrites.proofs.Tabulates.{tabulated}
 use Rattle.rewrites.proofs.tabulate.Statement.{statement}
 use Rattle.rewrites.proofs.tabulate.Tie as tie
 

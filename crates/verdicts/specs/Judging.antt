@@ -1,0 +1,46 @@
+-- What the contracts of the functions that judge a mark say. No sentence of document 01 stands here.
+use mathlib.Core.Path.{_≡_}
+use mathlib.Core.Bool.{true}
+use mathlib.Core.List.{List}
+use mathlib.Core.Logic.{_↔_}
+use Prim.Native.Nat.{ℕ, _+_, _*_, _≤_, _<_}
+use lib.ListN.{length}
+use Rattle.language.specs.declared.Statement.{Statement}
+use Rattle.program.specs.Program.{most}
+use Rattle.program.specs.Reading.{statements, Held}
+use Rattle.program.specs.declared.Program.{Program}
+use Rattle.bits.specs.Row.{member}
+use Rattle.flow.specs.FlowOf.{FlowOf}
+use Rattle.flow.specs.declared.Flow.{Flow}
+use Rattle.labelling.specs.Labels.{Labelled}
+use Rattle.condition.specs.Condition.{Condition, parts}
+use Rattle.condition.specs.Reading.{Taken}
+use Rattle.condition.specs.Truth.{Sat}
+use Rattle.table.specs.Table.{part-words}
+use Rattle.marks.specs.declared.Mark.{Mark}
+use Rattle.rewriting.specs.Verdicts.{Named}
+
+-- the words for the parts of a published condition, the code's PUBLISHED_WORDS
+abbrev pub published-words : ℕ
+published-words = 40
+
+-- the program's value is whole, and the graph is its control flow
+pub record Ready (p : Program) (f : Flow) : Type 0 where
+  pub held : Held p
+  pub few : length (statements p) ≤ most
+  pub flows : FlowOf (statements p) f
+
+-- the text is taken as a condition of at most ten parts
+pub record SmallTaken (t : List ℕ) : Type 0 where
+  pub c : Condition
+  pub taken : Taken t c
+  pub small : part-words * length (parts c) ≤ published-words
+
+-- the row has the places of P at which the condition with the text t is true
+pub record RowOf (P : List Statement) (t row : List ℕ) : Type 0 where
+  pub room : length row ≡ part-words
+  pub labelled : (c : Condition) → Taken t c → Labelled (length P) (member row) (Sat P c)
+
+-- the row has the places of the statements that the marks name
+abbrev pub NamedIn : List ℕ → List Mark → Type 0
+NamedIn row ms = (s : ℕ) → s < most → (member row s ≡ true) ↔ Named ms (s + 1)
