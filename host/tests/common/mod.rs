@@ -1,4 +1,8 @@
-//! Texts that the tests share.
+//! What the tests share. Each test file uses a part of it.
+#![allow(dead_code)]
+
+use std::path::{Path, PathBuf};
+use std::process::Command;
 
 /// The program to check against.
 pub const P: &str = "\
@@ -34,4 +38,21 @@ pub fn lines(n: usize) -> Vec<String> {
 pub fn shown(text: &[u8]) -> String {
     let end = text.len().min(200);
     text[..end].escape_ascii().to_string()
+}
+
+/// Compiles a C program of this folder, links it to the library, and tells where it is.
+pub fn compiled(name: &str) -> PathBuf {
+    let package = Path::new(env!("CARGO_MANIFEST_DIR"));
+    let program = Path::new(env!("CARGO_TARGET_TMPDIR")).join(name);
+    let status = Command::new("cc")
+        .args(["-std=c99", "-Wall", "-Wextra", "-Wpedantic", "-Werror", "-pthread", "-o"])
+        .arg(&program)
+        .arg("-I")
+        .arg(package.join("../include"))
+        .arg(package.join("tests").join(name).with_extension("c"))
+        .arg(package.join("../target/staticlib/librewrites.a"))
+        .status()
+        .expect("cc runs");
+    assert!(status.success());
+    program
 }
