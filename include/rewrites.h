@@ -36,6 +36,29 @@ uint8_t rewrites_run(const uint8_t *program, size_t program_len, const uint32_t 
                      uint32_t input, uint32_t budget, uint32_t *ended, int32_t *value,
                      uint32_t *steps, uint32_t *statement, uint32_t left[32]);
 
+/* Tabulates a condition over the statements of a program: fills the table with the statements at
+   which each part of the condition is true. The parts are the condition's operators and atoms, 1 to
+   64, counted at each occurrence, in the order in which their text ends; of those that end together
+   the inner comes first. So the last part is the whole condition.
+
+   Returns 0, and sets
+   table      words 4k to 4k+3 for part k, counted from 0: bit b of word w of those four is
+              statement 64w+b+1, and bits beyond the program's statements are 0. All further words
+              are kept.
+   *parts     the number of parts.
+   *satisfied how many statements satisfy the whole condition.
+   *first     the first of them, 0 if none.
+
+   Returns the number of a refusal, and keeps all:
+    1: the table has under 256 words.
+    2 to 5: the program, as with rewrites_run.
+    6: the condition is longer than 1,024 bytes.
+    7: it is misspelled.
+    8: it has over 64 parts. */
+uint8_t rewrites_tabulate(const uint8_t *program, size_t program_len, const uint8_t *condition,
+                          size_t condition_len, uint64_t *table, size_t table_len, uint32_t *parts,
+                          uint32_t *satisfied, uint32_t *first);
+
 #ifdef __cplusplus
 }
 #endif

@@ -1,11 +1,12 @@
-//! Prints steps a second of runs, and time a byte of reading.
+//! Prints steps a second of runs, time a byte of reading, and times of tabulation.
 
-use rewrites::{run, Outcome, Refusal, MOST_STEPS};
+use rewrites::{run, tabulate, Outcome, Refusal, MOST_STEPS, TABLE_WORDS};
 use std::fs;
 use std::time::Instant;
 
 const RUN_CALLS: usize = 51;
 const READING_CALLS: usize = 501;
+const TABLE_CALLS: usize = 1001;
 
 /// The times of some calls, in seconds.
 struct Times {
@@ -99,6 +100,69 @@ fn print_reading(lines: usize) {
     );
 }
 
+/// 256 statements of every kind, with loops of some lines and jumps ahead.
+fn ordinary_program() -> Vec<u8> {
+    let inner = (2..256).map(|n| match n % 8 {
+        0 => format!("if i12 goto {} else {}", n - 6, n + 1),
+        4 => format!("if i1 goto {} else {}", n + 1, (n + 40).min(256)),
+        1 => "i1 := i0".to_string(),
+        2 => format!("i12 := i1 + {}", n),
+        3 => "i0 := i0 - 1".to_string(),
+        5 => "skip".to_string(),
+        6 => "i3 := i12 < i0".to_string(),
+        _ => "i2 := i3 * i1".to_string(),
+    });
+    let lines: Vec<String> = inner.collect();
+    let lines = ["read i0"].into_iter().chain(lines.iter().map(String::as_str)).chain(["write i3"]);
+    text(&lines.collect::<Vec<_>>())
+}
+
+/// 256 statements, each but the ends an `if` that goes to the line before or to the end: the most
+/// steps that a program can have, and paths that run from the end to the start.
+fn backward_program() -> Vec<u8> {
+    let inner = (3..256).map(|n| format!("if i0 goto {} else 256", n - 1));
+    let lines: Vec<String> = inner.collect();
+    let start = ["read i0", "if i0 goto 255 else 256"];
+    let lines = start.into_iter().chain(lines.iter().map(String::as_str)).chain(["write i0"]);
+    text(&lines.collect::<Vec<_>>())
+}
+
+/// The operators in turn, 63 of them, before an atom.
+fn unary_condition(operators: &[&str]) -> String {
+    let mut condition = String::new();
+    for operator in operators.iter().cycle().take(63) {
+        condition += operator;
+        condition += " ";
+    }
+    condition + "node(128)"
+}
+
+/// 31 brackets, each the right side of the next, around two parts.
+fn binary_condition() -> String {
+    let mut condition = "!use(i1)".to_string();
+    for k in 0..31 {
+        let quantifier = ["E", "A"][k % 2];
+        let p = ["true", "trans(i1)"][k % 2];
+        let letter = ["U", "S", "W", "B"][k % 4];
+        condition = format!("{}[{} {} {}]", quantifier, p, letter, condition);
+    }
+    condition
+}
+
+/// Tabulates a condition of 64 parts over both programs.
+fn print_table(name: &str, condition: &str, programs: &[Vec<u8>; 2]) {
+    print!("{:<22} {:>6}", name, condition.len());
+    for program in programs {
+        let mut table = [0; TABLE_WORDS];
+        let times = time(TABLE_CALLS, || {
+            let answer = tabulate(program, condition.as_bytes(), &mut table);
+            assert!(matches!(answer, Ok(t) if t.parts == 64));
+        });
+        print!(" {:>10.1} {:>8.1}", times.median * 1e6, times.fastest * 1e6);
+    }
+    println!();
+}
+
 fn main() {
     println!("machine: {}", machine());
 
@@ -122,4 +186,18 @@ fn main() {
     for lines in [2, 256, 1000, 2000, 4000, 8000, 16_000] {
         print_reading(lines);
     }
+
+    println!(
+        "\nTables of conditions of 64 parts over 256 statements, reading included, {} of each, in microseconds",
+        TABLE_CALLS
+    );
+    println!("                                ordinary program     backward jumps");
+    println!("operators               bytes     median  fastest     median  fastest");
+    let programs = [ordinary_program(), backward_program()];
+    let operators = ["EX", "AX", "EF", "AF", "EG", "AG", "EY", "AY", "ER", "AR", "EM", "AM"];
+    for operator in operators {
+        print_table(&format!("63 {}", operator), &unary_condition(&[operator]), &programs);
+    }
+    print_table("63, all in turn", &unary_condition(&operators), &programs);
+    print_table("31 of U, S, W, B", &binary_condition(), &programs);
 }

@@ -1,4 +1,5 @@
-//! Shift programs: statements over 32 variables, run under a budget of steps.
+//! Shift programs: statements over 32 variables, run under a budget of steps, and conditions on
+//! the paths through them.
 //!
 //! The calls are those of a library that is proved to meet its contracts. This package links it and
 //! gives each call a safe form.
@@ -28,6 +29,22 @@
 //!
 //! assert_eq!(run(b"read i0\n", &values, 4, 100), Err(Refusal::LineCount));
 //! ```
+//!
+//! A condition is a formula of branching-time logic, with past and future. It is true or false at
+//! each statement of a program.
+//!
+//! ```
+//! use rewrites::{tabulate, Tabulated, TABLE_WORDS};
+//!
+//! // Which statements store a value of i1 that no path uses?
+//! let program = b"read i0\ni1 := i0\ni1 := 7\nwrite i1\n";
+//! let condition = b"(def(i1) & !EX E[!def(i1) U use(i1)])";
+//! let mut table = [0; TABLE_WORDS];
+//! let answer = tabulate(program, condition, &mut table);
+//!
+//! // Statement 2 alone.
+//! assert_eq!(answer, Ok(Tabulated { parts: 8, satisfied: 1, first: 2 }));
+//! ```
 
 #![warn(missing_docs)]
 
@@ -41,6 +58,12 @@ pub const VARIABLES: usize = 32;
 
 /// The largest budget, in steps.
 pub const MOST_STEPS: u32 = 1_000_000;
+
+/// The words that a table must have: 64 parts of [`PART_WORDS`].
+pub const TABLE_WORDS: usize = 256;
+
+/// The words of one part in a table.
+pub const PART_WORDS: usize = 4;
 
 /// What a run answers.
 #[derive(Clone, Copy, Debug, PartialEq, Eq)]
@@ -59,6 +82,17 @@ pub enum Outcome {
         /// The values of `i0` to `i31` after the last step.
         values: [u32; VARIABLES],
     },
+}
+
+/// What the tabulation of a condition answers beside the table.
+#[derive(Clone, Copy, Debug, PartialEq, Eq)]
+pub struct Tabulated {
+    /// The number of parts, 1 to 64. The last part is the whole condition.
+    pub parts: u32,
+    /// How many statements satisfy the whole condition.
+    pub satisfied: u32,
+    /// The first of them, numbered from 1; 0 if none.
+    pub first: u32,
 }
 
 /// Why a call is refused. The first that applies is answered, in the order of the variants.
@@ -195,4 +229,68 @@ pub fn run(
     } else {
         Ok(Outcome::Spent { statement, values: left })
     }
+}
+
+/// Tabulates a condition over the statements of a program: fills the table with the statements at
+/// which each part of the condition is true.
+///
+/// The parts of a condition are its operators and atoms, counted at each occurrence, in the order
+/// in which their text ends; of those that end together the inner comes first. Part k, counted from
+/// 0, fills words 4k to 4k+3 of the table: bit b of word w of those four is statement 64w+b+1, and
+/// bits beyond the program's statements are 0. All further words of the table are kept.
+///
+/// With p and q for conditions, a condition is `!p`, `(p & q)`, `(p | q)`; one of `EX AX EF AF EG AG
+/// EY AY ER AR EM AM`, a space, p; `E[p U q]`, `A[p U q]`, the same with `W`, `S` or `B`; or an atom:
+/// `true`, `false`, `entry`, `exit`, `node(n)`, `stmt(I)`, `def(X)`, `use(X)`, `trans(E)`. E means
+/// some path, A all paths. X, F, G, U and W look forward, and Y, R, M, S and B, in that order, are
+/// the same backward.
+///
+/// # Errors
+///
+/// [`Refusal::Buffer`] for a table of under [`TABLE_WORDS`] words, whatever the texts hold; else,
+/// for the program, [`Refusal::Misspelled`], [`Refusal::LineCount`], [`Refusal::Placement`] or
+/// [`Refusal::Target`]; else, for the condition, [`Refusal::ConditionLength`],
+/// [`Refusal::ConditionMisspelled`] or [`Refusal::ConditionParts`]. The table is then kept.
+///
+/// ```
+/// use rewrites::{tabulate, Refusal, Tabulated, PART_WORDS, TABLE_WORDS};
+///
+/// let program = b"read i0\nif i0 goto 2 else 3\nwrite i0\n";
+/// let mut table = [0; TABLE_WORDS];
+///
+/// // Every path comes to the end from statement 3 alone: statement 2 may go round for ever.
+/// let answer = tabulate(program, b"AF exit", &mut table);
+/// assert_eq!(answer, Ok(Tabulated { parts: 2, satisfied: 1, first: 3 }));
+///
+/// // Some path does from each statement. Part 0 is `exit`, part 1 is `EF exit`.
+/// let answer = tabulate(program, b"EF exit", &mut table);
+/// assert_eq!(answer, Ok(Tabulated { parts: 2, satisfied: 3, first: 1 }));
+/// assert_eq!(table[0], 0b100);
+/// assert_eq!(table[PART_WORDS], 0b111);
+///
+/// assert_eq!(tabulate(program, b"EF (exit)", &mut table), Err(Refusal::ConditionMisspelled));
+/// ```
+pub fn tabulate(program: &[u8], condition: &[u8], table: &mut [u64]) -> Result<Tabulated, Refusal> {
+    let mut parts = 0;
+    let mut satisfied = 0;
+    let mut first = 0;
+    // SAFETY: the pointers come from references, so none is null, and those that are written
+    // through are the only ones to their places.
+    let number = unsafe {
+        raw::rewrites_tabulate(
+            program.as_ptr(),
+            program.len(),
+            condition.as_ptr(),
+            condition.len(),
+            table.as_mut_ptr(),
+            table.len(),
+            &mut parts,
+            &mut satisfied,
+            &mut first,
+        )
+    };
+    if number != 0 {
+        return Err(Refusal::returned(number));
+    }
+    Ok(Tabulated { parts, satisfied, first })
 }

@@ -21,4 +21,23 @@ extern "C" {
         statement: *mut u32,
         left: *mut [u32; VARIABLES],
     ) -> u8;
+
+    /// See [`crate::tabulate`] and the header.
+    ///
+    /// # Safety
+    ///
+    /// `program` points to `program_len` bytes, `condition` to `condition_len` bytes and `table` to
+    /// `table_len` words. No pointer is null, also where a length is 0. Places that the call writes
+    /// overlap no other place lent to it.
+    pub fn rewrites_tabulate(
+        program: *const u8,
+        program_len: usize,
+        condition: *const u8,
+        condition_len: usize,
+        table: *mut u64,
+        table_len: usize,
+        parts: *mut u32,
+        satisfied: *mut u32,
+        first: *mut u32,
+    ) -> u8;
 }

@@ -16,7 +16,7 @@ static const char P[] =
     "read i0\ni1 := i0\ni2 := 7\ni3 := i1 + i2\n"
     "if i0 goto 6 else 8\ni0 := i0 - 1\nif i0 goto 4 else 8\nwrite i3\n";
 
-int main(void) {
+static int run_answers(void) {
     uint8_t (*const run)(const uint8_t *, size_t, const uint32_t *, uint32_t, uint32_t, uint32_t *,
                          int32_t *, uint32_t *, uint32_t *, uint32_t *) = rewrites_run;
     const uint8_t *program = (const uint8_t *)P;
@@ -37,4 +37,34 @@ int main(void) {
     CHECK(ended == 0 && value == 9 && steps == 12 && statement == 8);
     CHECK(left[0] == 0 && left[1] == 2 && left[2] == 7 && left[3] == 9 && left[31] == 0);
     return 0;
+}
+
+static int tabulate_answers(void) {
+    uint8_t (*const tabulate)(const uint8_t *, size_t, const uint8_t *, size_t, uint64_t *, size_t,
+                              uint32_t *, uint32_t *, uint32_t *) = rewrites_tabulate;
+    static const char used_next[] = "E[!def(i2) U use(i2)]";
+    static const uint64_t rows[4] = {4, 251, 8, 120};
+    const uint8_t *program = (const uint8_t *)P;
+    const uint8_t *condition = (const uint8_t *)used_next;
+    const size_t length = strlen(P), size = strlen(used_next);
+    uint64_t table[256];
+    uint32_t parts = 11, satisfied = 12, first = 13;
+    size_t k;
+
+    for (k = 0; k < 256; k++) table[k] = 14;
+    CHECK(tabulate(program, 0, condition, 0, table, 255, &parts, &satisfied, &first) == 1);
+    CHECK(tabulate(program, 0, condition, 0, table, 256, &parts, &satisfied, &first) == 3);
+    CHECK(tabulate(program, length, condition, 0, table, 256, &parts, &satisfied, &first) == 7);
+    CHECK(parts == 11 && satisfied == 12 && first == 13);
+    for (k = 0; k < 256; k++) CHECK(table[k] == 14);
+
+    CHECK(tabulate(program, length, condition, size, table, 256, &parts, &satisfied, &first) == 0);
+    CHECK(parts == 4 && satisfied == 4 && first == 4);
+    for (k = 0; k < 16; k++) CHECK(table[k] == (k % 4 == 0 ? rows[k / 4] : 0));
+    for (k = 16; k < 256; k++) CHECK(table[k] == 14);
+    return 0;
+}
+
+int main(void) {
+    return run_answers() || tabulate_answers();
 }

@@ -1,21 +1,12 @@
 //! Executed cases of `run`. Expected answers are worked out from the language's description, by
 //! hand or by the second implementation in `reference`.
 
+mod common;
 mod reference;
 
+use common::{lines, shown, text, P};
 use reference::Random;
 use rewrites::{raw, run, Outcome, Refusal};
-
-const P: &str = "\
-read i0
-i1 := i0
-i2 := 7
-i3 := i1 + i2
-if i0 goto 6 else 8
-i0 := i0 - 1
-if i0 goto 4 else 8
-write i3
-";
 
 /// The given values: all different, none small.
 fn given() -> [u32; 32] {
@@ -39,24 +30,6 @@ fn spent(statement: u32, values: [u32; 32]) -> Result<Outcome, Refusal> {
     Ok(Outcome::Spent { statement, values })
 }
 
-/// The lines, each ended by byte 10.
-fn text<L: AsRef<str>>(lines: &[L]) -> Vec<u8> {
-    let mut text = Vec::new();
-    for line in lines {
-        text.extend_from_slice(line.as_ref().as_bytes());
-        text.push(10);
-    }
-    text
-}
-
-/// n good lines: `read`, as many `skip` as fit, `write`.
-fn lines(n: usize) -> Vec<String> {
-    let mut lines = vec!["skip".to_string(); n];
-    lines[0] = "read i0".to_string();
-    lines[n - 1] = "write i0".to_string();
-    lines
-}
-
 /// The number of the refusal, or 0 where the program is taken; it doesn't depend on the budget.
 fn number(text: &[u8]) -> u8 {
     let numbers = [0, 1, 300].map(|budget| match run(text, &given(), 0, budget) {
@@ -65,11 +38,6 @@ fn number(text: &[u8]) -> u8 {
     });
     assert_eq!(numbers, [numbers[0]; 3], "{}", shown(text));
     numbers[0]
-}
-
-fn shown(text: &[u8]) -> String {
-    let end = text.len().min(200);
-    text[..end].escape_ascii().to_string()
 }
 
 fn assert_number(text: &[u8], expected: u8) {

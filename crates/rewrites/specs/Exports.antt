@@ -4,8 +4,11 @@ use mathlib.Core.List.{List}
 use Prim.Native.Nat.{ℕ}
 use lib.IntN.{ℤ}
 use Rattle.rewrites.specs.Run.{RunAnswers}
+use Rattle.rewrites.specs.Tabulate.{TabulateAnswers}
 use Rattle.rewrites.specs.declared.RunAnswer.{RunAnswer}
 use Rattle.rewrites.specs.declared.RunAnswer.the-variants.{Refused, Ended, Spent}
+use Rattle.rewrites.specs.declared.TabulateAnswer.{TabulateAnswer}
+use Rattle.rewrites.specs.declared.TabulateAnswer.the-variants as tabulate
 
 -- the places lent to `rewrites_run`
 pub record RunPlaces : Type 0 where
@@ -29,3 +32,20 @@ pub record RunExported (t vs : List ℕ) (input budget r : ℕ) (o q : RunPlaces
   pub values : List ℕ
   pub answers : RunAnswers t vs input budget answer values
   pub returned : RunReturned answer values r o q
+
+-- the places lent to `rewrites_tabulate` beside the table
+pub record TabulatePlaces : Type 0 where
+  pub parts : ℕ
+  pub satisfied : ℕ
+  pub first : ℕ
+
+-- 0 is a result, which sets all three; any other number is the refusal, which keeps all three
+abbrev pub TabulateReturned : TabulateAnswer → ℕ → TabulatePlaces → TabulatePlaces → Type 0
+TabulateReturned (tabulate.Refused n) r o q = (r ≡ n) × (q ≡ o)
+TabulateReturned (tabulate.Filled m n k) r o q = (r ≡ 0) × (q ≡ record { parts = m; satisfied = n; first = k })
+
+-- the number and the places are those of the one answer of `tabulate`, which also says what the table holds
+pub record TabulateExported (t u old new : List ℕ) (r : ℕ) (o q : TabulatePlaces) : Type 0 where
+  pub answer : TabulateAnswer
+  pub answers : TabulateAnswers t u old new answer
+  pub returned : TabulateReturned answer r o q

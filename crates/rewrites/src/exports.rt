@@ -1,6 +1,7 @@
 // The calls for C and Rust hosts: include/rewrites.h declares them.
-ghost use Rattle.rewrites.specs.Exports.{RunExported};
+ghost use Rattle.rewrites.specs.Exports.{RunExported, TabulateExported};
 use crate::RunAnswer;
+use crate::TabulateAnswer;
 use machine::VALUES;
 
 #[no_mangle]
@@ -33,6 +34,29 @@ pub extern "C" fn rewrites_run(
             *ended = 0;
             *statement = n;
             *left = after;
+            0
+        }
+    }
+}
+
+#[no_mangle]
+pub extern "C" fn rewrites_tabulate(
+    program: &[u8],
+    condition: &[u8],
+    table: &mut [u64],
+    parts: &mut u32,
+    satisfied: &mut u32,
+    first: &mut u32,
+) -> u8
+    ensures { λ r. ⌜ TabulateExported (now (program .entry)) (now (condition .entry)) (now (table .entry)) (now (table .exit)) r (record { parts = now (parts .entry); satisfied = now (satisfied .entry); first = now (first .entry) }) (record { parts = now (parts .exit); satisfied = now (satisfied .exit); first = now (first .exit) }) ⌝ }
+{
+    let answer = crate::tabulate(program, condition, table);
+    match answer {
+        TabulateAnswer::Refused(number) => number,
+        TabulateAnswer::Filled(m, n, k) => {
+            *parts = m;
+            *satisfied = n;
+            *first = k;
             0
         }
     }

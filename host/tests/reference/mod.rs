@@ -1,5 +1,8 @@
 //! A second reader and interpreter, written from the description of the language alone, and a
-//! generator of programs.
+//! generator of programs. Each test file uses a part of it.
+#![allow(dead_code)]
+
+pub mod conditions;
 
 use rewrites::Outcome;
 

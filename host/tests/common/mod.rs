@@ -1,0 +1,58 @@
+//! What the tests share. Each test file uses a part of it.
+#![allow(dead_code)]
+
+use std::path::{Path, PathBuf};
+use std::process::Command;
+
+/// The program to check against.
+pub const P: &str = "\
+read i0
+i1 := i0
+i2 := 7
+i3 := i1 + i2
+if i0 goto 6 else 8
+i0 := i0 - 1
+if i0 goto 4 else 8
+write i3
+";
+
+/// The lines, each ended by byte 10.
+pub fn text<L: AsRef<str>>(lines: &[L]) -> Vec<u8> {
+    let mut text = Vec::new();
+    for line in lines {
+        text.extend_from_slice(line.as_ref().as_bytes());
+        text.push(10);
+    }
+    text
+}
+
+/// n good lines: `read`, as many `skip` as fit, `write`.
+pub fn lines(n: usize) -> Vec<String> {
+    let mut lines = vec!["skip".to_string(); n];
+    lines[0] = "read i0".to_string();
+    lines[n - 1] = "write i0".to_string();
+    lines
+}
+
+/// The start of a text, for a message.
+pub fn shown(text: &[u8]) -> String {
+    let end = text.len().min(200);
+    text[..end].escape_ascii().to_string()
+}
+
+/// Compiles a C program of this folder, links it to the library, and tells where it is.
+pub fn compiled(name: &str) -> PathBuf {
+    let package = Path::new(env!("CARGO_MANIFEST_DIR"));
+    let program = Path::new(env!("CARGO_TARGET_TMPDIR")).join(name);
+    let status = Command::new("cc")
+        .args(["-std=c99", "-Wall", "-Wextra", "-Wpedantic", "-Werror", "-pthread", "-o"])
+        .arg(&program)
+        .arg("-I")
+        .arg(package.join("../include"))
+        .arg(package.join("tests").join(name).with_extension("c"))
+        .arg(package.join("../target/staticlib/librewrites.a"))
+        .status()
+        .expect("cc runs");
+    assert!(status.success());
+    program
+}

@@ -1,0 +1,820 @@
+//! Executed cases of `tabulate`. Expected rows are worked out from the description of conditions,
+//! by hand or by the second implementation in `reference`.
+
+mod common;
+mod reference;
+
+use common::{lines, shown, text, P};
+use reference::conditions::{self as second, Table, Way};
+use reference::Random;
+use rewrites::{raw, tabulate, Refusal, Tabulated, TABLE_WORDS};
+
+const ALL: u64 = u64::MAX;
+
+// What is lent
+
+/// Words on either side of the lent table.
+const GUARD: usize = 8;
+
+/// The places lent to a raw call, with guards around them.
+#[derive(Clone, Debug, PartialEq)]
+struct Lent {
+    words: Vec<u64>,
+    places: [u32; 5],
+}
+
+fn unchanged(room: usize) -> Lent {
+    let words = (0..room + 2 * GUARD).map(|k| 0x9e37_79b9_7f4a_7c15 ^ k as u64).collect();
+    Lent { words, places: [0xeeee_0001, 0xeeee_0002, 0xeeee_0003, 0xeeee_0004, 0xeeee_0005] }
+}
+
+fn filled(room: usize, words: &[u64], satisfied: u32, first: u32) -> Lent {
+    let mut lent = unchanged(room);
+    lent.words[GUARD..GUARD + words.len()].copy_from_slice(words);
+    lent.places[1..4].copy_from_slice(&[words.len() as u32 / 4, satisfied, first]);
+    lent
+}
+
+/// The number that a raw call returns, and the lent places after it.
+fn lend(program: &[u8], condition: &[u8], room: usize) -> (u8, Lent) {
+    let mut lent = unchanged(room);
+    let (given, asked) = (program.to_vec(), condition.to_vec());
+    let table = &mut lent.words[GUARD..GUARD + room];
+    let [_, parts, satisfied, first, _] = &mut lent.places;
+    // SAFETY: the pointers come from references, and no two of the written places overlap.
+    let number = unsafe {
+        raw::rewrites_tabulate(
+            given.as_ptr(),
+            given.len(),
+            asked.as_ptr(),
+            asked.len(),
+            table.as_mut_ptr(),
+            table.len(),
+            parts,
+            satisfied,
+            first,
+        )
+    };
+    assert_eq!((&given[..], &asked[..]), (program, condition));
+    (number, lent)
+}
+
+/// The number of the refusal, which changes nothing that was lent, or 0.
+fn number(program: &[u8], condition: &[u8], room: usize) -> u8 {
+    let (number, lent) = lend(program, condition, room);
+    if number != 0 {
+        assert_eq!(lent, unchanged(room), "{}", shown(condition));
+    }
+    let safe = tabulate(program, condition, &mut vec![0; room]);
+    assert_eq!(safe.map_or_else(Refusal::number, |_| 0), number, "{}", shown(condition));
+    number
+}
+
+fn assert_number(condition: &[u8], expected: u8) {
+    assert_eq!(number(P.as_bytes(), condition, TABLE_WORDS), expected, "{}", shown(condition));
+}
+
+/// Each part's four words are these; the answer is that of the last part. All else is kept.
+fn assert_rows(program: &[u8], condition: &str, rows: &[[u64; 4]]) {
+    let whole = rows[rows.len() - 1];
+    let statements: Vec<usize> =
+        (0..256).filter(|s| whole[s / 64] >> (s % 64) & 1 == 1).map(|s| s + 1).collect();
+    let satisfied = statements.len() as u32;
+    let first = statements.first().map_or(0, |&s| s as u32);
+    for room in [TABLE_WORDS, TABLE_WORDS + 1, 1000] {
+        let expected = (0, filled(room, &rows.concat(), satisfied, first));
+        assert_eq!(lend(program, condition.as_bytes(), room), expected, "{}", condition);
+    }
+    let parts = rows.len() as u32;
+    let answer = tabulate(program, condition.as_bytes(), &mut [0; TABLE_WORDS]);
+    assert_eq!(answer, Ok(Tabulated { parts, satisfied, first }), "{}", condition);
+}
+
+/// The rows of a program of up to 64 statements: word 0 of each, the others being 0.
+fn assert_words(program: &[u8], condition: &str, words: &[u64]) {
+    let rows: Vec<[u64; 4]> = words.iter().map(|&word| [word, 0, 0, 0]).collect();
+    assert_rows(program, condition, &rows);
+}
+
+fn assert_on_p(cases: &[(&str, &[u64])]) {
+    for (condition, words) in cases {
+        assert_words(P.as_bytes(), condition, words);
+    }
+}
+
+// The starred cases. Statement n of P is worth 2 to the n - 1: 1, 2, 4, 8, 16, 32, 64, 128.
+// P goes 1 2 3 4 5, then 5 to 6 or 8, 6 to 7, 7 to 4 or 8, 8 to 8.
+// Backward 1 goes to itself, 2 to 1, 3 to 2, 4 to 3 or 7, 5 to 4, 6 to 5, 7 to 6, 8 to 5 or 7.
+
+#[test]
+fn i2_is_used_next_from_4_to_7_of_p() {
+    assert_on_p(&[("E[!def(i2) U use(i2)]", &[4, 251, 8, 120])]);
+    let answer = tabulate(P.as_bytes(), b"E[!def(i2) U use(i2)]", &mut [0; TABLE_WORDS]);
+    assert_eq!(answer, Ok(Tabulated { parts: 4, satisfied: 4, first: 4 }));
+}
+
+#[test]
+fn all_paths_of_p_come_to_its_exit_from_8_alone() {
+    assert_on_p(&[("A[true U exit]", &[255, 128, 128]), ("A[true W exit]", &[255, 128, 255])]);
+    let answer = tabulate(P.as_bytes(), b"A[true U exit]", &mut [0; TABLE_WORDS]);
+    assert_eq!(answer, Ok(Tabulated { parts: 3, satisfied: 1, first: 8 }));
+}
+
+#[test]
+fn steps_of_p_lead_to_its_exit_and_from_its_entry() {
+    assert_on_p(&[
+        ("EX exit", &[128, 208]),
+        ("AX exit", &[128, 128]),
+        // 1 has no predecessor, and steps back to itself.
+        ("EY entry", &[1, 3]),
+    ]);
+}
+
+#[test]
+fn paths_back_from_p_miss_the_definition_of_i2() {
+    assert_on_p(&[("AM !def(i2)", &[4, 251, 3]), ("EM !def(i2)", &[4, 251, 251])]);
+}
+
+// More of P
+
+#[test]
+fn atoms_of_p() {
+    assert_on_p(&[
+        ("true", &[255]),
+        ("false", &[0]),
+        ("entry", &[1]),
+        ("exit", &[128]),
+        ("node(1)", &[1]),
+        ("node(5)", &[16]),
+        ("node(8)", &[128]),
+        ("stmt(read i0)", &[1]),
+        ("stmt(i1 := i0)", &[2]),
+        ("stmt(i2 := 7)", &[4]),
+        ("stmt(i3 := i1 + i2)", &[8]),
+        ("stmt(if i0 goto 6 else 8)", &[16]),
+        ("stmt(write i3)", &[128]),
+        // `read i0` and `i0 := i0 - 1`.
+        ("def(i0)", &[1 + 32]),
+        ("def(i1)", &[2]),
+        ("def(i3)", &[8]),
+        // `i1 := i0`, both `if` and `i0 := i0 - 1`; what is read is not used.
+        ("use(i0)", &[2 + 16 + 32 + 64]),
+        ("use(i1)", &[8]),
+        ("use(i3)", &[128]),
+        ("trans(7)", &[255]),
+        ("trans(i0)", &[255 - 1 - 32]),
+        ("trans(i1 + i2)", &[255 - 2 - 4]),
+        ("trans(i2 * i2)", &[255 - 4]),
+        ("trans(5 < i3)", &[255 - 8]),
+    ]);
+}
+
+#[test]
+fn atoms_that_p_lacks_match_nothing() {
+    let nowhere = [
+        "node(0)",
+        "node(9)",
+        "node(300)",
+        "node(2147483647)",
+        "stmt(if i0 goto 300 else 0)",
+        "stmt(if i0 goto 8 else 6)",
+        "stmt(if i1 goto 6 else 8)",
+        "stmt(i3 := i2 + i1)",
+        "stmt(i3 := i1 - i2)",
+        "stmt(i3 := i1)",
+        "stmt(i2 := i7)",
+        "stmt(i2 := 8)",
+        "stmt(read i1)",
+        "stmt(write i0)",
+        "stmt(skip)",
+        "def(i9)",
+        "use(i31)",
+    ];
+    for atom in nowhere {
+        assert_words(P.as_bytes(), atom, &[0]);
+    }
+    // An expression need not occur in the program.
+    assert_words(P.as_bytes(), "trans(i9 * i10)", &[255]);
+}
+
+#[test]
+fn q_now_is_enough_for_u_and_s() {
+    assert_on_p(&[
+        ("E[false U use(i2)]", &[0, 8, 8]),
+        ("A[false U exit]", &[0, 128, 128]),
+        ("E[false S use(i2)]", &[0, 8, 8]),
+        ("A[false S entry]", &[0, 1, 1]),
+        ("E[false W exit]", &[0, 128, 128]),
+        ("A[false B entry]", &[0, 1, 1]),
+    ]);
+}
+
+#[test]
+fn every_statement_has_a_step_each_way() {
+    assert_on_p(&[
+        ("AY false", &[0, 0]),
+        ("AX false", &[0, 0]),
+        ("EY true", &[255, 255]),
+        ("EX true", &[255, 255]),
+        // The self-step of `write` is not counted backward.
+        ("EY exit", &[128, 0]),
+        ("ER exit", &[128, 128]),
+    ]);
+}
+
+#[test]
+fn paths_back_from_the_loop_may_go_round_it() {
+    assert_on_p(&[
+        // From 4 on a path may go 4 7 6 5 4 for ever.
+        ("AR entry", &[1, 7]),
+        ("ER entry", &[1, 255]),
+        ("AR def(i2)", &[4, 4]),
+        ("ER def(i2)", &[4, 252]),
+        ("EM !entry", &[1, 254, 248]),
+        ("AM !entry", &[1, 254, 0]),
+    ]);
+}
+
+#[test]
+fn paths_on_may_go_round_the_loop() {
+    assert_on_p(&[
+        ("AF exit", &[128, 128]),
+        ("EF exit", &[128, 255]),
+        ("EG !exit", &[128, 127, 127]),
+        ("AG !exit", &[128, 127, 0]),
+        ("AG exit", &[128, 128]),
+        // 1, 2 and 3 come to 4; 5 and 7 may go to 8 instead.
+        ("AF use(i2)", &[8, 15]),
+        ("EF use(i2)", &[8, 127]),
+        // 1 and 2 come to 3, the others don't.
+        ("EG !def(i2)", &[4, 251, 248]),
+        ("AG !def(i2)", &[4, 251, 248]),
+        ("EF def(i2)", &[4, 7]),
+    ]);
+}
+
+#[test]
+fn steps_of_p_lead_to_and_from_uses_of_i0() {
+    // Uses stand at 2, 5, 6 and 7.
+    assert_on_p(&[
+        // 1 goes to 2, 4 to 5, 5 to 6, 6 to 7.
+        ("EX use(i0)", &[114, 1 + 8 + 16 + 32]),
+        // 5 may go to 8.
+        ("AX use(i0)", &[114, 1 + 8 + 32]),
+        // 3 is gone to from 2, 6 from 5, 8 from 5 and 7, 7 from 6, 4 from 7.
+        ("EY use(i0)", &[114, 4 + 32 + 128 + 64 + 8]),
+        // 4 is gone to from 3 as well.
+        ("AY use(i0)", &[114, 4 + 32 + 128 + 64]),
+    ]);
+}
+
+#[test]
+fn u_asks_for_q_and_w_does_not() {
+    // i0 is used at 2, 5, 6 and 7; 3 and 4 come to 5 without a definition. 1 defines it, and 8 has
+    // neither a definition nor a use.
+    assert_on_p(&[
+        ("A[trans(i0) U use(i0)]", &[222, 114, 126]),
+        ("E[trans(i0) U use(i0)]", &[222, 114, 126]),
+        ("A[trans(i0) W use(i0)]", &[222, 114, 254]),
+        ("E[trans(i0) W use(i0)]", &[222, 114, 254]),
+        // No exit at all places: on the loop, and on the way to it.
+        ("E[!exit W false]", &[128, 127, 0, 127]),
+        ("A[!exit W false]", &[128, 127, 0, 0]),
+        ("E[!exit U false]", &[128, 127, 0, 0]),
+    ]);
+}
+
+#[test]
+fn s_asks_for_q_and_b_does_not() {
+    assert_on_p(&[
+        // From 4 to 8 a path may go round the loop, or come to 3; 2 comes to 1.
+        ("A[!entry S def(i2)]", &[1, 254, 4, 4]),
+        ("A[!entry B def(i2)]", &[1, 254, 4, 252]),
+        ("E[!entry S def(i2)]", &[1, 254, 4, 252]),
+        ("E[!entry B def(i2)]", &[1, 254, 4, 252]),
+        // i0 is defined at 1 and 6. 3 is no def(i0) and not !def(i2); 4, 5 and 8 may come to 3
+        // first, or to 6 first.
+        ("A[!def(i2) S def(i0)]", &[4, 251, 33, 1 + 2 + 32 + 64]),
+        ("A[!def(i2) B def(i0)]", &[4, 251, 33, 1 + 2 + 32 + 64]),
+        ("E[!def(i2) S def(i0)]", &[4, 251, 33, 251]),
+        ("E[!def(i2) B def(i0)]", &[4, 251, 33, 251]),
+    ]);
+}
+
+#[test]
+fn conditions_of_marks_on_p() {
+    assert_on_p(&[
+        // To drop `i2 := 7` at 3. Used next from 4 to 7, to which 3 to 7 go; 1, 2 and 8 are left.
+        ("!EX E[!def(i2) U use(i2)]", &[4, 251, 8, 120, 124, 131]),
+        // To carry 7 to 4. All but 1 and 3 may lie between. 3 to 8 come back to 3, or go round the
+        // loop, and one step on are 4 to 8.
+        (
+            "AY A[((!def(i2) & trans(7)) & !entry) B stmt(i2 := 7)]",
+            &[4, 251, 255, 251, 1, 254, 250, 4, 252, 248],
+        ),
+        // To carry i0 to 4, for i1. Paths back from 4 to 8 may come to 6, which changes i0. So 2
+        // and 3 alone come back to 2, and one step on is 3.
+        (
+            "AY A[((!def(i1) & trans(i0)) & !entry) B stmt(i1 := i0)]",
+            &[2, 253, 222, 220, 1, 254, 220, 2, 6, 4],
+        ),
+    ]);
+}
+
+#[test]
+fn operators_are_nested() {
+    assert_on_p(&[
+        ("(def(i2) | use(i2))", &[4, 8, 12]),
+        ("(use(i0) & def(i0))", &[114, 33, 32]),
+        ("!!!true", &[255, 0, 255, 0]),
+        // To 5 goes 4, to 7 goes 6, to 8 go 5, 7 and 8.
+        ("EX EX exit", &[128, 208, 8 + 32 + 16 + 64 + 128]),
+        ("AX AX exit", &[128, 128, 128]),
+        // Back to 1 go 1 and 2, to 2 goes 3.
+        ("EY EY entry", &[1, 3, 7]),
+        ("AG EF exit", &[128, 255, 255]),
+        ("EF AG exit", &[128, 128, 255]),
+        // Round the loop no exit is met, and all of 1 to 7 lead there.
+        ("AF EG !exit", &[128, 127, 127, 127]),
+        ("((entry | exit) | (node(3) & !node(3)))", &[1, 128, 129, 4, 4, 251, 0, 129]),
+        // On to 4 from 3 and 4. Back to one of these from 3 to 8.
+        ("E[A[true B def(i2)] S E[def(i2) U use(i2)]]", &[255, 4, 255, 4, 8, 12, 252]),
+    ]);
+}
+
+#[test]
+fn each_occurrence_is_a_part() {
+    assert_on_p(&[
+        ("(exit & exit)", &[128, 128, 128]),
+        ("(EX exit | EX exit)", &[128, 208, 128, 208, 208]),
+    ]);
+}
+
+// Other programs
+
+#[test]
+fn a_program_of_two_statements() {
+    let program = text(&["read i0", "write i0"]);
+    let cases: [(&str, &[u64]); 13] = [
+        ("true", &[3]),
+        ("!false", &[0, 3]),
+        ("!true", &[3, 0]),
+        ("entry", &[1]),
+        ("exit", &[2]),
+        ("EX exit", &[2, 3]),
+        ("AX entry", &[1, 0]),
+        ("AY entry", &[1, 3]),
+        ("EY exit", &[2, 0]),
+        ("AF exit", &[2, 3]),
+        ("AR entry", &[1, 3]),
+        ("EG !exit", &[2, 1, 0]),
+        ("AM true", &[3, 3]),
+    ];
+    for (condition, words) in cases {
+        assert_words(&program, condition, words);
+    }
+}
+
+#[test]
+fn an_if_may_step_to_itself() {
+    let program = text(&["read i0", "if i0 goto 2 else 3", "write i0"]);
+    let cases: [(&str, &[u64]); 11] = [
+        ("AF exit", &[4, 4]),
+        ("EF exit", &[4, 7]),
+        ("EG node(2)", &[2, 2]),
+        ("AG node(2)", &[2, 0]),
+        // It is its own predecessor, beside 1.
+        ("EY node(2)", &[2, 6]),
+        ("AY node(2)", &[2, 4]),
+        ("EM node(2)", &[2, 2]),
+        ("AM node(2)", &[2, 0]),
+        ("ER entry", &[1, 7]),
+        ("AR entry", &[1, 1]),
+        ("A[!entry B false]", &[1, 6, 0, 0]),
+    ];
+    for (condition, words) in cases {
+        assert_words(&program, condition, words);
+    }
+}
+
+#[test]
+fn a_write_that_nothing_steps_to_steps_back_to_itself() {
+    let program = text(&["read i0", "if i0 goto 2 else 2", "write i0"]);
+    let cases: [(&str, &[u64]); 8] = [
+        ("EY exit", &[4, 4]),
+        ("AY exit", &[4, 4]),
+        ("AM exit", &[4, 4]),
+        ("ER entry", &[1, 3]),
+        // Back from 2 a path may stay at 2.
+        ("AR entry", &[1, 1]),
+        ("EF exit", &[4, 4]),
+        ("AG !exit", &[4, 3, 3]),
+        ("EY node(2)", &[2, 2]),
+    ];
+    for (condition, words) in cases {
+        assert_words(&program, condition, words);
+    }
+}
+
+#[test]
+fn unreachable_statements_count_as_predecessors() {
+    // 3 is gone to from nowhere, and goes to 4.
+    let program = text(&["read i0", "if i0 goto 4 else 4", "i1 := 3", "write i1"]);
+    let cases: [(&str, &[u64]); 7] = [
+        ("EY def(i1)", &[4, 4 + 8]),
+        ("AY def(i1)", &[4, 4]),
+        ("AM def(i1)", &[4, 4]),
+        ("ER entry", &[1, 1 + 2 + 8]),
+        ("AR entry", &[1, 1 + 2]),
+        ("EF def(i1)", &[4, 4]),
+        ("AF exit", &[8, 15]),
+    ];
+    for (condition, words) in cases {
+        assert_words(&program, condition, words);
+    }
+}
+
+#[test]
+fn an_unreachable_definition_stops_a_copy() {
+    // 4 is unreachable, defines i1, and goes to 5, so the copy of 2 isn't carried there.
+    // Back: 3 to 2, 4 to 4, 5 to 3 or 4, 6 to 5.
+    let program =
+        text(&["read i0", "i1 := i0", "if i0 goto 5 else 5", "i1 := 3", "i2 := i1", "write i2"]);
+    let condition = "AY A[((!def(i1) & trans(i0)) & !entry) B stmt(i1 := i0)]";
+    // def 2 and 4; trans but 1; between 3, 5, 6; the copy 2; back to it 2 and 3; a step on 3.
+    assert_words(&program, condition, &[10, 53, 62, 52, 1, 62, 52, 2, 6, 4]);
+}
+
+#[test]
+fn bits_beyond_the_statements_are_0() {
+    let last = |n: usize, word: u64| -> [u64; 4] {
+        let mut row = [0; 4];
+        row[(n - 1) / 64] = word;
+        row
+    };
+    // n, and the row of all statements.
+    let programs = [
+        (2, [3, 0, 0, 0]),
+        (63, [ALL >> 1, 0, 0, 0]),
+        (64, [ALL, 0, 0, 0]),
+        (65, [ALL, 1, 0, 0]),
+        (128, [ALL, ALL, 0, 0]),
+        (129, [ALL, ALL, 1, 0]),
+        (192, [ALL, ALL, ALL, 0]),
+        (193, [ALL, ALL, ALL, 1]),
+        (255, [ALL, ALL, ALL, ALL >> 1]),
+        (256, [ALL; 4]),
+    ];
+    for (n, all) in programs {
+        let program = text(&lines(n));
+        let none = [0; 4];
+        let exit = last(n, 1 << ((n - 1) % 64));
+        let others = [0, 1, 2, 3].map(|w| all[w] ^ exit[w]);
+        assert_rows(&program, "true", &[all]);
+        assert_rows(&program, "false", &[none]);
+        assert_rows(&program, "exit", &[exit]);
+        assert_rows(&program, &format!("node({})", n), &[exit]);
+        assert_rows(&program, &format!("node({})", n + 1), &[none]);
+        assert_rows(&program, "!false", &[none, all]);
+        assert_rows(&program, "!!true", &[all, none, all]);
+        assert_rows(&program, "!exit", &[exit, others]);
+        assert_rows(&program, "!EX false", &[none, none, all]);
+        // There is one path from each statement, to the end, and one back, to the start.
+        assert_rows(&program, "AF exit", &[exit, all]);
+        assert_rows(&program, "AR entry", &[[1, 0, 0, 0], all]);
+        assert_rows(&program, "EG true", &[all, all]);
+        assert_rows(&program, "AM true", &[all, all]);
+        assert_rows(&program, "AG false", &[none, none]);
+        assert_rows(&program, "E[false W false]", &[none, none, none]);
+        assert_rows(&program, "A[true B false]", &[all, none, all]);
+        assert_rows(&program, "EG !exit", &[exit, others, none]);
+    }
+}
+
+#[test]
+fn a_straight_program_of_256_statements() {
+    let program = text(&lines(256));
+    // 64 is bit 63 of word 0, 65 bit 0 of word 1.
+    let answer = |condition: &str| tabulate(&program, condition.as_bytes(), &mut [0; 256]);
+    assert_rows(&program, "ER node(64)", &[[1 << 63, 0, 0, 0], [1 << 63, ALL, ALL, ALL]]);
+    assert_eq!(answer("ER node(64)"), Ok(Tabulated { parts: 2, satisfied: 193, first: 64 }));
+    assert_rows(&program, "AF node(65)", &[[0, 1, 0, 0], [ALL, 1, 0, 0]]);
+    assert_eq!(answer("AF node(65)"), Ok(Tabulated { parts: 2, satisfied: 65, first: 1 }));
+    assert_rows(&program, "EX node(129)", &[[0, 0, 1, 0], [0, 1 << 63, 0, 0]]);
+    assert_eq!(answer("EX node(129)"), Ok(Tabulated { parts: 2, satisfied: 1, first: 128 }));
+    assert_rows(&program, "AY node(192)", &[[0, 0, 1 << 63, 0], [0, 0, 0, 1]]);
+    assert_eq!(answer("AY node(192)"), Ok(Tabulated { parts: 2, satisfied: 1, first: 193 }));
+    assert_eq!(answer("stmt(skip)"), Ok(Tabulated { parts: 1, satisfied: 254, first: 2 }));
+    assert_eq!(answer("EX entry"), Ok(Tabulated { parts: 2, satisfied: 0, first: 0 }));
+}
+
+// Parts, lengths and spelling
+
+/// `true` after so many `!`.
+fn negations(n: usize) -> String {
+    "!".repeat(n) + "true"
+}
+
+#[test]
+fn parts_1_to_64_are_taken_and_65_refused_8() {
+    for n in 0..64 {
+        let words: Vec<u64> = (0..=n).map(|k| if k % 2 == 0 { 255 } else { 0 }).collect();
+        assert_words(P.as_bytes(), &negations(n), &words);
+    }
+    assert_number(negations(64).as_bytes(), 8);
+    assert_number(negations(1020).as_bytes(), 8);
+    // 32 atoms and 31 operators between them; one operator more; one more.
+    let tree = "(".repeat(31) + "exit" + &" | exit)".repeat(31);
+    assert_words(P.as_bytes(), &tree, &[128; 63]);
+    assert_words(P.as_bytes(), &format!("EG {}", tree), &[128; 64]);
+    assert_number(format!("AG EG {}", tree).as_bytes(), 8);
+    assert_number(format!("({} | exit)", tree).as_bytes(), 8);
+    // The same with brackets of paths: back from 8 to 1 and 1.
+    let tree = "E[true S ".repeat(31) + "entry" + &"]".repeat(31);
+    let words: Vec<u64> = [[255; 31].as_slice(), &[1], &[255; 31]].concat();
+    assert_words(P.as_bytes(), &tree, &words);
+    assert_number(format!("!!{}", tree).as_bytes(), 8);
+}
+
+#[test]
+fn a_condition_is_read_to_its_end_before_its_parts_are_counted() {
+    for rubbish in ["x", " ", "!", ")", "]", "\n", "true"] {
+        assert_number((negations(64) + rubbish).as_bytes(), 7);
+        assert_number((negations(63) + rubbish).as_bytes(), 7);
+        assert_number((negations(900) + rubbish).as_bytes(), 7);
+    }
+    assert_number("!".repeat(65).as_bytes(), 7);
+    assert_number("!".repeat(1024).as_bytes(), 7);
+    assert_number("E[".repeat(512).as_bytes(), 7);
+    assert_number("(".repeat(1024).as_bytes(), 7);
+}
+
+#[test]
+fn bytes_up_to_1024_are_taken_and_1025_refused_6() {
+    // No atom is true anywhere in P. 25 of 36 bytes and 24 operators of 5: 1,020 bytes, 49 parts.
+    let atom = "stmt(i31 := 2147483647 + 2147483647)";
+    let tree = "(".repeat(24) + atom + &format!(" & {})", atom).repeat(24);
+    assert_eq!(tree.len(), 1020);
+    assert_words(P.as_bytes(), &tree, &[0; 49]);
+    for n in 1..=4 {
+        let signs: Vec<u64> = (0..n).map(|k| if k % 2 == 0 { 255 } else { 0 }).collect();
+        let condition = "!".repeat(n) + &tree;
+        assert_words(P.as_bytes(), &condition, &[vec![0; 49], signs].concat());
+    }
+    assert_number(("!!!!!".to_string() + &tree).as_bytes(), 6);
+    // Whatever it holds.
+    assert_number(negations(1020).as_bytes(), 8);
+    assert_number(negations(1021).as_bytes(), 6);
+    for byte in [0, 10, b'!', b'(', b'x', 255] {
+        assert_number(&[byte; 1024], 7);
+        assert_number(&[byte; 1025], 6);
+        assert_number(&[byte; 100_000], 6);
+    }
+}
+
+#[rustfmt::skip]
+const MISSPELLED: &[&str] = &[
+    "", " ", "\n", "x", "(", ")", "!", "()", "(true)", "((true & true))", "!(true)", "! true",
+    "true ", " true", "true\n", "\ntrue", "true\0", "truetrue", "TRUE", "tru", "fals", "Entry",
+    "true & true", "(true & true", "(true &true)", "(true& true)", "(true  & true)",
+    "(true & true )", "( true & true)", "(true && true)", "(true ^ true)", "(true & true))",
+    "(true & true & true)", "(true -> true)", "(true U true)", "EX", "EX ", "EXtrue", "EX  true",
+    "EX(true & true)", "EX !", "EU true", "EW true", "ES true", "EB true", "EE true", "AA true",
+    "EZ true", "E true", "E X true", "ex true", "eX true", "X true", "E[true X true]",
+    "E[true R true]", "E[true F true]", "E[true u true]", "E[trueU true]", "E[true U true",
+    "E[true U]", "E[true]", "E[]", "E[true U true)", "E [true U true]", "E[ true U true]",
+    "E[true  U true]", "E[true U true ]", "E[true U true]]", "E(true U true)", "[true U true]",
+    "E[true U true U true]", "E[(true) U true]", "E[true & true]", "X[true U true]", "node",
+    "node()", "node(", "node(1", "node(01)", "node(-1)", "node(+1)", "node(i1)", "node( 1)",
+    "node(1 )", "node (1)", "node(2147483648)", "node(99999999999999999999)", "def()", "def(0)",
+    "def(i32)", "def(i00)", "def(i01)", "def(i1", "def(i 1)", "use(7)", "use(i)", "use(i1 )",
+    "use(I1)", "stmt()", "stmt(", "stmt", "stmt(skip", "stmt(skip )", "stmt(skip\n)", "stmt( skip)",
+    "stmt(i0:=1)", "stmt(i0 := )", "stmt(i0 := -1)", "stmt(i0 := 1 / 2)", "stmt(i0 := 1 + 2 + 3)",
+    "stmt(i0 := 2147483648)", "stmt(1 := i0)", "stmt(if i0 goto 1)", "stmt(if 1 goto 2 else 3)",
+    "stmt(true)", "stmt(if i0 goto 2 else 2147483648)", "stmt(read 1)", "stmt(write)", "trans()",
+    "trans(i0 := 1)", "trans(true)", "trans(i0+i1)", "trans(i0 +)", "trans(i0 & i1)",
+    "trans(i0 + i1 + i2)", "trans(i32)", "trans(skip)", "entry()", "exit(1)", "true()",
+];
+
+#[test]
+fn misspelled_conditions_are_refused_7() {
+    for condition in MISSPELLED {
+        assert_number(condition.as_bytes(), 7);
+    }
+    for byte in 0..=255 {
+        // No byte may follow, and only the letters of the operators may stand second.
+        assert_number(&[b't', b'r', b'u', b'e', byte], 7);
+        let known = b"XFGYRM".contains(&byte);
+        assert_number(&[b'E', byte, b' ', b't', b'r', b'u', b'e'], if known { 0 } else { 7 });
+        let known = b"UWSB".contains(&byte);
+        let bracket = [b"A[true ".as_slice(), &[byte], b" true]"].concat();
+        assert_number(&bracket, if known { 0 } else { 7 });
+    }
+}
+
+#[test]
+fn a_prefix_or_a_condition_and_a_byte_is_misspelled() {
+    let conditions = [
+        "E[!def(i2) U use(i2)]",
+        "AY A[((!def(i2) & trans(7)) & !entry) B stmt(i2 := 7)]",
+        "(EX exit | AM !stmt(if i0 goto 300 else 0))",
+    ];
+    for condition in conditions {
+        assert_number(condition.as_bytes(), 0);
+        for end in 0..condition.len() {
+            assert_number(&condition.as_bytes()[..end], 7);
+        }
+        for byte in 0..=255 {
+            assert_number(&[condition.as_bytes(), &[byte]].concat(), 7);
+        }
+    }
+}
+
+// The order of refusals, and what they keep
+
+#[test]
+fn a_table_under_256_words_is_refused_1() {
+    for room in [0, 1, 4, 128, 255] {
+        assert_eq!(number(P.as_bytes(), b"exit", room), 1);
+    }
+    for room in [256, 257, 1000] {
+        assert_eq!(number(P.as_bytes(), b"exit", room), 0);
+    }
+}
+
+/// Programs that are refused 2 to 5.
+fn refused_programs() -> Vec<(Vec<u8>, u8)> {
+    vec![
+        (b"rubbish".to_vec(), 2),
+        (P.as_bytes()[..P.len() - 1].to_vec(), 2),
+        (b"\n".to_vec(), 2),
+        (Vec::new(), 3),
+        (text(&["read i0"]), 3),
+        (text(&lines(257)), 3),
+        (text(&["read i0", "skip"]), 4),
+        (text(&["read i0", "if i0 goto 1 else 2", "write i0"]), 5),
+    ]
+}
+
+/// Conditions that are refused 6 to 8.
+fn refused_conditions() -> Vec<(Vec<u8>, u8)> {
+    vec![
+        (negations(1021).into_bytes(), 6),
+        (vec![b'x'; 1025], 6),
+        (Vec::new(), 7),
+        (b"(true)".to_vec(), 7),
+        ((negations(64) + "x").into_bytes(), 7),
+        (negations(64).into_bytes(), 8),
+    ]
+}
+
+#[test]
+fn refusals_come_in_order_and_change_nothing_lent() {
+    let good = (b"exit".to_vec(), 0);
+    let conditions = [vec![good], refused_conditions()].concat();
+    for (condition, of_condition) in &conditions {
+        assert_number(condition, *of_condition);
+        assert_eq!(number(P.as_bytes(), condition, 255), 1);
+        for (program, of_program) in refused_programs() {
+            assert_eq!(number(&program, condition, TABLE_WORDS), of_program);
+            assert_eq!(number(&program, condition, 255), 1);
+            assert_eq!(number(&program, condition, 0), 1);
+        }
+    }
+}
+
+#[test]
+fn a_second_call_keeps_what_the_first_filled_beyond_its_parts() {
+    let mut table = vec![7; 300];
+    let longer = b"E[!def(i2) U use(i2)]";
+    let answer = tabulate(P.as_bytes(), longer, &mut table);
+    assert_eq!(answer, Ok(Tabulated { parts: 4, satisfied: 4, first: 4 }));
+    assert_eq!(table[..16], [4, 0, 0, 0, 251, 0, 0, 0, 8, 0, 0, 0, 120, 0, 0, 0]);
+    assert_eq!(table[16..], [7; 284]);
+    let answer = tabulate(P.as_bytes(), b"EX exit", &mut table);
+    assert_eq!(answer, Ok(Tabulated { parts: 2, satisfied: 3, first: 5 }));
+    assert_eq!(table[..16], [128, 0, 0, 0, 208, 0, 0, 0, 8, 0, 0, 0, 120, 0, 0, 0]);
+    assert_eq!(table[16..], [7; 284]);
+    assert_eq!(tabulate(P.as_bytes(), b"EX", &mut table), Err(Refusal::ConditionMisspelled));
+    assert_eq!(table[..8], [128, 0, 0, 0, 208, 0, 0, 0]);
+}
+
+// Against the reference
+
+/// Holds the library to the reference, with the whole table, and tells the number of its answer.
+fn agrees(program: &[u8], condition: &[u8], room: usize, way: Way) -> u8 {
+    let expected = match second::tabulate(program, condition, room, way) {
+        Err(number) => (number, unchanged(room)),
+        Ok(Table { words, parts, satisfied, first }) => {
+            assert_eq!(words.len(), 4 * parts as usize);
+            (0, filled(room, &words, satisfied, first))
+        }
+    };
+    let answer = lend(program, condition, room);
+    let texts = || format!("{} {}", shown(program), String::from_utf8_lossy(condition));
+    assert_eq!(answer, expected, "{:?} {}", way, texts());
+    answer.0
+}
+
+const OPERATORS: [&str; 12] =
+    ["EX", "AX", "EF", "AF", "EG", "AG", "EY", "AY", "ER", "AR", "EM", "AM"];
+
+#[test]
+fn every_operator_over_atoms_of_p_is_as_by_the_reference() {
+    let atoms = ["true", "false", "entry", "exit", "node(4)", "def(i0)", "use(i0)", "trans(i1)"];
+    for way in [Way::Paths, Way::Search] {
+        for p in atoms {
+            for operator in OPERATORS {
+                let condition = format!("{} {}", operator, p);
+                assert_eq!(agrees(P.as_bytes(), condition.as_bytes(), 256, way), 0);
+            }
+            for q in atoms {
+                for letter in ["U", "W", "S", "B"] {
+                    for quantifier in ["E", "A"] {
+                        let condition = format!("{}[{} {} !{}]", quantifier, p, letter, q);
+                        assert_eq!(agrees(P.as_bytes(), condition.as_bytes(), 256, way), 0);
+                    }
+                }
+            }
+        }
+    }
+}
+
+#[test]
+fn random_conditions_on_small_programs_are_as_by_every_path() {
+    let mut random = Random(0x6a09_e667_f3bc_c908);
+    for _ in 0..4000 {
+        let n = 2 + random.below(6);
+        let lines = random.program(n);
+        let parts = 1 + random.below(12);
+        let condition = random.condition(parts, &lines);
+        let number = agrees(&text(&lines), condition.as_bytes(), 256, Way::Paths);
+        assert_eq!(number, 0, "{}", condition);
+    }
+}
+
+#[test]
+fn random_conditions_are_as_by_the_reference() {
+    let mut random = Random(0xbb67_ae85_84ca_a73b);
+    for _ in 0..4000 {
+        let n = 2 + random.below(20);
+        let lines = random.program(n);
+        let parts = 1 + random.below(20);
+        let condition = random.condition(parts, &lines);
+        let room = 256 + random.below(3);
+        let number = agrees(&text(&lines), condition.as_bytes(), room, Way::Search);
+        assert_eq!(number, 0, "{}", condition);
+    }
+}
+
+#[test]
+fn random_conditions_on_programs_of_up_to_256_lines_are_as_by_the_reference() {
+    let mut random = Random(0x3c6e_f372_fe94_f82b);
+    let mut taken = 0;
+    for round in 0..200 {
+        let n = if round % 3 == 0 { 256 } else { 2 + random.below(255) };
+        let lines = random.program(n);
+        let parts = 1 + random.below(66);
+        let condition = random.condition(parts, &lines);
+        let number = agrees(&text(&lines), condition.as_bytes(), 256, Way::Search);
+        taken += u32::from(number == 0);
+    }
+    assert!(taken > 150, "{}", taken);
+}
+
+#[test]
+fn random_damaged_conditions_are_answered_as_by_the_reference() {
+    let mut random = Random(0xa54f_f53a_5f1d_36f1);
+    let mut numbers = [0; 16];
+    for _ in 0..20_000 {
+        let n = 2 + random.below(4);
+        let lines = random.program(n);
+        let parts = match random.below(16) {
+            0 | 1 => 64 + random.below(2),
+            2 => 64 + random.below(200),
+            _ => 1 + random.below(8),
+        };
+        let mut condition = random.condition(parts, &lines).into_bytes();
+        for _ in 0..random.below(3) {
+            let at = random.below(condition.len() + 1);
+            let byte = match random.below(3) {
+                0 => random.next() as u8,
+                _ => b"!()[]&|EAXFGYRMUWSB trueindfs0123456789:=+-*<\n"[random.below(46)],
+            };
+            match random.below(3) {
+                0 => condition.insert(at, byte),
+                1 if at < condition.len() => condition[at] = byte,
+                _ if at < condition.len() => drop(condition.remove(at)),
+                _ => {}
+            }
+        }
+        let room = if random.below(16) == 0 { random.below(256) } else { 256 };
+        let mut program = text(&lines);
+        if random.below(16) == 0 {
+            program.remove(random.below(program.len()));
+        }
+        numbers[usize::from(agrees(&program, &condition, room, Way::Search))] += 1;
+    }
+    // Each of 1, 2, 6, 7 and 8, and conditions that are taken, came up often.
+    assert!([0, 1, 2, 6, 7, 8].iter().all(|&k| numbers[k] > 100), "{:?}", numbers);
+}

@@ -1,0 +1,99 @@
+/* Prints how many bytes of stack the deepest calls take. Each runs in a thread whose stack was filled
+   with a pattern before; what the thread alone overwrites is not counted. Exits with 0 where none
+   takes more than the bytes given as argument. */
+#define _POSIX_C_SOURCE 200112L
+#include "rewrites.h"
+
+#include <pthread.h>
+#include <stdio.h>
+#include <stdlib.h>
+#include <string.h>
+
+#define ROOM ((size_t)4 << 20)
+#define PATTERN 0xa5
+
+static uint8_t program[8192], condition[1024];
+static size_t program_len, condition_len;
+static uint8_t number;
+
+static void *nothing(void *unused) { return unused; }
+
+static void *run(void *unused) {
+    static uint32_t values[32], ended, steps, statement, left[32];
+    static int32_t value;
+    number = rewrites_run(program, program_len, values, 0, 1000, &ended, &value, &steps, &statement,
+                          left);
+    return unused;
+}
+
+static void *tabulate(void *unused) {
+    static uint64_t table[256];
+    static uint32_t parts, satisfied, first;
+    number = rewrites_tabulate(program, program_len, condition, condition_len, table, 256, &parts,
+                               &satisfied, &first);
+    return unused;
+}
+
+/* The bytes of its stack that a thread overwrites. */
+static size_t overwritten(void *(*body)(void *)) {
+    pthread_attr_t attributes;
+    pthread_t thread;
+    void *stack;
+    size_t k = 0;
+
+    if (posix_memalign(&stack, 4096, ROOM)) exit(2);
+    memset(stack, PATTERN, ROOM);
+    if (pthread_attr_init(&attributes)) exit(2);
+    if (pthread_attr_setstack(&attributes, stack, ROOM)) exit(2);
+    if (pthread_create(&thread, &attributes, body, NULL)) exit(2);
+    if (pthread_join(thread, NULL)) exit(2);
+    while (k < ROOM && ((uint8_t *)stack)[k] == PATTERN) k++;
+    free(stack);
+    return ROOM - k;
+}
+
+/* Puts a word into the condition so many times. */
+static void put(const char *word, int times) {
+    size_t length = strlen(word);
+    while (times-- > 0) {
+        memcpy(condition + condition_len, word, length);
+        condition_len += length;
+    }
+}
+
+int main(int count, char **arguments) {
+    static const struct {
+        const char *open, *middle, *close;
+        int depth, number;
+    } cases[] = {
+        {"", "true", "", 0, 0},      {"!", "true", "", 63, 0},    {"AG ", "exit", "", 63, 0},
+        {"E[true U ", "exit", "]", 31, 0}, {"(", "exit", " | exit)", 31, 0},
+        {"EX ", "true", "", 340, 8}, {"!", "true", "", 1020, 8},  {"E[", "", "", 512, 7},
+        {"(", "true", "", 1020, 7},  {"(", "", "", 1024, 7},
+    };
+    size_t most = count > 1 ? strtoul(arguments[1], NULL, 10) : ROOM;
+    size_t alone = overwritten(nothing), bytes, k;
+    int fails = 0, line;
+
+    /* 256 lines: each goes to the line before. */
+    program_len = sprintf((char *)program, "read i31\n");
+    for (line = 2; line < 256; line++)
+        program_len += sprintf((char *)program + program_len, "if i31 goto %d else 256\n",
+                               line > 2 ? line - 1 : 255);
+    program_len += sprintf((char *)program + program_len, "write i31\n");
+
+    bytes = overwritten(run) - alone;
+    printf("%7lu bytes of stack: run\n", (unsigned long)bytes);
+    fails += number != 0 || bytes > most;
+    for (k = 0; k < sizeof cases / sizeof *cases; k++) {
+        condition_len = 0;
+        put(cases[k].open, cases[k].depth);
+        put(cases[k].middle, 1);
+        put(cases[k].close, cases[k].depth);
+        bytes = overwritten(tabulate) - alone;
+        printf("%7lu bytes of stack: tabulate, %4d of '%s', then '%s': %d\n", (unsigned long)bytes,
+               cases[k].depth, cases[k].open, cases[k].middle, number);
+        fails += number != cases[k].number || bytes > most;
+    }
+    return fails > 0;
+}
