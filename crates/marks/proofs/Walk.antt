@@ -29,9 +29,14 @@ line-ends {t = t} {at = at} {m = m} {k = k} l =
     let e : length t - at ≡ length (spellMark m) + suc (length t - k) = simp (length-append, length-drop) at (ap length (l .stands)) in
     omega (arith, l .within)
 
--- the position after a line is further on
-pub line-further : (t : List ℕ) (at : ℕ) {r : MarkRead} {m : Mark} {k : ℕ} → r ≡ Found m k → MarkLineRead t at r → length t - k < length t - at
-line-further t at {m = m} {k = k} is l = let q : LineOf t at m k = rw is at l in omega (arith, line-ends q, q .within)
+-- what was found at a position
+module _ (t : List ℕ) (at : ℕ) {r : MarkRead} {m : Mark} {k : ℕ} (is : r ≡ Found m k) (l : MarkLineRead t at r) where
+  pub line-of : LineOf t at m k
+  line-of = rw is at l
+
+  -- ends further on
+  pub line-further : length t - k < length t - at
+  line-further = omega (arith, line-ends line-of, line-of .within)
 
 -- line j of the list ms, counted from 0, begins at `at` of the text t; after the last line, j is the number of lines
 pub record Begins (t : List ℕ) (ms : List Mark) (j at : ℕ) : Type 0 where
@@ -96,18 +101,18 @@ module _ {t : List ℕ} {ms : List Mark} {j at : ℕ} (b : Begins t ms j at) whe
   -- and what is found there is that line
   module _ {r : MarkRead} {m : Mark} {k : ℕ} (is : r ≡ Found m k) (l : MarkLineRead t at r) where
     pub line-inside : j < length ms
-    line-inside = let q : LineOf t at m k = rw is at l in text-line (omega (arith, line-ends q, q .within))
+    line-inside = let q = line-of t at is l in text-line (omega (arith, line-ends q, q .within))
 
     same-line : (d : Mark) → (m ≡ getD ms j d) × (drop k t ≡ text (drop (suc j) ms))
     same-line d =
-        let q : LineOf t at m k = rw is at l in
+        let q = line-of t at is l in
         mark-unique m (getD ms j d) (drop k t) (text (drop (suc j) ms)) (q .valid) (at-valid ms j d (b .spells .valid) line-inside) (sym (q .stands) ∙ line-here d line-inside)
 
     pub line-mark : (d : Mark) → m ≡ getD ms j d
     line-mark d = same-line d .0
 
     pub line-valid : ValidMark m
-    line-valid = (rw is at l) .valid
+    line-valid = line-of t at is l .valid
 
     pub line-next : Begins t ms (j + 1) k
     line-next =
@@ -115,7 +120,7 @@ module _ {t : List ℕ} {ms : List Mark} {j at : ℕ} (b : Begins t ms j at) whe
           spells = b .spells;
           rest = rw add-one (same-line m .1);
           upto = let h = line-inside in omega arith;
-          within = (rw is at l) .within;
+          within = line-of t at is l .within;
         }
 
 -- what is known of a text whose lines up to `at` are read, n of them: every list that it spells has its line n there, and such a list
@@ -138,8 +143,8 @@ none-yet t =
 module _ {t : List ℕ} {n at : ℕ} (i : SoFar t n at) where
   pub one-more : {r : MarkRead} {m : Mark} {k : ℕ} → r ≡ Found m k → MarkLineRead t at r → SoFar t (n + 1) k
   unfolding text
-  one-more {r} {m} {k} is l =
-      let q : LineOf t at m k = rw is at l in
+  one-more {m = m} is l =
+      let q = line-of t at is l in
       record {
         only = λ ms s. line-next (i .only ms s) is l;
         whole = λ rest v e.
