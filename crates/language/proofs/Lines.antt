@@ -30,7 +30,7 @@ pub variable-complete : (x : ℕ) (rest : List ℕ) → x < 32 → NoDigit rest 
 unfolding parseVariable spellVariable parseWord
 variable-complete x rest p h = rw (number-complete x rest (omega arith) h, lt-ltb x 32 p)
 
-operand-complete : (a : Operand) (rest : List ℕ) → ValidOperand a → NoDigit rest → parseOperand (spellOperand a ++ rest) ≡ found a rest
+pub operand-complete : (a : Operand) (rest : List ℕ) → ValidOperand a → NoDigit rest → parseOperand (spellOperand a ++ rest) ≡ found a rest
 unfolding parseOperand spellOperand spellVariable parseNumber digitOf
 operand-complete (Variable x) rest p h = rw (variable-complete x rest p h)
 operand-complete (Constant n) rest p h = rw (number-complete n rest p h)
@@ -111,7 +111,7 @@ variable-sound l x u e =
     let q : v ≡ u = cc in
     (rw (skip-sound (105 ∷ []) l e₁, number-sound t n v e₂ .0, p, q), rw (← p) (ltb-true n 32 lt))
 
-operand-sound : (l : List ℕ) (a : Operand) (u : List ℕ) → parseOperand l ≡ found a u → (l ≡ spellOperand a ++ u) × ValidOperand a
+pub operand-sound : (l : List ℕ) (a : Operand) (u : List ℕ) → parseOperand l ≡ found a u → (l ≡ spellOperand a ++ u) × ValidOperand a
 unfolding parseOperand spellOperand
 operand-sound l a u e =
     either-inv (after (parseNumber l) (λ n t. found (Constant n) t)) (after (parseVariable l) (λ x t. found (Variable x) t)) e

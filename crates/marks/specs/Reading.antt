@@ -1,12 +1,27 @@
--- Which refusal a list of marks gets, and what it means that its lines were read right.
+-- Which refusal a list of marks gets, and what it means that a line and that a list were read right.
 use mathlib.Core.Path.{_≡_}
-use mathlib.Core.List.{List}
+use mathlib.Core.List.{List, _∷_, _++_}
 use Prim.Native.Nat.{ℕ, _≤_, _<_}
-use lib.ListN.{length}
-use Rattle.marks.specs.Marks.{Spells}
+use lib.ListN.{length, drop}
+use Rattle.marks.specs.Marks.{spellMark, ValidMark, Spells}
 use Rattle.marks.specs.declared.Mark.{Mark}
 use Rattle.marks.specs.declared.Refusal.{Refusal}
 use Rattle.marks.specs.declared.Refusal.the-variants.{Misspelled, LineCount}
+use Rattle.marks.specs.declared.Checked.{Checked}
+use Rattle.marks.specs.declared.Checked.the-variants as checked
+use Rattle.marks.specs.declared.read.MarkRead.{MarkRead}
+use Rattle.marks.specs.declared.read.MarkRead.the-variants as markRead
+
+-- the valid mark m is the line of the text s that begins at `at` and ends, its byte 10 included, before k
+pub record LineOf (s : List ℕ) (at : ℕ) (m : Mark) (k : ℕ) : Type 0 where
+  pub stands : drop at s ≡ spellMark m ++ 10 ∷ drop k s
+  pub within : k ≤ length s
+  pub valid : ValidMark m
+
+-- found: that mark's line stands there; misspelled: no valid mark's line does
+abbrev pub MarkLineRead : List ℕ → ℕ → MarkRead → Type 0
+MarkLineRead s at (markRead.Found m k) = LineOf s at m k
+MarkLineRead s at markRead.Misspelled = (m : Mark) (rest : List ℕ) → ValidMark m → drop at s ≡ spellMark m ++ 10 ∷ rest → ⊥
 
 -- "Zero to 256 lines"
 abbrev pub most : ℕ
@@ -26,3 +41,8 @@ Refused t LineCount = (ms : List Mark) × Spells t ms × (most < length ms)
 pub record Taken (t : List ℕ) (ms : List Mark) : Type 0 where
   pub spells : Spells t ms
   pub few : length ms ≤ most
+
+-- each answer, and what it says of the text: n is the number of marks
+abbrev pub ListRead : List ℕ → Checked → Type 0
+ListRead t (checked.Taken n) = (ms : List Mark) × Taken t ms × (n ≡ length ms)
+ListRead t (checked.Refused r) = Refused t r

@@ -1,6 +1,10 @@
 // Marks: the rewrites that an optimiser proposes, read from any bytes with refusals 9 and 10.
+ghost use mathlib.Core.Path.{_≡_};
+ghost use Rattle.marks.specs.Reading.{number};
 use language::Expression;
 use language::Operand;
+
+pub mod read;
 
 // A list has at most this many marks.
 pub const MOST: usize = 256;
@@ -15,4 +19,19 @@ pub enum Mark {
 pub enum Refusal {
     Misspelled,
     LineCount,
+}
+
+// The number of marks of a list that is taken, or why it is not.
+pub enum Checked {
+    Taken(u32),
+    Refused(Refusal),
+}
+
+pub fn number_of(r: Refusal) -> u8
+    ensures { λ n. ⌜ n ≡ number r ⌝ }
+{
+    match r {
+        Refusal::Misspelled => 9,
+        Refusal::LineCount => 10,
+    }
 }

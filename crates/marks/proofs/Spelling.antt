@@ -1,0 +1,131 @@
+-- Reading undoes spelling, and the other way round: marks and their lines. Assumes nothing.
+use mathlib.Core.Path.{_≡_, refl, ap, sym, _∙_}
+use mathlib.Core.List.{List, [], _∷_, _++_, append-assoc}
+use Prim.Native.Nat.{ℕ, _+_, _≤_, _<_}
+use native.Mathlib.Omega.{arith}
+use lib.ListN.{length, drop, getD}
+use Rattle.language.specs.declared.Operand.{Operand}
+use Rattle.language.specs.declared.Expression.{Expression}
+use Rattle.language.specs.Spelling.{digits, spellVariable, ValidVariable, spellOperand, ValidOperand, spellExpression, ValidExpression}
+use Rattle.language.specs.Parsing.{Parsed, found, misspelled, parseWord, digitOf, parseNumber, parseVariable, parseOperand, parseExpression}
+use Rattle.language.specs.declared.read.WordRead.the-variants as word
+use Rattle.language.proofs.Numbers.{number-sound, number-complete}
+use Rattle.language.proofs.Parse.{after-inv, either-inv, skip-sound}
+use Rattle.language.proofs.Steps.{skip-end, skip-other, skip-same, skip-done}
+use Rattle.language.proofs.Lines.{variable-sound, variable-complete, operand-sound, operand-complete, expression-sound, expression-complete}
+use Rattle.marks.specs.declared.Mark.{Mark}
+use Rattle.marks.specs.declared.Mark.the-variants.{Rm, Rpl}
+use Rattle.marks.specs.declared.read.MarkRead.{MarkRead}
+use Rattle.marks.specs.declared.read.MarkRead.the-variants.{Found, Misspelled}
+use Rattle.marks.specs.Marks.{mark-word, rm-word, rpl-word, comma-word, spellMark, ValidMark}
+use Rattle.marks.specs.Reading.{MarkLineRead}
+use Rattle.marks.specs.Parsing.{parseFront, parseTail, parseRm, parseRpl, parseMark, parseMarkLine, EndTold, LineTold}
+
+-- a mark's text after its `mark(`, with the word w and with y for E or A, and what follows it, grouped as it is read
+abbrev tail : List ℕ → ℕ → List ℕ → List ℕ → List ℕ
+tail w x y rest = w ++ (spellVariable x ++ (comma-word ++ (y ++ 41 ∷ rest)))
+
+rm-text : (n x : ℕ) (e : Expression) (rest : List ℕ) → spellMark (Rm n x e) ++ rest ≡ digits n ++ (mark-word ++ tail rm-word x (spellExpression e) rest)
+unfolding spellMark
+rm-text n x e rest = simp append-assoc
+
+rpl-text : (n x : ℕ) (a : Operand) (rest : List ℕ) → spellMark (Rpl n x a) ++ rest ≡ digits n ++ (mark-word ++ tail rpl-word x (spellOperand a) rest)
+unfolding spellMark
+rpl-text n x a rest = simp append-assoc
+
+-- what is spelled is read
+rm-complete : (n x : ℕ) (e : Expression) (rest : List ℕ) → ValidMark (Rm n x e) → parseRm n (tail rm-word x (spellExpression e) rest) ≡ found (Rm n x e) rest
+unfolding parseTail parseFront parseWord digitOf
+rm-complete n x e rest v =
+    rw (variable-complete x (comma-word ++ (spellExpression e ++ 41 ∷ rest)) (v .1) refl, expression-complete e (41 ∷ rest) (v .2) refl refl)
+
+rpl-complete : (n x : ℕ) (a : Operand) (rest : List ℕ) → ValidMark (Rpl n x a) → parseRpl n (tail rpl-word x (spellOperand a) rest) ≡ found (Rpl n x a) rest
+unfolding parseTail parseFront parseWord digitOf
+rpl-complete n x a rest v =
+    rw (variable-complete x (comma-word ++ (spellOperand a ++ 41 ∷ rest)) (v .1) refl, operand-complete a (41 ∷ rest) (v .2) refl)
+
+-- an `rpl` is no `rm`
+rm-rpl : (n : ℕ) (l : List ℕ) → parseRm n (rpl-word ++ l) ≡ misspelled
+unfolding parseTail parseFront parseWord
+rm-rpl n l = refl
+
+pub mark-complete : (m : Mark) (rest : List ℕ) → ValidMark m → parseMark (spellMark m ++ rest) ≡ found m rest
+unfolding parseMark parseWord digitOf
+mark-complete (Rm n x e) rest v =
+    ap parseMark (rm-text n x e rest) ∙ rw (number-complete n (mark-word ++ tail rm-word x (spellExpression e) rest) (v .0) refl, rm-complete n x e rest v)
+mark-complete (Rpl n x a) rest v =
+    ap parseMark (rpl-text n x a rest) ∙ rw (number-complete n (mark-word ++ tail rpl-word x (spellOperand a) rest) (v .0) refl, rm-rpl n (spellVariable x ++ (comma-word ++ (spellOperand a ++ 41 ∷ rest))), rpl-complete n x a rest v)
+
+pub line-complete : (m : Mark) (rest : List ℕ) → ValidMark m → parseMarkLine (spellMark m ++ 10 ∷ rest) ≡ found m rest
+unfolding parseMarkLine parseWord
+line-complete m rest v = rw (mark-complete m (10 ∷ rest) v)
+
+-- lines that begin a text in two ways are one mark's line
+pub mark-unique : (m o : Mark) (t u : List ℕ) → ValidMark m → ValidMark o → spellMark m ++ 10 ∷ t ≡ spellMark o ++ 10 ∷ u → (m ≡ o) × (t ≡ u)
+mark-unique m o t u v w e =
+    let a = line-complete m t v in
+    let b = line-complete o u w in
+    (cc, cc)
+
+-- what is read is what is spelled: past the number and `mark(`, with a sound reader of E or A; the last argument goes on with it
+tail-sound : {A C : Type 0} (w : List ℕ) (p : List ℕ → Parsed A) (spelt : A → List ℕ) (Good : A → Type 0)
+    → ((l : List ℕ) (a : A) (u : List ℕ) → p l ≡ found a u → (l ≡ spelt a ++ u) × Good a)
+    → (f : ℕ → A → Mark) (l : List ℕ) {m : Mark} {u : List ℕ} → parseTail w p f l ≡ found m u
+    → ((x : ℕ) (a : A) → f x a ≡ m → l ≡ tail w x (spelt a) u → ValidVariable x → Good a → C) → C
+unfolding parseTail parseFront
+tail-sound w p spelt Good sound f l h k =
+    after-inv (parseFront w l) _ h λ x t e₁ f₁.
+    after-inv (parseWord w l) _ e₁ λ _ b e₂ f₂.
+    after-inv (parseVariable b) _ f₂ λ y c e₃ f₃.
+    after-inv (parseWord comma-word c) _ f₃ λ _ d e₄ f₄.
+    after-inv (p t) _ f₁ λ a g e₅ f₅.
+    after-inv (parseWord (41 ∷ []) g) _ f₅ λ _ v e₆ f₆.
+    let q : y ≡ x = cc in
+    let r : d ≡ t = cc in
+    let i = variable-sound b y c e₃ in
+    let j = sound t a g e₅ in
+    let z : l ≡ tail w x (spelt a) v = rw (skip-sound w l e₂, i .0, skip-sound comma-word c e₄, r, j .0, skip-sound (41 ∷ []) g e₆, q) in
+    k x a (cc) (z ∙ ap (tail w x (spelt a)) (cc)) (rw (← q) (i .1)) (j .1)
+
+pub mark-sound : (l : List ℕ) (m : Mark) (u : List ℕ) → parseMark l ≡ found m u → (l ≡ spellMark m ++ u) × ValidMark m
+unfolding parseMark
+mark-sound l m u h =
+    after-inv (parseNumber l) _ h λ n t e₁ f₁.
+    after-inv (parseWord mark-word t) _ f₁ λ _ v e₂ f₂.
+    let i = number-sound l n t e₁ in
+    let g : l ≡ digits n ++ (mark-word ++ v) = i .0 ∙ rw (skip-sound mark-word t e₂) in
+    either-inv (parseRm n v) (parseRpl n v) f₂
+    (λ f. tail-sound rm-word parseExpression spellExpression ValidExpression expression-sound (Rm n) v f λ x e p s a b. rw (← p) (g ∙ rw (s, rm-text n x e u), (i .1, a, b)))
+    (λ f. tail-sound rpl-word parseOperand spellOperand ValidOperand operand-sound (Rpl n) v f λ x o p s a b. rw (← p) (g ∙ rw (s, rpl-text n x o u), (i .1, a, b)))
+
+pub line-sound : (l : List ℕ) (m : Mark) (u : List ℕ) → parseMarkLine l ≡ found m u → (l ≡ spellMark m ++ 10 ∷ u) × ValidMark m
+unfolding parseMarkLine
+line-sound l m u h =
+    after-inv (parseMark l) _ h λ o t e₁ f₁.
+    after-inv (parseWord (10 ∷ []) t) _ f₁ λ _ v e₂ f₂.
+    let p : o ≡ m = cc in
+    let q : v ≡ u = cc in
+    let i = mark-sound l o t e₁ in
+    rw (← p, ← q) (i .0 ∙ rw (skip-sound (10 ∷ []) t e₂), i .1)
+
+-- the answer of `ended_mark` means what it should
+pub line-right : (s : List ℕ) (at : ℕ) (r : MarkRead) → LineTold s at r → MarkLineRead s at r
+line-right s at (Found m k) h =
+    let i = line-sound (drop at s) m (drop k s) (sym (h .told)) in
+    record { stands = i .0; within = h .within; valid = i .1 }
+line-right s at Misspelled h = λ m rest v t. let e = h .told in let z : _≡_ {A = ℕ} 0 1 = cc (line-complete m rest v) in omega arith
+
+-- the byte 10 at a position of the text, as `line_end` looks for it
+module _ (s : List ℕ) (at : ℕ) where
+  pub end-missing : length s ≤ at → EndTold s at word.Misspelled
+  end-missing h = record { told = sym (skip-end (10 ∷ []) s 0 at (omega arith) h); within = tt }
+
+  pub end-other : at < length s → (getD s at 0 ≡ 10 → ⊥) → EndTold s at word.Misspelled
+  end-other h d = record { told = sym (skip-other (10 ∷ []) s 0 at (omega arith) h d); within = tt }
+
+  pub end-found : at < length s → getD s at 0 ≡ 10 → EndTold s at (word.Found (at + 1))
+  end-found h e =
+      record {
+        told = sym (skip-same (10 ∷ []) s 0 at (omega arith) h e ∙ skip-done (10 ∷ []) s 1 (at + 1) (omega arith));
+        within = omega arith;
+      }

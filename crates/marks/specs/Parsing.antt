@@ -1,0 +1,72 @@
+-- What each reader of marks finds at the front of a text: the readers' common language, for proofs. It promises nothing by itself:
+-- proofs/Spelling.antt holds it to the spelling, both ways round.
+use mathlib.Core.Path.{_≡_}
+use mathlib.Core.List.{List, [], _∷_}
+use Prim.Native.Nat.{ℕ, _≤_}
+use lib.ListN.{length, drop}
+use Rattle.language.specs.Parsing.{Parsed, found, misspelled, after, either, parseWord, parsedWord, parseStatementNumber, parseVariable, parseOperand, parseExpression}
+use Rattle.language.specs.declared.read.WordRead.{WordRead}
+use Rattle.language.specs.declared.read.WordRead.the-variants as word
+use Rattle.marks.specs.Marks.{mark-word, rm-word, rpl-word, comma-word}
+use Rattle.marks.specs.declared.Mark.{Mark}
+use Rattle.marks.specs.declared.Mark.the-variants.{Rm, Rpl}
+use Rattle.marks.specs.declared.read.MarkRead.{MarkRead}
+use Rattle.marks.specs.declared.read.MarkRead.the-variants.{Found, Misspelled}
+
+-- the word w, a variable and `, `
+unfoldable pub parseFront : List ℕ → List ℕ → Parsed ℕ
+parseFront w l =
+    after (parseWord w l) λ _ t.
+    after (parseVariable t) λ x u.
+    after (parseWord comma-word u) λ _ v.
+    found x v
+
+-- the word w, a variable, `, `, what p reads, and `)`: the mark that f makes of them
+unfoldable pub parseTail : {A : Type 0} → List ℕ → (List ℕ → Parsed A) → (ℕ → A → Mark) → List ℕ → Parsed Mark
+parseTail w p f l =
+    after (parseFront w l) λ x t.
+    after (p t) λ a u.
+    after (parseWord (41 ∷ []) u) λ _ v.
+    found (f x a) v
+
+abbrev pub parseRm : ℕ → List ℕ → Parsed Mark
+parseRm n l = parseTail rm-word parseExpression (Rm n) l
+
+abbrev pub parseRpl : ℕ → List ℕ → Parsed Mark
+parseRpl n l = parseTail rpl-word parseOperand (Rpl n) l
+
+unfoldable pub parseMark : List ℕ → Parsed Mark
+parseMark l =
+    after (parseStatementNumber l) λ n t.
+    after (parseWord mark-word t) λ _ u.
+    either (parseRm n u) (parseRpl n u)
+
+-- a mark with its byte 10
+unfoldable pub parseMarkLine : List ℕ → Parsed Mark
+parseMarkLine l =
+    after (parseMark l) λ m t.
+    after (parseWord (10 ∷ []) t) λ _ u.
+    found m u
+
+-- what a reader's answer says of the text
+abbrev pub parsedMark : List ℕ → MarkRead → Parsed Mark
+parsedMark s (Found m k) = found m (drop k s)
+parsedMark s Misspelled = misspelled
+
+-- the position that is answered lies within the text
+abbrev pub EndWithin : List ℕ → WordRead → Type 0
+EndWithin s (word.Found k) = k ≤ length s
+EndWithin s word.Misspelled = Unit
+
+abbrev pub MarkWithin : List ℕ → MarkRead → Type 0
+MarkWithin s (Found m k) = k ≤ length s
+MarkWithin s Misspelled = Unit
+
+-- the byte 10 was read right, and so was a mark's line
+pub record EndTold (s : List ℕ) (at : ℕ) (r : WordRead) : Type 0 where
+  pub told : parsedWord s r ≡ parseWord (10 ∷ []) (drop at s)
+  pub within : EndWithin s r
+
+pub record LineTold (s : List ℕ) (at : ℕ) (r : MarkRead) : Type 0 where
+  pub told : parsedMark s r ≡ parseMarkLine (drop at s)
+  pub within : MarkWithin s r

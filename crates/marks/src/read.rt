@@ -1,0 +1,136 @@
+// The readers of marks: each takes what stands at a position of a text, and answers the position after it.
+ghost use mathlib.Core.Path.{_≡_};
+ghost use lib.ListN.{drop};
+ghost use Rattle.language.specs.Parsing.{parsedVariable};
+ghost use Rattle.marks.specs.Reading.{MarkLineRead, ListRead};
+ghost use Rattle.marks.specs.Parsing.{parseFront, parseRm, parseRpl, parseMark, parsedMark, EndTold, LineTold};
+use crate::Checked;
+use crate::MOST;
+use crate::Mark;
+use crate::Refusal;
+use language::read::ExpressionRead;
+use language::read::NumberRead;
+use language::read::OperandRead;
+use language::read::VariableRead;
+use language::read::WordRead;
+
+pub enum MarkRead {
+    Found(Mark, usize),
+    Misspelled,
+}
+
+// The word w, the variable and `, `.
+fn front(s: &[u8], at: usize, w: &[u8]) -> VariableRead
+    ensures { λ r. ⌜ parsedVariable (now (s .entry)) r ≡ parseFront (now (w .entry)) (drop at (now (s .entry))) ⌝ }
+{
+    let WordRead::Found(k) = language::read::word(s, at, w) else {
+        return VariableRead::Misspelled;
+    };
+    let VariableRead::Found(x, k1) = language::read::variable(s, k) else {
+        return VariableRead::Misspelled;
+    };
+    let WordRead::Found(k2) = language::read::word(s, k1, b", ") else {
+        return VariableRead::Misspelled;
+    };
+    VariableRead::Found(x, k2)
+}
+
+// `rm, X, E)` of a mark on statement n.
+fn rm(s: &[u8], at: usize, n: u32) -> MarkRead
+    ensures { λ r. ⌜ parsedMark (now (s .entry)) r ≡ parseRm n (drop at (now (s .entry))) ⌝ }
+{
+    let VariableRead::Found(x, k) = front(s, at, b"rm, ") else {
+        return MarkRead::Misspelled;
+    };
+    let ExpressionRead::Found(e, k1) = language::read::expression(s, k) else {
+        return MarkRead::Misspelled;
+    };
+    let WordRead::Found(k2) = language::read::word(s, k1, b")") else {
+        return MarkRead::Misspelled;
+    };
+    MarkRead::Found(Mark::Rm(n, x, e), k2)
+}
+
+// `rpl, X, A)` of a mark on statement n.
+fn rpl(s: &[u8], at: usize, n: u32) -> MarkRead
+    ensures { λ r. ⌜ parsedMark (now (s .entry)) r ≡ parseRpl n (drop at (now (s .entry))) ⌝ }
+{
+    let VariableRead::Found(x, k) = front(s, at, b"rpl, ") else {
+        return MarkRead::Misspelled;
+    };
+    let OperandRead::Found(a, k1) = language::read::operand(s, k) else {
+        return MarkRead::Misspelled;
+    };
+    let WordRead::Found(k2) = language::read::word(s, k1, b")") else {
+        return MarkRead::Misspelled;
+    };
+    MarkRead::Found(Mark::Rpl(n, x, a), k2)
+}
+
+fn mark(s: &[u8], at: usize) -> MarkRead
+    ensures { λ r. ⌜ parsedMark (now (s .entry)) r ≡ parseMark (drop at (now (s .entry))) ⌝ }
+{
+    let NumberRead::Found(n, k) = language::read::statement_number(s, at) else {
+        return MarkRead::Misspelled;
+    };
+    let WordRead::Found(k1) = language::read::word(s, k, b": mark(") else {
+        return MarkRead::Misspelled;
+    };
+    if let MarkRead::Found(m, k2) = rm(s, k1, n) {
+        return MarkRead::Found(m, k2);
+    }
+    rpl(s, k1, n)
+}
+
+// The byte 10 that ends a line, and the position after it, which lies within the text.
+fn line_end(s: &[u8], at: usize) -> WordRead
+    ensures { λ r. ⌜ EndTold (now (s .entry)) at r ⌝ }
+{
+    if s.len() <= at {
+        return WordRead::Misspelled;
+    }
+    if s[at] == 10 {
+        WordRead::Found(at + 1)
+    } else {
+        WordRead::Misspelled
+    }
+}
+
+// A mark and its byte 10.
+fn ended_mark(s: &[u8], at: usize) -> MarkRead
+    ensures { λ r. ⌜ LineTold (now (s .entry)) at r ⌝ }
+{
+    let MarkRead::Found(m, k) = mark(s, at) else {
+        return MarkRead::Misspelled;
+    };
+    let WordRead::Found(k1) = line_end(s, k) else {
+        return MarkRead::Misspelled;
+    };
+    MarkRead::Found(m, k1)
+}
+
+// The line at the position: the valid mark that it spells and the position after its byte 10, or that it spells none.
+pub fn line(s: &[u8], at: usize) -> MarkRead
+    ensures { λ r. ⌜ MarkLineRead (now (s .entry)) at r ⌝ }
+{
+    ended_mark(s, at)
+}
+
+// The number of marks that the text lists, or the first refusal that applies: every line is read, also beyond 256.
+pub fn check(s: &[u8]) -> Checked
+    ensures { λ r. ⌜ ListRead (now (s .entry)) r ⌝ }
+{
+    let mut count: usize = 0;
+    let mut at: usize = 0;
+    while at < s.len() {
+        let MarkRead::Found(_, k) = line(s, at) else {
+            return Checked::Refused(Refusal::Misspelled);
+        };
+        count += 1;
+        at = k;
+    }
+    if MOST < count {
+        return Checked::Refused(Refusal::LineCount);
+    }
+    Checked::Taken(count as u32)
+}
