@@ -102,3 +102,14 @@ pub fn tabulate(program: &[u8], condition: &[u8], table: &mut [u64]) -> Tabulate
         }
     }
 }
+
+// The verdict bytes and the new text have at least this many bytes.
+pub const VERDICT_BYTES: usize = 256;
+
+pub const TEXT_BYTES: usize = 8192;
+
+// Refused: document 01's number. Finished: the marks, the accepted ones, and the bytes of new text.
+pub enum JudgeAnswer {
+    Refused(u8),
+    Finished(u32, u32, u32),
+}

@@ -1,0 +1,66 @@
+-- What `judge` answers, and what it leaves in the lent bytes, for every program text, list of marks and buffers.
+use mathlib.Core.Path.{_≡_}
+use mathlib.Core.Logic.{_⊎_}
+use mathlib.Core.List.{List}
+use Prim.Native.Nat.{ℕ, _≤_, _<_}
+use lib.ListN.{length, getD, take}
+use Rattle.language.specs.declared.Statement.{Statement}
+use Rattle.language.specs.Writing.{Put}
+use Rattle.program.specs.Program.{text, Taken}
+use Rattle.program.specs.Reading as program
+use Rattle.program.specs.declared.Refusal as program-refusal
+use Rattle.marks.specs.Reading as marks
+use Rattle.marks.specs.declared.Mark.{Mark}
+use Rattle.marks.specs.declared.Refusal as marks-refusal
+use Rattle.rewriting.specs.Verdicts.{Verdicts, acceptedCount, Rewritten}
+use Rattle.rewrites.specs.Tabulate.{room-number}
+use Rattle.rewrites.specs.Demand.{Demand3}
+use Rattle.rewrites.specs.declared.JudgeAnswer.{JudgeAnswer}
+use Rattle.rewrites.specs.declared.JudgeAnswer.the-variants.{Refused, Finished}
+
+-- "1: .. verdicts under 256 bytes or new text under 8,192 bytes"
+abbrev pub verdict-bytes : ℕ
+verdict-bytes = 256
+
+abbrev pub text-bytes : ℕ
+text-bytes = 8192
+
+abbrev pub Room : List ℕ → List ℕ → Type 0
+Room vs w = (verdict-bytes ≤ length vs) × (text-bytes ≤ length w)
+
+-- "Order: 1, .. then 2 to 5, then .. 9 and 10": the number of the first that applies
+abbrev pub JudgeRefused : List ℕ → List ℕ → List ℕ → List ℕ → ℕ → Type 0
+JudgeRefused t u vs w n =
+    (((length vs < verdict-bytes) ⊎ (length w < text-bytes)) × (n ≡ room-number))
+    ⊎ ((Room vs w × (r : program-refusal.Refusal) × program.Refused t r × (n ≡ program.number r))
+    ⊎ (Room vs w × (P : List Statement) × Taken t P × (r : marks-refusal.Refusal) × marks.Refused u r × (n ≡ marks.number r)))
+
+-- the bytes and the new text that were lent, and what the call leaves of them
+pub record Lent : Type 0 where
+  pub verdicts : List ℕ
+  pub new : List ℕ
+
+-- none applies: the marks ms are judged on the program P, and the accepted ones made
+pub record JudgeFinished (t u : List ℕ) (o q : Lent) (count accepted bytes : ℕ) : Type 0 where
+  pub P : List Statement
+  pub ms : List Mark
+  pub Q : List Statement
+  pub room : Room (o .verdicts) (o .new)
+  pub program : Taken t P
+  pub marks : marks.Taken u ms
+  -- "The answer gives the number of marks, of accepted marks and of bytes of new text."
+  pub counted : count ≡ length ms
+  pub taken : accepted ≡ acceptedCount ms (q .verdicts)
+  -- "line j's verdict filling byte j, counted from 0"; "A finished call keeps all .. bytes beyond those it fills."
+  pub judged : Verdicts P ms (q .verdicts)
+  pub same : length (q .verdicts) ≡ length (o .verdicts)
+  pub kept : (j : ℕ) → count ≤ j → getD (q .verdicts) j 0 ≡ getD (o .verdicts) j 0
+  -- the new text is that of the rewritten program, at the front of the lent bytes
+  pub rewritten : Rewritten P ms (q .verdicts) Q
+  pub written : Put (o .new) 0 (text Q) (q .new) bytes
+  pub demand : Demand3 t u (q .verdicts) (text Q)
+
+-- "A refused call answers only its number and keeps all lent memory."
+abbrev pub JudgeAnswers : List ℕ → List ℕ → Lent → Lent → JudgeAnswer → Type 0
+JudgeAnswers t u o q (Refused n) = JudgeRefused t u (o .verdicts) (o .new) n × (q ≡ o)
+JudgeAnswers t u o q (Finished count accepted bytes) = JudgeFinished t u o q count accepted bytes
