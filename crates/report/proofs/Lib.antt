@@ -1,2 +1,4 @@
 pub mod Lines
 pub mod Walk
+pub mod Together
+pub mod Room

@@ -1,13 +1,13 @@
 // The check program's output: a program and a list of marks in, the bytes that are printed out.
 ghost use mathlib.Core.Path.{_≡_};
-ghost use mathlib.Core.List.{List};
+ghost use mathlib.Core.List.{List, _++_};
 ghost use lib.ListN.{length};
 ghost use Prim.Native.Nat.{_≤_, _+_};
 ghost use Rattle.language.specs.Writing.{Put};
 ghost use Rattle.marks.specs.Reading.{Taken};
 ghost use Rattle.marks.specs.declared.Mark.{Mark};
 ghost use Rattle.report.specs.Report.{refusedLine, countsLine, verdictLine, verdictLines};
-ghost use Rattle.report.specs.Writing.{VerdictsFit};
+ghost use Rattle.report.specs.Writing.{VerdictsFit, ReportFits};
 use marks::read::MarkRead;
 
 // Puts the line of a refused call at the front of the lent bytes, and answers its length.
@@ -60,4 +60,21 @@ fn write_verdicts(out: &mut [u8], at: usize, list: &[u8], verdicts: &[u8]) -> us
         j += 1;
     }
     to
+}
+
+// The counts, the verdicts and the new text, at the front of the lent bytes.
+fn write_report(
+    out: &mut [u8],
+    count: u32,
+    accepted: u32,
+    list: &[u8],
+    verdicts: &[u8],
+    text: &[u8],
+) -> usize
+    requires { ⌜ ReportFits (now list) (now verdicts) (now text) count accepted (length (now out)) ⌝ }
+    ensures { λ r. ⌜ ((ms : List Mark) → Taken (now (list .entry)) ms → Put (now (out .entry)) 0 (countsLine count accepted ++ (verdictLines ms (now (verdicts .entry)) ++ now (text .entry))) (now (out .exit)) r) ⌝ }
+{
+    let k1 = write_counts(out, count, accepted);
+    let k2 = write_verdicts(out, k1, list, verdicts);
+    language::write::word(out, k2, text)
 }
