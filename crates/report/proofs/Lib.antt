@@ -2,3 +2,4 @@ pub mod Lines
 pub mod Walk
 pub mod Together
 pub mod Room
+pub mod Reports

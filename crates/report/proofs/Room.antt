@@ -9,8 +9,7 @@ use lib.Seq.{getD-drop}
 use Rattle.language.specs.Spelling.{digits, largest}
 use Rattle.language.specs.declared.Statement.{Statement}
 use Rattle.language.proofs.Lengths.{digits-length}
-use Rattle.program.specs.Program.{text, WellFormed}
-use Rattle.program.proofs.RoundTrip.{text-fits}
+use Rattle.program.specs.Program.{text}
 use Rattle.bits.proofs.Counts.{count-le}
 use Rattle.marks.specs.declared.Mark.{Mark}
 use Rattle.marks.specs.declared.Mark.the-variants.{Rm, Rpl}
@@ -19,7 +18,8 @@ use Rattle.marks.specs.Reading.{Taken, most}
 use Rattle.rewriting.specs.declared.Verdict.{Verdict}
 use Rattle.rewriting.specs.declared.Verdict.the-variants.{Accepted, Missing, Repeated, Unfit, Unmet}
 use Rattle.rewriting.specs.Verdicts.{number, Verdicts, acceptedCount}
-use Rattle.report.specs.Report.{countsLine, verdictLine, verdictLines, reportText}
+use Rattle.rewrites.specs.Judge.{text-bytes}
+use Rattle.report.specs.Report.{countsLine, verdictLine, verdictLines, reportText, report-room}
 use Rattle.report.proofs.Lines.{counts-length, verdict-length}
 
 counts-most : (m a : ℕ) → m ≤ most → a ≤ m → length (countsLine m a) ≤ 23
@@ -47,11 +47,10 @@ number-small Repeated = omega arith
 number-small Unfit = omega arith
 number-small Unmet = omega arith
 
-pub report-most : (P : List Statement) (ms : List Mark) (vs : List ℕ) (Q : List Statement) {u : List ℕ} → Taken u ms → Verdicts P ms vs → WellFormed Q
-    → length (reportText ms vs Q) ≤ 23 + (most * 14 + 8192)
+pub report-most : (P : List Statement) (ms : List Mark) (vs : List ℕ) (Q : List Statement) {u : List ℕ} → Taken u ms → Verdicts P ms vs → length (text Q) ≤ text-bytes
+    → length (reportText ms vs Q) ≤ report-room
 unfolding reportText
 report-most P ms vs Q t j q =
     let a = counts-most (length ms) (acceptedCount ms vs) (t .few) (count-le (λ i. eqb (getD vs i 0) 0) (length ms)) in
     let b = verdicts-most ms vs (t .spells .valid) (λ i h. let e = j i h in rw (e .2) (number-small (e .0))) in
-    let d = text-fits q in
-    simp length-append (omega (arith, t .few))
+    simp length-append (omega (arith, t .few, q))

@@ -2,9 +2,10 @@
 use mathlib.Core.Path.{_≡_}
 use mathlib.Core.Logic.{_⊎_}
 use mathlib.Core.List.{List, [], _∷_, _++_}
-use Prim.Native.Nat.{ℕ}
+use Prim.Native.Nat.{ℕ, _+_, _*_, _≤_, _<_}
 use lib.ListN.{length, getD, drop}
 use Rattle.language.specs.Spelling.{digits}
+use Rattle.language.specs.Writing.{Put}
 use Rattle.language.specs.declared.Statement.{Statement}
 use Rattle.program.specs.Program.{text, Taken}
 use Rattle.program.specs.Reading as program
@@ -14,6 +15,9 @@ use Rattle.marks.specs.Reading as marks
 use Rattle.marks.specs.declared.Mark.{Mark}
 use Rattle.marks.specs.declared.Refusal as marks-refusal
 use Rattle.rewriting.specs.Verdicts.{Verdicts, acceptedCount, Rewritten}
+use Rattle.rewrites.specs.Judge.{text-bytes}
+use Rattle.report.specs.declared.Reported.{Reported}
+use Rattle.report.specs.declared.Reported.the-variants.{Written, NoRoom}
 
 -- `refused `, `marks ` and ` accepted ` as bytes
 abbrev pub refused-word : List ℕ
@@ -72,3 +76,12 @@ pub record PrintsReport (t u w : List ℕ) : Type 0 where
 -- w is what the check program prints for the program text t and the marks text u
 abbrev pub Output : List ℕ → List ℕ → List ℕ → Type 0
 Output t u w = PrintsRefusal t u w ⊎ PrintsReport t u w
+
+-- room for every output: a line as long as `marks 256 accepted 256`, 256 as long as `2147483647 14`, and the new text
+abbrev pub report-room : ℕ
+report-room = 23 + (marks.most * 14 + text-bytes)
+
+-- the output stands at the front of the lent bytes, all others are kept, and n is its length; too few bytes are kept as they are
+abbrev pub Reports : List ℕ → List ℕ → List ℕ → List ℕ → Reported → Type 0
+Reports t u o q (Written n) = (report-room ≤ length o) × (w : List ℕ) × Output t u w × Put o 0 w q n
+Reports t u o q NoRoom = (length o < report-room) × (q ≡ o)

@@ -7,8 +7,20 @@ ghost use Rattle.language.specs.Writing.{Put};
 ghost use Rattle.marks.specs.Reading.{Taken};
 ghost use Rattle.marks.specs.declared.Mark.{Mark};
 ghost use Rattle.report.specs.Report.{refusedLine, countsLine, verdictLine, verdictLines};
+ghost use Rattle.rewrites.specs.Judge.{verdict-bytes, text-bytes};
 ghost use Rattle.report.specs.Writing.{VerdictsFit, ReportFits};
 use marks::read::MarkRead;
+use rewrites::TEXT_BYTES;
+use rewrites::VERDICT_BYTES;
+
+// Every output has room in this many bytes.
+pub const REPORT_ROOM: usize = 23 + marks::MOST * 14 + TEXT_BYTES;
+
+// Written: the number of bytes of the output. NoRoom: under REPORT_ROOM bytes are lent.
+pub enum Reported {
+    Written(usize),
+    NoRoom,
+}
 
 // Puts the line of a refused call at the front of the lent bytes, and answers its length.
 fn write_refused(out: &mut [u8], n: u8) -> usize
@@ -77,4 +89,16 @@ fn write_report(
     let k1 = write_counts(out, count, accepted);
     let k2 = write_verdicts(out, k1, list, verdicts);
     language::write::word(out, k2, text)
+}
+
+fn verdict_buffer() -> [u8; VERDICT_BYTES]
+    ensures { λ r. ⌜ length r ≡ verdict-bytes ⌝ }
+{
+    [0; VERDICT_BYTES]
+}
+
+fn text_buffer() -> [u8; TEXT_BYTES]
+    ensures { λ r. ⌜ length r ≡ text-bytes ⌝ }
+{
+    [0; TEXT_BYTES]
 }
