@@ -1,5 +1,5 @@
 -- The program with the accepted marks made is the given one with some changes: a mark whose verdict byte is 0 fits its statement and has
--- its condition true there. Assumes nothing.
+-- its condition true there. And it is one program only. Assumes nothing.
 use mathlib.Core.Path.{_≡_, refl, sym, _∙_, subst}
 use mathlib.Core.Bool.{Bool, true, false, _&&_}
 use mathlib.Core.Logic.{inl, inr, ⊎-elim}
@@ -8,9 +8,11 @@ use Prim.Native.Nat.{ℕ, zero, suc, _<_}
 use native.Mathlib.Omega.{arith}
 use lib.Dec.{eqb}
 use lib.ListN.{length, getD, take}
+use lib.Seq.{ext-getD}
 use borrow.Author.Tests.{eqb-true, eq-eqb}
 use Rattle.bits.proofs.Tests.{clash, and-left, and-right, and-both, find-below}
 use Rattle.language.specs.declared.Statement.{Statement}
+use Rattle.language.specs.declared.Statement.the-variants.{Skip}
 use Rattle.program.specs.Program.{at}
 use Rattle.condition.specs.Truth.{Sat}
 use Rattle.marks.specs.Marks.{ValidMark, AllValid}
@@ -43,6 +45,31 @@ module _ (P : List Statement) (earlier : List Mark) (m : Mark) where
   accepted-zero Unfit a h = absurd (h .2 (a .2))
   accepted-zero Unmet a h = absurd (h .3 (a .3))
 
+-- an accepted line names the statement at place s
+abbrev Made : List Mark → List ℕ → ℕ → Type 0
+Made ms vs s = (j : ℕ) × Accepts ms vs j × (place (markAt ms j) ≡ s)
+
+-- by a search of the lines
+made-decided : (ms : List Mark) (vs : List ℕ) (s : ℕ) → Dec (Made ms vs s)
+made-decided ms vs s = ⊎-elim (λ w. yes (found w)) (λ none. no (unfound none)) (find-below (length ms) (λ j. accepted j && named j))
+  where
+    accepted : ℕ → Bool
+    accepted j = eqb (getD vs j 0) 0
+
+    named : ℕ → Bool
+    named j = eqb (place (markAt ms j)) s
+
+    found : (j : ℕ) × (j < length ms) × ((accepted j && named j) ≡ true) → Made ms vs s
+    found (j, l, e) = (
+      j,
+      (l, eqb-true (getD vs j 0) 0 (and-left (accepted j) (named j) e)),
+      eqb-true (place (markAt ms j)) s (and-right (accepted j) (named j) e),
+    )
+
+    unfound : ((j : ℕ) → j < length ms → (accepted j && named j) ≡ false) → ¬ Made ms vs s
+    unfound none (j, (l, byte), here) =
+        clash (and-both (accepted j) (named j) (eq-eqb (getD vs j 0) 0 byte) (eq-eqb (place (markAt ms j)) s here)) (none j l)
+
 module _ (P : List Statement) (ms : List Mark) (vs : List ℕ) (judged : Verdicts P ms vs) where
   -- "that byte is 0 exactly where none of 11 to 14 applies"
   pub accepted-judged : (j : ℕ) → Accepts ms vs j → Judged P (take j ms) (markAt ms j) Accepted
@@ -53,32 +80,26 @@ module _ (P : List Statement) (ms : List Mark) (vs : List ℕ) (judged : Verdict
   judged-accepted j l h = let v = judged j l in (l, v .2 ∙ accepted-zero P (take j ms) (markAt ms j) (v .0) h (v .1))
 
   pub rewritten-changed : (Q : List Statement) → AllValid ms → Rewritten P ms vs Q → Changed P Q
-  rewritten-changed Q valid r = record { same = r .same; changes = changes }
+  rewritten-changed Q valid r = record { same = r .same; changes = λ s l. by s l (made-decided ms vs s) }
     where
-      -- line j is accepted and names the statement at place s
-      makes-at : ℕ → ℕ → Bool
-      makes-at s j = eqb (getD vs j 0) 0 && eqb (place (markAt ms j)) s
+      by : (s : ℕ) → s < length P → Dec (Made ms vs s) → Change P s (at Q s)
+      by s l (yes (j, accepts, here)) =
+          let m = markAt ms j in
+          let h = accepted-judged j accepts in
+          inr (
+            m,
+            mark-valid ms j valid (accepts .0),
+            subst (λ (t : ℕ). Fits m (at P t)) here (h .2),
+            subst (Sat P (published m)) here (h .3),
+            subst (λ (t : ℕ). at Q t ≡ makes m (at P t)) here (r .made j accepts),
+          )
+      by s l (no none) = inl (r .kept s l (λ j a e. none (j, a, e)))
 
-      changes : (s : ℕ) → s < length P → Change P s (at Q s)
-      changes s l = ⊎-elim made kept (find-below (length ms) (makes-at s))
-        where
-          made : (j : ℕ) × (j < length ms) × (makes-at s j ≡ true) → Change P s (at Q s)
-          made (j, below, e) =
-              let m = markAt ms j in
-              let accepts : Accepts ms vs j = (below, eqb-true (getD vs j 0) 0 (and-left (eqb (getD vs j 0) 0) (eqb (place m) s) e)) in
-              let here : place m ≡ s = eqb-true (place m) s (and-right (eqb (getD vs j 0) 0) (eqb (place m) s) e) in
-              let h = accepted-judged j accepts in
-              inr (
-                m,
-                mark-valid ms j valid below,
-                subst (λ (t : ℕ). Fits m (at P t)) here (h .2),
-                subst (Sat P (published m)) here (h .3),
-                subst (λ (t : ℕ). at Q t ≡ makes m (at P t)) here (r .made j accepts),
-              )
-
-          kept : ((j : ℕ) → j < length ms → makes-at s j ≡ false) → Change P s (at Q s)
-          kept none =
-              inl (r .kept s l λ j accepts here.
-              clash
-              (and-both (eqb (getD vs j 0) 0) (eqb (place (markAt ms j)) s) (eq-eqb (getD vs j 0) 0 (accepts .1)) (eq-eqb (place (markAt ms j)) s here))
-              (none j (accepts .0)))
+-- the verdict bytes leave no choice of the program
+pub rewritten-unique : {P Q R : List Statement} {ms : List Mark} {vs : List ℕ} → Rewritten P ms vs Q → Rewritten P ms vs R → Q ≡ R
+rewritten-unique {P} {Q} {R} {ms} {vs} q r =
+    ext-getD Skip Q R (q .same ∙ sym (r .same)) (λ s l. by s (rw (q .same) at l) (made-decided ms vs s))
+  where
+    by : (s : ℕ) → s < length P → Dec (Made ms vs s) → at Q s ≡ at R s
+    by s l (yes (j, accepts, here)) = subst (λ (t : ℕ). at Q t ≡ at R t) here (q .made j accepts ∙ sym (r .made j accepts))
+    by s l (no none) = q .kept s l (λ j a e. none (j, a, e)) ∙ sym (r .kept s l (λ j a e. none (j, a, e)))

@@ -1,1 +1,2 @@
 pub mod Tabulates
+pub mod Demand
