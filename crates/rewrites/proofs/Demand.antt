@@ -25,7 +25,8 @@ use Rattle.lockstep.specs.Lockstep.{Changed, Alike}
 use Rattle.lockstep.proofs.Lockstep.{together}
 use Rattle.lockstep.proofs.Changed.{changed-wellformed}
 use Rattle.lockstep.proofs.Answers.{answers-alike}
-use Rattle.lockstep.proofs.Rewritten.{accepted-judged, judged-accepted, rewritten-changed}
+use Rattle.rewriting.proofs.Accepted.{accepted-judged, judged-accepted}
+use Rattle.lockstep.proofs.Rewritten.{rewritten-changed}
 use Rattle.rewrites.specs.Run.{most-steps, RunFinished, RunAnswers}
 use Rattle.rewrites.specs.Judge.{text-bytes}
 use Rattle.rewrites.specs.Demand.{RunsAlike, Demand3}

@@ -30,9 +30,10 @@ use Rattle.verdicts.specs.Judging.{NamedIn, VerdictsOf}
 -- the last of the marks names n, or one before
 named-last : (ms : List Mark) (m : Mark) (n : ℕ) → Named (ms ++ m ∷ []) n ↔ Named (m ∷ ms) n
 named-last [] m n = (λ h. h, λ h. h)
-named-last (o ∷ ms) m n =
-    (λ h. ⊎-elim (λ e. inr (inl e)) (λ k. ⊎-elim inl (λ i. inr (inr i)) (named-last ms m n .0 k)) h,
-    λ h. ⊎-elim (λ e. inr (named-last ms m n .1 (inl e))) (λ k. ⊎-elim inl (λ i. inr (named-last ms m n .1 (inr i))) k) h)
+named-last (o ∷ ms) m n = (
+  λ h. ⊎-elim (λ e. inr (inl e)) (λ k. ⊎-elim inl (λ i. inr (inr i)) (named-last ms m n .0 k)) h,
+  λ h. ⊎-elim (λ e. inr (named-last ms m n .1 (inl e))) (λ k. ⊎-elim inl (λ i. inr (named-last ms m n .1 (inr i))) k) h,
+)
 
 -- no line names a statement yet
 pub named-none : {row : List ℕ} → ((s : ℕ) → member row s ≡ false) → NamedIn row []
@@ -47,6 +48,7 @@ named-more row new m n is low f earlier g = record { exact = λ s l. (there s l,
     there s l e =
         ⊎-elim (λ a. inr (g .exact s l .0 a)) (λ a. let q = eqb-true (n - 1) s a in inl (omega (arith, is)))
         (or-case (member row s) (eqb (n - 1) s) (sym (f s) ∙ e))
+
     back : (s : ℕ) → s < most → Named (m ∷ earlier) (s + 1) → member new s ≡ true
     back s l h =
         f s ∙ ⊎-elim (λ a. or-right (member row s) (eqb (n - 1) s) (eq-eqb (n - 1) s (omega (arith, is)))) (λ a. or-left (member row s) (eqb (n - 1) s) (g .exact s l .1 a)) h
@@ -87,8 +89,8 @@ module _ {P : List Statement} {t : List ℕ} {ms : List Mark} {old new row : Lis
           begins = line-next (s .begins) is l;
           named = record { exact = λ i u. let q = g (take j ms) (s .named) .exact i u in (λ a. rw next-take (named-last (take j ms) m (i + 1) .1 (q .0 a)), λ a. q .1 (named-last (take j ms) m (i + 1) .0 (rw next-take at a))) };
           judged = below-more (λ i. (w : Verdict) × Judged P (take i ms) (markAt ms i) w × (getD (set new j b) i 0 ≡ number w)) j
-            (λ i u. let q = s .judged i u in (q .0, q .1, getD-set-other new j i b 0 (λ z. omega arith) ∙ q .2))
-            (v, rw mark-is at (f (take j ms) (s .named)), getD-set-same new j b 0 h ∙ e);
+              (λ i u. let q = s .judged i u in (q .0, q .1, getD-set-other new j i b 0 (λ z. omega arith) ∙ q .2))
+              (v, rw mark-is at (f (take j ms) (s .named)), getD-set-same new j b 0 h ∙ e);
           past = λ i u. getD-set-other new j i b 0 (λ z. omega arith) ∙ s .past i (omega arith);
         }
 

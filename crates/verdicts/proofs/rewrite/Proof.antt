@@ -1,104 +1,79 @@
+use borrow.Author.Needs.{needs}
+use mathlib.Core.Path.{_≡_, refl, _∙_}
+use mathlib.Core.List.{List}
+use Prim.Native.Nat.{_-_}
+use native.Mathlib.Omega.{arith}
+use lib.ListN.{length, length-set}
+use Rattle.program.specs.Program.{most}
+use Rattle.program.specs.Reading.{statements}
+use Rattle.marks.specs.Reading.{Taken}
+use Rattle.marks.specs.declared.Mark.{Mark}
+use Rattle.marks.proofs.Walk.{line-of, line-further}
+use Rattle.verdicts.proofs.Lists.{never-misspelled, line-below}
+use Rattle.verdicts.proofs.Made.{MadeSoFar, made-none, made-less, accepted-inside, made-more, accepted-few, verdicts-same, held-few, made-all, counted-all}
 use Rattle.verdicts.proofs.rewrite.Statement.{statement}
 use Rattle.verdicts.proofs.rewrite.Tie as tie
-use Rattle.verdicts.proofs.rewrite.Reads as reads
-use Rattle.verdicts.proofs.rewrite.Lts as lts
-use Rattle.marks.proofs.read.line.Reads as line-reads
-use Rattle.rewriting.proofs.makes.Reads as makes-reads
-use Rattle.rewriting.proofs.statement_of.Reads as statement-of-reads
 
 abbrev Inv-loop : tie.InvT-loop
-Inv-loop marks verdicts p count entries₀ accepted₀ j₀ at₀ entries accepted j at = ?
+Inv-loop marks verdicts p count entries₀ accepted₀ j₀ at₀ entries accepted j at =
+    (length entries ≡ most) × ((ms : List Mark) → Taken marks ms → MadeSoFar (p .entries) entries marks ms verdicts accepted j at)
 
 abbrev μ-loop : tie.MeasureT-loop
-μ-loop marks verdicts p count entries₀ accepted₀ j₀ at₀ entries accepted j at = ?
+μ-loop marks verdicts p count entries₀ accepted₀ j₀ at₀ entries accepted j at = length marks - at
 
--- src/lib.rt:161:5
 loop-holds : tie.Need-loop-holds Inv-loop μ-loop
-loop-holds c = ?
+loop-holds c = (c .before .before .before .pre .0 .room, λ ms t. made-none (t .spells))
 
--- src/lib.rt:162:37
-line-requires : tie.Need-line-requires Inv-loop μ-loop
-line-requires c κs = ?
-
--- src/lib.rt:162:29
-enum-known-m : tie.Need-enum-known-m Inv-loop μ-loop
-enum-known-m c = ?
-
--- src/lib.rt:164:26
-enum-told : tie.Need-enum-told Inv-loop μ-loop
-enum-told c = ?
-
--- src/lib.rt:163:13
 returns : tie.Need-returns Inv-loop μ-loop
-returns c = ?
+returns c = λ ms t. absurd (never-misspelled (c .before .before .before .before .loop .inv .1 ms t .begins) (c .before .before .before .loop-test .taken) (c .enum-told .given .1) (c .before .before .line .ensures))
 
--- src/lib.rt:168:12
 shared-slice-read-if1 : tie.Need-shared-slice-read-if1 Inv-loop μ-loop
-shared-slice-read-if1 c = ?
+shared-slice-read-if1 c = omega (arith, c .before .before .before .before .before .before .before .before .before .before .pre .1 .room, line-below ((c .before .before .before .before .before .before .loop .inv .1 (c .before .before .before .before .before .before .before .before .before .before .pre .1 .ms) (c .before .before .before .before .before .before .before .before .before .before .pre .1 .taken)) .begins) (c .before .before .before .before .before .before .before .before .before .before .pre .1 .taken) (c .before .before .m .given .1) (c .before .before .before .before .line .ensures))
 
--- src/lib.rt:169:17
-statement-of-requires : tie.Need-statement-of-requires Inv-loop μ-loop
-statement-of-requires c κs = ?
-
--- src/lib.rt:170:26
 sub-place : tie.Need-sub-place Inv-loop μ-loop
-sub-place c = ?
+sub-place c = omega (arith, c .statement-of .ensures, accepted-inside (c .before .before .before .before .before .before .before .before .loop .inv .1 (c .before .before .before .before .before .before .before .before .before .before .before .before .pre .1 .ms) (c .before .before .before .before .before .before .before .before .before .before .before .before .pre .1 .taken)) (c .before .before .before .before .m .given .1) (c .before .before .before .before .before .before .line .ensures) (statements (c .before .before .before .before .before .before .before .before .before .before .before .before .args .t2)) (c .before .before .before .before .before .before .before .before .before .before .before .before .pre .1 .judged) (omega (arith, held-few (c .before .before .before .before .before .before .before .before .before .before .before .before .pre .0), c .before .before .before .before .before .before .before .before .loop .inv .0)) (c .before .if1 .taken))
 
--- src/lib.rt:170:25
-cast-place : tie.Need-cast-place Inv-loop μ-loop
-cast-place c = ?
-
--- src/lib.rt:171:21
-mul-e : tie.Need-mul-e Inv-loop μ-loop
-mul-e c = ?
-
--- src/lib.rt:171:21
 element-copy-out-e : tie.Need-element-copy-out-e Inv-loop μ-loop
-element-copy-out-e c = ?
+element-copy-out-e c = omega (arith, c .statement-of .ensures, held-few (c .before .before .before .before .before .before .before .before .before .before .before .before .pre .0), accepted-inside (c .before .before .before .before .before .before .before .before .loop .inv .1 (c .before .before .before .before .before .before .before .before .before .before .before .before .pre .1 .ms) (c .before .before .before .before .before .before .before .before .before .before .before .before .pre .1 .taken)) (c .before .before .before .before .m .given .1) (c .before .before .before .before .before .before .line .ensures) (statements (c .before .before .before .before .before .before .before .before .before .before .before .before .args .t2)) (c .before .before .before .before .before .before .before .before .before .before .before .before .pre .1 .judged) (omega (arith, held-few (c .before .before .before .before .before .before .before .before .before .before .before .before .pre .0), c .before .before .before .before .before .before .before .before .loop .inv .0)) (c .before .if1 .taken))
 
--- src/lib.rt:174:28
-makes-requires : tie.Need-makes-requires Inv-loop μ-loop
-makes-requires c κs = ?
-
--- src/lib.rt:173:13
-mul-entries : tie.Need-mul-entries Inv-loop μ-loop
-mul-entries c = ?
-
--- src/lib.rt:173:13
 array-set-from-entries : tie.Need-array-set-from-entries Inv-loop μ-loop
-array-set-from-entries c = ?
+array-set-from-entries c = omega (arith, c .before .before .statement-of .ensures, held-few (c .before .before .before .before .before .before .before .before .before .before .before .before .before .before .pre .0), accepted-inside (c .before .before .before .before .before .before .before .before .before .before .loop .inv .1 (c .before .before .before .before .before .before .before .before .before .before .before .before .before .before .pre .1 .ms) (c .before .before .before .before .before .before .before .before .before .before .before .before .before .before .pre .1 .taken)) (c .before .before .before .before .before .before .m .given .1) (c .before .before .before .before .before .before .before .before .line .ensures) (statements (c .before .before .before .before .before .before .before .before .before .before .before .before .before .before .args .t2)) (c .before .before .before .before .before .before .before .before .before .before .before .before .before .before .pre .1 .judged) (omega (arith, held-few (c .before .before .before .before .before .before .before .before .before .before .before .before .before .before .pre .0), c .before .before .before .before .before .before .before .before .before .before .loop .inv .0)) (c .before .before .before .if1 .taken))
 
--- src/lib.rt:176:13
 add-accepted : tie.Need-add-accepted Inv-loop μ-loop
-add-accepted c = ?
+add-accepted c = omega (arith, accepted-few (c .before .before .before .before .before .before .before .before .before .before .loop .inv .1 (c .before .before .before .before .before .before .before .before .before .before .before .before .before .before .pre .1 .ms) (c .before .before .before .before .before .before .before .before .before .before .before .before .before .before .pre .1 .taken)), line-below ((c .before .before .before .before .before .before .before .before .before .before .loop .inv .1 (c .before .before .before .before .before .before .before .before .before .before .before .before .before .before .pre .1 .ms) (c .before .before .before .before .before .before .before .before .before .before .before .before .before .before .pre .1 .taken)) .begins) (c .before .before .before .before .before .before .before .before .before .before .before .before .before .before .pre .1 .taken) (c .before .before .before .before .before .before .m .given .1) (c .before .before .before .before .before .before .before .before .line .ensures))
 
--- src/lib.rt:177:13
 add-j : tie.Need-add-j Inv-loop μ-loop
-add-j c = ?
+add-j c = omega (arith, line-below ((c .before .before .before .before .before .before .before .before .before .before .loop .inv .1 (c .before .before .before .before .before .before .before .before .before .before .before .before .before .before .pre .1 .ms) (c .before .before .before .before .before .before .before .before .before .before .before .before .before .before .pre .1 .taken)) .begins) (c .before .before .before .before .before .before .before .before .before .before .before .before .before .before .pre .1 .taken) (c .before .before .before .before .before .before .m .given .1) (c .before .before .before .before .before .before .before .before .line .ensures))
 
--- src/lib.rt:161:5
 loop-less : tie.Need-loop-less Inv-loop μ-loop
-loop-less c = ?
+loop-less c = line-further _ _ (c .before .before .before .before .before .before .m .given .1) (c .before .before .before .before .before .before .before .before .line .ensures)
 
--- src/lib.rt:161:5
 loop-again : tie.Need-loop-again Inv-loop μ-loop
-loop-again c = ?
+loop-again c =
+    let i = c .before .before .before .before .before .before .before .before .before .before .loop .inv in (
+      length-set (c .before .before .before .before .before .before .before .before .before .before .loop .entries) _ _ ∙ i .0,
+      λ ms t. made-more (i .1 ms t) (c .before .before .before .before .before .before .m .given .1) (c .before .before .before .before .before .before .before .before .line .ensures) (statements (c .before .before .before .before .before .before .before .before .before .before .before .before .before .before .args .t2)) (verdicts-same (c .before .before .before .before .before .before .before .before .before .before .before .before .before .before .pre .1) t) (omega (arith, held-few (c .before .before .before .before .before .before .before .before .before .before .before .before .before .before .pre .0), c .before .before .before .before .before .before .before .before .before .before .loop .inv .0)) (c .before .before .before .if1 .taken) _ (c .before .before .statement-of .ensures) _ (c .makes .ensures),
+    )
 
--- src/lib.rt:180:13
 add-j-2 : tie.Need-add-j-2 Inv-loop μ-loop
-add-j-2 c = ?
+add-j-2 c = omega (arith, line-below ((c .before .before .before .before .before .before .before .loop .inv .1 (c .before .before .before .before .before .before .before .before .before .before .before .pre .1 .ms) (c .before .before .before .before .before .before .before .before .before .before .before .pre .1 .taken)) .begins) (c .before .before .before .before .before .before .before .before .before .before .before .pre .1 .taken) (c .before .before .before .m .given .1) (c .before .before .before .before .before .line .ensures))
 
--- src/lib.rt:161:5
 loop-less-2 : tie.Need-loop-less-2 Inv-loop μ-loop
-loop-less-2 c = ?
+loop-less-2 c = line-further _ _ (c .before .before .before .m .given .1) (c .before .before .before .before .before .line .ensures)
 
--- src/lib.rt:161:5
 loop-again-2 : tie.Need-loop-again-2 Inv-loop μ-loop
-loop-again-2 c = ?
+loop-again-2 c = let i = c .before .before .before .before .before .before .before .loop .inv in (i .0, λ ms t. made-less (i .1 ms t) (c .before .before .before .m .given .1) (c .before .before .before .before .before .line .ensures) (c .if1 .left))
 
--- src/lib.rt:151:1
 returns-2 : tie.Need-returns-2 Inv-loop μ-loop
-returns-2 c = ?
+returns-2 c =
+    let i = c .before .loop .inv in
+    let p = c .before .before .before .before .before .args .t2 in
+    let h = c .before .before .before .before .before .pre .0 in
+    λ ms t. record {
+      held = record { room = i .0; few = h .few };
+      rewritten = made-all p h _ (i .1 ms t) (c .loop-test .left) (i .0) (verdicts-same (c .before .before .before .before .before .pre .1) t);
+      counted = counted-all p h _ (i .1 ms t) (c .loop-test .left) (i .0) (verdicts-same (c .before .before .before .before .before .pre .1) t);
+    }
 
 pub rewrite-spec : {M : Type 1} → statement M
 rewrite-spec =
@@ -107,18 +82,18 @@ rewrite-spec =
     Inv-loop
     μ-loop
     loop-holds
-    line-requires
-    enum-known-m
-    enum-told
+    (λ c κs. search needs)
+    (λ c. search needs)
+    (λ c. search needs)
     returns
     shared-slice-read-if1
-    statement-of-requires
+    (λ c κs. search needs)
     sub-place
-    cast-place
-    mul-e
+    (λ c. search needs)
+    (λ c. search needs)
     element-copy-out-e
-    makes-requires
-    mul-entries
+    (λ c κs. search needs)
+    (λ c. search needs)
     array-set-from-entries
     add-accepted
     add-j
