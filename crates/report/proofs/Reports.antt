@@ -4,8 +4,7 @@ use mathlib.Core.Logic.{_⊎_, inl, inr, ⊎-elim}
 use mathlib.Core.List.{List, [], _∷_, _++_}
 use Prim.Native.Nat.{ℕ, _+_, _≤_, _<_, _^_}
 use native.Mathlib.Omega.{arith}
-use lib.ListN.{length, take, drop}
-use lib.Seq.{sets-eq, length-sets, take-at}
+use lib.ListN.{length, take}
 use Rattle.language.specs.Spelling.{digits}
 use Rattle.language.specs.Writing.{Put}
 use Rattle.language.specs.declared.Statement.{Statement}
@@ -18,6 +17,7 @@ use Rattle.program.proofs.RoundTrip.{text-fits}
 use Rattle.marks.specs.Reading as marks
 use Rattle.marks.specs.declared.Refusal as marks-refusal
 use Rattle.marks.specs.declared.Refusal.the-variants as of-marks
+use Rattle.verdicts.proofs.Rows.{put-front, put-within}
 use Rattle.rewrites.specs.Judge.{text-bytes, Room, Lent, JudgeRefused, JudgeFinished, JudgeAnswers}
 use Rattle.rewrites.specs.declared.JudgeAnswer.{JudgeAnswer}
 use Rattle.rewrites.specs.declared.JudgeAnswer.the-variants.{Refused, Finished}
@@ -60,12 +60,6 @@ refused-room {n = n} h = omega (arith, refused-length n, digits-length 1 n (refu
 pub refused-output : {t u : List ℕ} {n : ℕ} → Refuses t u n → Output t u (refusedLine n)
 refused-output {n = n} h = inl (record { n = n; refuses = h; line = refl })
 
--- what was put at the front of lent bytes stands there
-put-front : {o w q : List ℕ} {n : ℕ} → Put o 0 w q n → length w ≤ length o → take n q ≡ w
-put-front {o = o} {w = w} {n = n} p h =
-    let l = p .after in
-    rw (p .text, sets-eq w o 0 (omega arith)) (take-at w (drop (0 + length w) o) n (omega arith))
-
 module _ {t u : List ℕ} {o q : Lent} {count accepted bytes : ℕ} (f : JudgeFinished t u o q count accepted bytes) where
   text-short : length (text (f .Q)) ≤ text-bytes
   text-short = let d = f .demand .taken in omega (arith, ap length (d .lines), text-fits (d .program))
@@ -74,7 +68,7 @@ module _ {t u : List ℕ} {o q : Lent} {count accepted bytes : ℕ} (f : JudgeFi
   new-text = put-front (f .written) (omega (arith, text-short, f .room .1))
 
   pub new-within : bytes ≤ length (q .new)
-  new-within = omega (arith, f .written .after, ap length (f .written .text) ∙ length-sets (o .new) 0 (text (f .Q)), text-short, f .room .1)
+  new-within = put-within (f .written) (omega (arith, text-short, f .room .1))
 
   abbrev printed : List ℕ
   printed = countsLine count accepted ++ (verdictLines (f .ms) (q .verdicts) ++ take bytes (q .new))

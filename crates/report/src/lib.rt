@@ -6,10 +6,11 @@ ghost use Prim.Native.Nat.{_≤_, _+_};
 ghost use Rattle.language.specs.Writing.{Put};
 ghost use Rattle.marks.specs.Reading.{Taken};
 ghost use Rattle.marks.specs.declared.Mark.{Mark};
-ghost use Rattle.report.specs.Report.{refusedLine, countsLine, verdictLine, verdictLines};
+ghost use Rattle.report.specs.Report.{refusedLine, countsLine, verdictLine, verdictLines, Reports};
 ghost use Rattle.rewrites.specs.Judge.{verdict-bytes, text-bytes};
 ghost use Rattle.report.specs.Writing.{VerdictsFit, ReportFits};
 use marks::read::MarkRead;
+use rewrites::JudgeAnswer;
 use rewrites::TEXT_BYTES;
 use rewrites::VERDICT_BYTES;
 
@@ -101,4 +102,23 @@ fn text_buffer() -> [u8; TEXT_BYTES]
     ensures { λ r. ⌜ length r ≡ text-bytes ⌝ }
 {
     [0; TEXT_BYTES]
+}
+
+// Puts what the check program prints for the program's text and the list of marks at the front of the lent bytes.
+pub fn report(given: &[u8], marks: &[u8], out: &mut [u8]) -> Reported
+    ensures { λ r. ⌜ Reports (now (given .entry)) (now (marks .entry)) (now (out .entry)) (now (out .exit)) r ⌝ }
+{
+    if out.len() < REPORT_ROOM {
+        return Reported::NoRoom;
+    }
+    let mut verdicts = verdict_buffer();
+    let mut text = text_buffer();
+    let answer = rewrites::judge(given, marks, &mut verdicts, &mut text);
+    match answer {
+        JudgeAnswer::Refused(n) => Reported::Written(write_refused(out, n)),
+        JudgeAnswer::Finished(count, accepted, bytes) => {
+            let end = bytes as usize;
+            Reported::Written(write_report(out, count, accepted, marks, &verdicts, &text[..end]))
+        }
+    }
 }
