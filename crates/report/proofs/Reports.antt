@@ -15,13 +15,17 @@ use Rattle.program.specs.declared.Refusal as program-refusal
 use Rattle.program.specs.declared.Refusal.the-variants.{Misspelled, LineCount, Placement, Target}
 use Rattle.program.proofs.RoundTrip.{text-fits}
 use Rattle.marks.specs.Reading as marks
+use Rattle.marks.specs.Reading.{Taken}
+use Rattle.marks.specs.declared.Mark.{Mark}
 use Rattle.marks.specs.declared.Refusal as marks-refusal
 use Rattle.marks.specs.declared.Refusal.the-variants as of-marks
 use Rattle.verdicts.proofs.Rows.{put-front, put-within}
 use Rattle.rewrites.specs.Judge.{text-bytes, Room, Lent, JudgeRefused, JudgeFinished, JudgeAnswers}
 use Rattle.rewrites.specs.declared.JudgeAnswer.{JudgeAnswer}
 use Rattle.rewrites.specs.declared.JudgeAnswer.the-variants.{Refused, Finished}
-use Rattle.report.specs.Report.{refusedLine, countsLine, verdictLines, reportText, Refuses, Output, report-room}
+use Rattle.report.specs.Report.{refusedLine, countsLine, verdictLines, reportText, Refuses, report-room, Printed, Reports}
+use Rattle.report.specs.declared.Reported.{Reported}
+use Rattle.report.specs.declared.Reported.the-variants.{Written}
 use Rattle.report.specs.Writing.{ReportFits}
 use Rattle.report.proofs.Lines.{refused-length}
 use Rattle.report.proofs.Room.{report-most}
@@ -57,8 +61,15 @@ refuses-number (inr h) = rw (h .4) (marks-number (h .2))
 pub refused-room : {t u : List ℕ} {n : ℕ} → Refuses t u n → length (refusedLine n) ≤ report-room
 refused-room {n = n} h = omega (arith, refused-length n, digits-length 1 n (refuses-number h))
 
-pub refused-output : {t u : List ℕ} {n : ℕ} → Refuses t u n → Output t u (refusedLine n)
-refused-output {n = n} h = inl (record { n = n; refuses = h; line = refl })
+pub refused-printed : {t u o p : List ℕ} {n k : ℕ} → Refuses t u n → report-room ≤ length o → Put o 0 (refusedLine n) p k → Printed t u o p k
+refused-printed {n = n} h room put =
+    record {
+      room = room;
+      w = refusedLine n;
+      output = inl (record { n = n; refuses = h; line = refl });
+      fits = omega (arith, refused-room h);
+      written = put;
+    }
 
 module _ {t u : List ℕ} {o q : Lent} {count accepted bytes : ℕ} (f : JudgeFinished t u o q count accepted bytes) where
   text-short : length (text (f .Q)) ≤ text-bytes
@@ -77,26 +88,42 @@ module _ {t u : List ℕ} {o q : Lent} {count accepted bytes : ℕ} (f : JudgeFi
   unfolding reportText
   printed-report = rw (f .counted, f .taken, new-text)
 
+  printed-most : length printed ≤ report-room
+  printed-most = rw printed-report (report-most (f .P) (f .ms) (q .verdicts) (f .Q) (f .marks) (f .judged) text-short)
+
   pub report-fits : (n : ℕ) → report-room ≤ n → ReportFits u (q .verdicts) (take bytes (q .new)) count accepted n
   report-fits n h =
       record {
         ms = f .ms;
         taken = f .marks;
         judged = omega (arith, f .marks .few, f .room .0, f .same);
-        fits = rw printed-report (omega (arith, report-most (f .P) (f .ms) (q .verdicts) (f .Q) (f .marks) (f .judged) text-short));
+        fits = omega (arith, printed-most);
       }
 
-  pub finished-output : Output t u printed
-  finished-output =
-      inr
-      (record {
-        P = f .P;
-        ms = f .ms;
-        vs = q .verdicts;
-        Q = f .Q;
-        program = f .program;
-        marks = f .marks;
-        judged = f .judged;
-        rewritten = f .rewritten;
-        lines = printed-report;
-      })
+  pub finished-printed : {l p : List ℕ} {k : ℕ} → report-room ≤ length l
+      → ((ms : List Mark) → Taken u ms → Put l 0 (countsLine count accepted ++ (verdictLines ms (q .verdicts) ++ take bytes (q .new))) p k)
+      → Printed t u l p k
+  finished-printed room put =
+      record {
+        room = room;
+        w = printed;
+        output =
+            inr
+            (record {
+              P = f .P;
+              ms = f .ms;
+              vs = q .verdicts;
+              Q = f .Q;
+              program = f .program;
+              marks = f .marks;
+              judged = f .judged;
+              rewritten = f .rewritten;
+              lines = printed-report;
+            });
+        fits = omega (arith, printed-most);
+        written = put (f .ms) (f .marks);
+      }
+
+-- an output's end lies within the lent bytes
+pub printed-within : (t u o q : List ℕ) {r : Reported} {n : ℕ} → r ≡ Written n → Reports t u o q r → n ≤ length q
+printed-within t u o q is h = let p : Printed t u o q _ = rw is at h in put-within (p .written) (p .fits)

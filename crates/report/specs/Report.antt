@@ -81,7 +81,15 @@ Output t u w = PrintsRefusal t u w ⊎ PrintsReport t u w
 abbrev pub report-room : ℕ
 report-room = 23 + (marks.most * 14 + text-bytes)
 
--- the output stands at the front of the lent bytes, all others are kept, and n is its length; too few bytes are kept as they are
+-- the output stands at the front of the lent bytes o, all others are kept, and n is its length
+pub record Printed (t u o q : List ℕ) (n : ℕ) : Type 0 where
+  pub room : report-room ≤ length o
+  pub w : List ℕ
+  pub output : Output t u w
+  pub fits : length w ≤ length o
+  pub written : Put o 0 w q n
+
+-- too few bytes are kept as they are
 abbrev pub Reports : List ℕ → List ℕ → List ℕ → List ℕ → Reported → Type 0
-Reports t u o q (Written n) = (report-room ≤ length o) × (w : List ℕ) × Output t u w × Put o 0 w q n
+Reports t u o q (Written n) = Printed t u o q n
 Reports t u o q NoRoom = (length o < report-room) × (q ≡ o)

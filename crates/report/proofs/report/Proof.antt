@@ -1,4 +1,4 @@
-use Rattle.report.proofs.Reports.{answer-refused, answer-finished, refused-room, refused-output, new-within, report-fits, finished-output}
+use Rattle.report.proofs.Reports.{answer-refused, answer-finished, refused-room, refused-printed, new-within, report-fits, finished-printed}
 use Rattle.report.specs.Report.{Refuses}
 use Rattle.rewrites.specs.Judge.{Lent, JudgeFinished}
 use lib.Seq.{length-take-le}
@@ -36,10 +36,10 @@ write-report-requires : tie.Need-write-report-requires
 write-report-requires c κs = report-fits (finished (c .before .before .before .before)) _ (omega arith)
 
 returns-2 : tie.Need-returns-2
-returns-2 c = let h = refuses (c .before .before .before .before .before) in (c .before .before .before .before .before .before .before .before .before .before .before .before .before .before .if1 .left, _, refused-output h, c .before .before .write-refused .ensures)
+returns-2 c = refused-printed (refuses (c .before .before .before .before .before)) (c .before .before .before .before .before .before .before .before .before .before .before .before .before .before .if1 .left) (c .before .before .write-refused .ensures)
 
 returns-3 : tie.Need-returns-3
-returns-3 c = let f = finished (c .before .before .before .before .before .before .before) in (c .before .before .before .before .before .before .before .before .before .before .before .before .before .before .before .before .if1 .left, _, finished-output f, c .before .before .write-report .ensures (f .ms) (f .marks))
+returns-3 c = finished-printed (finished (c .before .before .before .before .before .before .before)) (c .before .before .before .before .before .before .before .before .before .before .before .before .before .before .before .before .if1 .left) (c .before .before .write-report .ensures)
 
 pub report-spec : {M : Type 1} → statement M
 report-spec =
