@@ -3,3 +3,4 @@ pub mod Walk
 pub mod Together
 pub mod Room
 pub mod Reports
+pub mod Unique

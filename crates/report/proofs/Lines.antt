@@ -1,13 +1,12 @@
 -- The lines of the output: how long they are, and the lines of the verdicts one after another. Assumes nothing.
-use mathlib.Core.Path.{_≡_, refl, ap, sym, _∙_}
+use mathlib.Core.Path.{_≡_, sym}
 use mathlib.Core.List.{List, [], _∷_, _++_, append-assoc, append-nil}
-use Prim.Native.Nat.{ℕ, zero, suc, _+_, _*_, _≤_, _<_, _^_}
+use Prim.Native.Nat.{ℕ, zero, suc, _+_, _≤_, _<_}
 use native.Mathlib.Omega.{arith}
 use native.Mathlib.Numerals.{add-one}
 use lib.ListN.{length, take, drop, getD, length-append}
 use lib.Seq.{getD-drop}
-use Rattle.language.specs.Spelling.{digits, largest}
-use Rattle.language.proofs.Lengths.{digits-length}
+use Rattle.language.specs.Spelling.{digits}
 use Rattle.marks.specs.declared.Mark.{Mark}
 use Rattle.marks.specs.Marks.{names}
 use Rattle.rewriting.specs.Verdicts.{markAt}

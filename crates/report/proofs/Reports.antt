@@ -1,13 +1,11 @@
 -- From what `judge` answers to what is printed. Assumes nothing.
-use mathlib.Core.Path.{_≡_, refl, ap, sym, _∙_}
+use mathlib.Core.Path.{_≡_, refl, ap}
 use mathlib.Core.Logic.{_⊎_, inl, inr, ⊎-elim}
-use mathlib.Core.List.{List, [], _∷_, _++_}
-use Prim.Native.Nat.{ℕ, _+_, _≤_, _<_, _^_}
+use mathlib.Core.List.{List, _++_}
+use Prim.Native.Nat.{ℕ, _+_, _≤_, _<_}
 use native.Mathlib.Omega.{arith}
 use lib.ListN.{length, take}
-use Rattle.language.specs.Spelling.{digits}
 use Rattle.language.specs.Writing.{Put}
-use Rattle.language.specs.declared.Statement.{Statement}
 use Rattle.language.proofs.Lengths.{digits-length}
 use Rattle.program.specs.Program.{text}
 use Rattle.program.specs.Reading as program

@@ -1,12 +1,12 @@
 -- A report has room in 11,799 bytes, whatever the program and the list. Assumes nothing.
-use mathlib.Core.Path.{_≡_, refl, ap, sym, _∙_}
-use mathlib.Core.List.{List, [], _∷_, _++_}
-use Prim.Native.Nat.{ℕ, zero, suc, _+_, _*_, _≤_, _<_, _^_}
+use mathlib.Core.Path.{_≡_}
+use mathlib.Core.List.{List, [], _∷_}
+use Prim.Native.Nat.{ℕ, suc, _+_, _*_, _≤_, _<_}
 use native.Mathlib.Omega.{arith}
 use lib.Dec.{eqb}
 use lib.ListN.{length, drop, getD, length-append}
 use lib.Seq.{getD-drop}
-use Rattle.language.specs.Spelling.{digits, largest}
+use Rattle.language.specs.Spelling.{largest}
 use Rattle.language.specs.declared.Statement.{Statement}
 use Rattle.language.proofs.Lengths.{digits-length}
 use Rattle.program.specs.Program.{text}

@@ -1,9 +1,9 @@
 -- Writing the lines of the verdicts, mark after mark, while the list is read a second time. Assumes nothing.
-use mathlib.Core.Path.{_≡_, refl, ap, sym, _∙_}
-use mathlib.Core.List.{List, [], _∷_, _++_}
+use mathlib.Core.Path.{_≡_, refl, ap, _∙_}
+use mathlib.Core.List.{List, [], _++_}
 use Prim.Native.Nat.{ℕ, _+_, _≤_, _<_}
 use native.Mathlib.Omega.{arith}
-use lib.ListN.{length, take, getD, length-append}
+use lib.ListN.{length, take, getD}
 use lib.Seq.{take-all, length-sets}
 use Rattle.language.specs.Writing.{Put}
 use Rattle.language.proofs.Puts.{put-then, room}

@@ -1,3 +1,4 @@
+-- `print` meets its contract: what is written to standard output lies within the bytes lent to `report`. Assumes nothing.
 use Rattle.report.proofs.Reports.{printed-within}
 use mathlib.Core.Path.{sym}
 use lib.Seq.{length-take-le}

@@ -1,3 +1,4 @@
+-- `report` meets its contract: each answer of `judge` is printed. Assumes nothing.
 use Rattle.report.proofs.Reports.{answer-refused, answer-finished, refused-room, refused-printed, new-within, report-fits, finished-printed}
 use Rattle.report.specs.Report.{Refuses}
 use Rattle.rewrites.specs.Judge.{Lent, JudgeFinished}

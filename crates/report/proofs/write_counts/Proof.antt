@@ -1,3 +1,4 @@
+-- `write_counts` meets its contract: two words, two numbers and byte 10. Assumes nothing.
 use Rattle.report.proofs.Lines.{counts-length}
 use Rattle.report.specs.Report.{countsLine}
 use Rattle.language.proofs.Puts.{put-then}

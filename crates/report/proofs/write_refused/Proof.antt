@@ -1,3 +1,4 @@
+-- `write_refused` meets its contract: a word, the number and byte 10. Assumes nothing.
 use Rattle.report.proofs.Lines.{refused-length}
 use Rattle.report.specs.Report.{refusedLine}
 use Rattle.language.proofs.Puts.{put-then}

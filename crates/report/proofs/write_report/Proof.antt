@@ -1,3 +1,4 @@
+-- `write_report` meets its contract: the counts, the verdicts, the new text. Assumes nothing.
 use Rattle.report.proofs.Together.{counts-room, verdicts-room, text-room, put-together}
 use borrow.Author.Needs.{needs}
 use Rattle.report.proofs.write_report.Statement.{statement}

@@ -1,3 +1,4 @@
+-- `write_verdict` meets its contract: two numbers with a space between, and byte 10. Assumes nothing.
 use Rattle.report.proofs.Lines.{verdict-length}
 use Rattle.report.specs.Report.{verdictLine}
 use Rattle.language.proofs.Puts.{put-then}

@@ -1,3 +1,5 @@
+-- `write_verdicts` meets its contract. The invariant: line j of the list begins at the position, and the lines of the verdicts before it
+-- are written. Assumes nothing.
 use Rattle.report.proofs.Walk.{Written, none-written, written-length, line-there, verdict-there, line-room, written-more, all-written}
 use Rattle.marks.proofs.Walk.{line-further}
 use Prim.Native.Nat.{_-_}
