@@ -1,5 +1,5 @@
 // Document 01's check program: reads a program from the file `given` and a list of marks from `marks`, and prints what `report` says
-// of them. A file is read up to 65,536 bytes, one more than may be asked for, so that a longer one is refused.
+// of them. A file is read up to 65,536 bytes: one that has so many is over 256 lines, whatever they are, and is refused.
 ghost use Rattle.io.specs.Counts.{Counts};
 use libc::STDOUT_FILENO;
 use report::REPORT_ROOM;
