@@ -33,7 +33,7 @@ abbrev in-expression : ℕ → Expression → Bool
 in-expression x (Single a) = in-operand x a
 in-expression x (Binary a o b) = in-operand x a || in-operand x b
 
-decides-or : (X Y : Type 0) (a b : Bool) → Decides a X → Decides b Y → Decides (a || b) (X ⊎ Y)
+pub decides-or : (X Y : Type 0) (a b : Bool) → Decides a X → Decides b Y → Decides (a || b) (X ⊎ Y)
 decides-or X Y true b d e = inl d
 decides-or X Y false b d e = decides-either Y b d e
 

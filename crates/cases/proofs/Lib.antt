@@ -3,4 +3,8 @@ pub mod Label
 pub mod Words
 pub mod Runs
 pub mod Taken
+pub mod Marks
+pub mod Verdicts
+pub mod Made
+pub mod Report
 pub mod Cases

@@ -1,4 +1,4 @@
--- Document 01's starred cases of conditions and runs as one list, and what each claims of the definitions: "A program to check against".
+-- Document 01's starred cases as one list, and what each claims of the definitions: "A program to check against".
 use mathlib.Core.Path.{_≡_}
 use mathlib.Core.List.{List, [], _∷_, _++_}
 use mathlib.Core.Bool.{true}
@@ -19,6 +19,7 @@ use Rattle.condition.specs.Condition.{Condition, parts}
 use Rattle.condition.specs.Reading as condition
 use Rattle.condition.specs.Truth.{Sat}
 use Rattle.table.specs.Table.{partAt}
+use Rattle.report.specs.Report.{PrintsReport}
 
 -- the bytes of an ASCII text
 unfoldable pub bytes : String → List ℕ
@@ -53,9 +54,12 @@ pub data Case : Type 0 where
   ends : ℕ → ℤ → ℕ → Case
   -- an input, a budget, the statement before which it is spent, and the values of `i0` and so on then; the others are the starting ones
   spent : ℕ → ℕ → ℕ → List ℕ → Case
+  -- the lines of `marks`, and those that the check program prints, where `given` is P
+  check : List String → List String → Case
 
--- "Word 0 on P: ..", "Input 0 ends with 7 after 6 steps. Input 2 ends with 9 after 12; budget 11 is spent." Document 01 gives the words of
--- all parts for the first condition, and that of the last part for the others
+-- "Word 0 on P: ..", "Input 0 ends with 7 after 6 steps. Input 2 ends with 9 after 12; budget 11 is spent.", "The check program reads P
+-- .. and these lines ..: .. It prints ..". Document 01 gives the words of all parts for the first condition, and that of the last part for
+-- the others
 abbrev pub cases : List Case
 cases =
     table "E[!def(i2) U use(i2)]" (4 ∷ 251 ∷ 8 ∷ 120 ∷ [])
@@ -69,6 +73,28 @@ cases =
     ∷ ends 0 (pos 7) 6
     ∷ ends 2 (pos 9) 12
     ∷ spent 2 11 8 (0 ∷ 2 ∷ 7 ∷ 9 ∷ [])
+    ∷ check
+    ("4: mark(rpl, i2, 7)"
+    ∷ "3: mark(rm, i2, 7)"
+    ∷ "4: mark(rpl, i1, i0)"
+    ∷ "6: mark(rm, i0, 1)"
+    ∷ "9: mark(rm, i2, 7)"
+    ∷ [])
+    ("marks 5 accepted 1"
+    ∷ "4 0"
+    ∷ "3 14"
+    ∷ "4 12"
+    ∷ "6 13"
+    ∷ "9 11"
+    ∷ "read i0"
+    ∷ "i1 := i0"
+    ∷ "i2 := 7"
+    ∷ "i3 := i1 + 7"
+    ∷ "if i0 goto 6 else 8"
+    ∷ "i0 := i0 - 1"
+    ∷ "if i0 goto 4 else 8"
+    ∷ "write i3"
+    ∷ [])
     ∷ []
 
 -- x is word 0 of the part p on the program P: "bit b of word w of those four is statement 64w+b+1; bits beyond N are 0"
@@ -94,6 +120,7 @@ Is (ends input value steps) =
     OnP λ P. (vs : List ℕ) → length vs ≡ variables → (budget : ℕ) → steps ≤ budget → Answers P vs input budget (Ended value steps) vs
 Is (spent input budget n us) =
     OnP λ P. (vs : List ℕ) → length vs ≡ variables → Answers P vs input budget (Spent n) (us ++ drop (length us) vs)
+Is (check ms out) = PrintsReport P-text (lines ms) (lines out)
 
 -- X is true of each member of the list
 abbrev pub Each : {A : Type 0} → (A → Type 0) → List A → Type 0

@@ -39,7 +39,7 @@ unfolding countBelow
 count-none f n e = rw (add-one n, e) (omega arith)
 
 -- a line before j names what it names
-named-earlier : (ms : List Mark) (i j : ℕ) → i < j → i < length ms → Named (take j ms) (names (markAt ms i))
+pub named-earlier : (ms : List Mark) (i j : ℕ) → i < j → i < length ms → Named (take j ms) (names (markAt ms i))
 named-earlier [] i j h l = absurd (omega arith)
 named-earlier (m ∷ ms) i zero h l = absurd (omega arith)
 named-earlier (m ∷ ms) zero (suc j) h l = inl refl
