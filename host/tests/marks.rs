@@ -1,11 +1,12 @@
-//! Executed cases of `judge`. Verdicts and new texts are worked out by hand from the description of
-//! marks. Wherever a list is judged, runs of the given and of the new program are compared too.
+//! Executed cases of `judge`. Verdicts and new texts are worked out from the description of marks,
+//! by hand or by the second implementation in `reference`. Runs of the given and of the new program
+//! are compared too.
 
 mod common;
 mod reference;
 
 use common::{given, lines, refused_programs, shown, text, P};
-use reference::Random;
+use reference::{marks as second, Random};
 use rewrites::{judge, raw, run, tabulate, Judged, Outcome, Refusal, Verdict};
 use rewrites::{PART_WORDS, TABLE_WORDS, TEXT_BYTES, VERDICT_BYTES};
 
@@ -25,12 +26,17 @@ struct Lent {
     places: [u32; 5],
 }
 
-/// No byte is a verdict or stands in a text.
-fn unchanged(room: [usize; 2]) -> Lent {
-    let [verdicts, text] =
-        room.map(|n| (0..n + 2 * GUARD).map(|k| 0x80 | (k % 127) as u8).collect());
+/// So many bytes and the guards: no verdicts, found in no text, none like the next.
+fn guarded(n: usize) -> Vec<u8> {
+    let bytes: Vec<u8> = (0x80..0xff).collect();
+    let mut bytes = bytes.repeat((n + 2 * GUARD) / bytes.len() + 1);
+    bytes.truncate(n + 2 * GUARD);
+    bytes
+}
+
+fn unchanged([verdicts, text]: [usize; 2]) -> Lent {
     let places = [0xeeee_0001, 0xeeee_0002, 0xeeee_0003, 0xeeee_0004, 0xeeee_0005];
-    Lent { verdicts, text, places }
+    Lent { verdicts: guarded(verdicts), text: guarded(text), places }
 }
 
 fn filled(room: [usize; 2], verdicts: &[u8], text: &[u8]) -> Lent {
@@ -1292,30 +1298,6 @@ fn endless_runs_stay_alike() {
     }
 }
 
-/// A list for the program of these lines: marks that fit, in some order, and a few that needn't.
-fn proposed(random: &mut Random, lines: &[String]) -> Vec<String> {
-    let words: Vec<Vec<&str>> = lines.iter().map(|line| line.split(' ').collect()).collect();
-    let copies: Vec<(&str, &str)> =
-        words.iter().filter(|w| w.len() == 3 && w[1] == ":=").map(|w| (w[0], w[2])).collect();
-    let mut marks = Vec::new();
-    for (k, line) in lines.iter().enumerate() {
-        if let Some((x, e)) = line.split_once(" := ") {
-            marks.push(format!("{}: mark(rm, {}, {})", k + 1, x, e));
-        }
-        for (x, a) in &copies {
-            // Where x stands in the statement at all.
-            if words[k].contains(x) {
-                marks.push(format!("{}: mark(rpl, {}, {})", k + 1, x, a));
-            }
-        }
-    }
-    for k in (1..marks.len()).rev() {
-        marks.swap(k, random.below(k + 1));
-    }
-    marks.truncate(VERDICT_BYTES);
-    marks
-}
-
 /// The condition that the paper publishes for a mark.
 fn published(mark: &str) -> String {
     let parts: Vec<&str> = mark.trim_end_matches(')').splitn(3, ", ").collect();
@@ -1335,12 +1317,12 @@ fn a_mark_that_fits_is_accepted_where_tabulate_shows_its_condition_true() {
         let n = 3 + random.below(30);
         let lines = random.program(n);
         let program: Vec<&str> = lines.iter().map(|line| &line[..]).collect();
-        for mark in proposed(&mut random, &lines) {
+        for mark in random.marks(&lines) {
             let mut verdicts = [99; VERDICT_BYTES];
             let list = text(&[&mark]);
             let answer = judge(&text(&program), &list, &mut verdicts, &mut [0; TEXT_BYTES]);
             assert!(answer.is_ok(), "{}", mark);
-            if verdicts[0] == 13 {
+            if matches!(verdicts[0], 11 | 13) {
                 continue;
             }
             let n = mark.split(':').next().and_then(|n| n.parse().ok()).expect("a number");
@@ -1360,7 +1342,7 @@ fn random_programs_and_their_rewritings_run_alike() {
     for _ in 0..6000 {
         let n = 3 + random.below(14);
         let lines = random.program(n);
-        let marks = proposed(&mut random, &lines);
+        let marks = random.marks(&lines);
         let program = text(&lines);
         let (mut verdicts, mut new) = ([99; VERDICT_BYTES], [99; TEXT_BYTES]);
         let answer = judge(&program, &text(&marks), &mut verdicts, &mut new);
@@ -1383,4 +1365,113 @@ fn random_programs_and_their_rewritings_run_alike() {
     // Marks of both kinds were made often, and each verdict that the proposals can get came up.
     assert!(dropped > 1000 && replaced > 1000, "{} {}", dropped, replaced);
     assert!([0, 12, 13, 14].iter().all(|&k| counts[k] > 1000), "{:?}", counts);
+}
+
+// Against the reference
+
+/// Holds the library to the reference, with all that is lent, and tells the number of its answer.
+fn agrees(program: &[u8], marks: &[u8], room: [usize; 2]) -> u8 {
+    let expected = match second::judge(program, marks, room) {
+        Err(number) => (number, unchanged(room)),
+        Ok((verdicts, lines)) => (0, filled(room, &verdicts, &text(&lines))),
+    };
+    let answer = lend(program, marks, room);
+    let texts = || format!("{}\n{}", shown(program), String::from_utf8_lossy(marks));
+    assert_eq!(answer, expected, "{}", texts());
+    answer.0
+}
+
+#[test]
+fn the_list_of_p_is_as_by_the_reference() {
+    let (verdicts, lines) = (LIST.map(|(_, v)| v), changed(&p(), &[(4, "i3 := i1 + 7")]));
+    let list = text(&LIST.map(|(line, _)| line));
+    assert_eq!(second::judge(P.as_bytes(), &list, ROOM), Ok((verdicts.to_vec(), lines)));
+    assert_eq!(agrees(P.as_bytes(), &list, ROOM), 0);
+}
+
+#[test]
+fn every_edit_of_one_byte_of_a_list_is_answered_as_by_the_reference() {
+    let good = text(&["4: mark(rpl, i2, 7)", "3: mark(rm, i2, i1 + 7)"]);
+    let (mut taken, mut refused) = (0, 0);
+    let mut edit = |at: usize, removed: usize, inserted: &[u8]| {
+        let edited = [&good[..at], inserted, &good[at + removed..]].concat();
+        match agrees(P.as_bytes(), &edited, ROOM) {
+            0 => taken += 1,
+            _ => refused += 1,
+        }
+    };
+    for at in 0..=good.len() {
+        for byte in 0..=255 {
+            edit(at, 0, &[byte]);
+        }
+        if at < good.len() {
+            for byte in 0..=255 {
+                edit(at, 1, &[byte]);
+            }
+            edit(at, 1, &[]);
+        }
+    }
+    assert!(taken > 100 && refused > 10_000, "{} {}", taken, refused);
+}
+
+#[test]
+fn random_lists_are_judged_as_by_the_reference() {
+    let mut random = Random(0x1f83_d9ab_fb41_bd6b);
+    for _ in 0..2000 {
+        let n = 2 + random.below(20);
+        let lines = random.program(n);
+        let marks = random.marks(&lines);
+        let room = [256 + random.below(3), 8192 + random.below(3)];
+        assert_eq!(agrees(&text(&lines), &text(&marks), room), 0);
+    }
+}
+
+#[test]
+fn random_lists_on_programs_of_up_to_256_lines_are_judged_as_by_the_reference() {
+    let mut random = Random(0x5be0_cd19_137e_2179);
+    for round in 0..8 {
+        let n = if round % 3 == 0 { 256 } else { 2 + random.below(255) };
+        let lines = random.program(n);
+        let marks = random.marks(&lines);
+        assert_eq!(agrees(&text(&lines), &text(&marks), ROOM), 0);
+    }
+}
+
+#[test]
+fn random_damaged_lists_are_answered_as_by_the_reference() {
+    let mut random = Random(0xcbbb_9d5d_c105_9ed8);
+    let mut numbers = [0; 16];
+    for _ in 0..10_000 {
+        let n = 2 + random.below(6);
+        let lines = random.program(n);
+        let mut marks = text(&random.marks(&lines));
+        if random.below(16) == 0 {
+            marks = [marks, repeated("0: mark(rm, i0, 0)", 240 + random.below(30))].concat();
+        }
+        for _ in 0..random.below(3) {
+            let at = random.below(marks.len() + 1);
+            let byte = match random.below(3) {
+                0 => random.next() as u8,
+                _ => b"0123456789:, ()markpli+-*<=\n"[random.below(28)],
+            };
+            match random.below(3) {
+                0 => marks.insert(at, byte),
+                1 if at < marks.len() => marks[at] = byte,
+                _ if at < marks.len() => drop(marks.remove(at)),
+                _ => {}
+            }
+        }
+        let room = match random.below(16) {
+            0 => [random.below(256), 8192],
+            1 => [256, random.below(8192)],
+            _ => ROOM,
+        };
+        let mut program = text(&lines);
+        if random.below(16) == 0 {
+            program.remove(random.below(program.len()));
+        }
+        numbers[usize::from(agrees(&program, &marks, room))] += 1;
+    }
+    // Each of 1, 2, 9 and 10, and lists that are taken, came up often.
+    assert!([0, 1, 2, 9, 10].iter().all(|&k| numbers[k] > 100), "{:?}", numbers);
 }
