@@ -59,6 +59,39 @@ uint8_t rewrites_tabulate(const uint8_t *program, size_t program_len, const uint
                           size_t condition_len, uint64_t *table, size_t table_len, uint32_t *parts,
                           uint32_t *satisfied, uint32_t *first);
 
+/* Judges each mark of a list on the program, and writes the program with the accepted marks made. A
+   list has zero to 256 lines, each ended by byte 10: `n: mark(rm, X, E)` or `n: mark(rpl, X, A)`.
+   rm  fits where statement n is `X := E`.
+       Condition: `!EX E[!def(X) U use(X)]`. Made: `skip`.
+   rpl fits where n uses X, and A is a variable if n is an `if` or a `write`.
+       Condition: `AY A[((!def(X) & trans(A)) & !entry) B stmt(X := A)]`.
+       Made: A for every use of X in n.
+   Each mark is judged on the given program. Accepted marks are all made together, refused ones
+   aren't. The new program has the same line count. Started alike, it runs alike: to the same value in
+   the same steps, or spent at the same statement. The values left then may differ.
+
+   Returns 0, and sets
+   verdicts    byte j for line j, counted from 0: 0 for a mark that is accepted, else the first that
+               applies of
+               11: n is 0 or above N, the count of statements.
+               12: an earlier line names n, accepted or not.
+               13: the mark doesn't fit.
+               14: its condition is false at n.
+               All further bytes are kept.
+   text        the new program, from byte 0 on. All further bytes are kept.
+   *mark_count the number of marks.
+   *accepted   the number of accepted marks.
+   *bytes      the number of bytes of new text.
+
+   Returns the number of a refusal, and keeps all:
+    1: verdicts has under 256 bytes or text under 8,192 bytes.
+    2 to 5: the program, as with rewrites_run.
+    9: some line of the marks is misspelled, or the last is without its byte 10.
+   10: the marks have over 256 lines. */
+uint8_t rewrites_judge(const uint8_t *program, size_t program_len, const uint8_t *marks,
+                       size_t marks_len, uint8_t *verdicts, size_t verdicts_len, uint8_t *text,
+                       size_t text_len, uint32_t *mark_count, uint32_t *accepted, uint32_t *bytes);
+
 #ifdef __cplusplus
 }
 #endif

@@ -1,5 +1,5 @@
-//! Shift programs: statements over 32 variables, run under a budget of steps, and conditions on
-//! the paths through them.
+//! Shift programs: statements over 32 variables, run under a budget of steps; conditions on the
+//! paths through them; and marks, which propose rewrites of them.
 //!
 //! The calls are those of a library that is proved to meet its contracts. This package links it and
 //! gives each call a safe form.
@@ -45,6 +45,24 @@
 //! // Statement 2 alone.
 //! assert_eq!(answer, Ok(Tabulated { parts: 8, satisfied: 1, first: 2 }));
 //! ```
+//!
+//! A mark proposes to drop an assignment, or to put a copied variable or a constant in place of a
+//! variable that is used. Each mark is judged by a condition. The accepted ones are made, and runs of
+//! the two programs answer alike.
+//!
+//! ```
+//! use rewrites::{judge, Judged, TEXT_BYTES, VERDICT_BYTES};
+//!
+//! // Drop statement 2, whose value no path uses, and write what statement 3 copied.
+//! let program = b"read i0\ni1 := i0\ni1 := i2\nwrite i1\n";
+//! let marks = b"2: mark(rm, i1, i0)\n4: mark(rpl, i1, i2)\n";
+//! let mut verdicts = [0; VERDICT_BYTES];
+//! let mut text = [0; TEXT_BYTES];
+//! let answer = judge(program, marks, &mut verdicts, &mut text);
+//!
+//! assert_eq!(answer, Ok(Judged { marks: 2, accepted: 2, bytes: 31 }));
+//! assert_eq!(text[..31], *b"read i0\nskip\ni1 := i2\nwrite i2\n");
+//! ```
 
 #![warn(missing_docs)]
 
@@ -64,6 +82,12 @@ pub const TABLE_WORDS: usize = 256;
 
 /// The words of one part in a table.
 pub const PART_WORDS: usize = 4;
+
+/// The bytes that there must be for verdicts: one for each of the most marks.
+pub const VERDICT_BYTES: usize = 256;
+
+/// The bytes that there must be for new text.
+pub const TEXT_BYTES: usize = 8192;
 
 /// What a run answers.
 #[derive(Clone, Copy, Debug, PartialEq, Eq)]
@@ -93,6 +117,71 @@ pub struct Tabulated {
     pub satisfied: u32,
     /// The first of them, numbered from 1; 0 if none.
     pub first: u32,
+}
+
+/// What the judging of a list of marks answers beside the verdicts and the new text.
+#[derive(Clone, Copy, Debug, PartialEq, Eq)]
+pub struct Judged {
+    /// The number of marks, 0 to 256.
+    pub marks: u32,
+    /// The number of accepted marks.
+    pub accepted: u32,
+    /// The number of bytes of new text.
+    pub bytes: u32,
+}
+
+/// What a mark on statement n of a program of N statements gets. Where it isn't accepted, it gets
+/// the first that applies, in the order of the variants.
+#[derive(Clone, Copy, Debug, PartialEq, Eq, Hash)]
+#[repr(u8)]
+pub enum Verdict {
+    /// The mark is accepted, and made.
+    Accepted = 0,
+    /// n is 0 or above N.
+    Missing = 11,
+    /// An earlier line names n, accepted or not.
+    Repeated = 12,
+    /// The mark doesn't fit.
+    Unfit = 13,
+    /// Its condition is false at n.
+    Unmet = 14,
+}
+
+impl Verdict {
+    /// Every verdict, in the order in which they apply.
+    pub const ALL: [Verdict; 5] =
+        [Verdict::Accepted, Verdict::Missing, Verdict::Repeated, Verdict::Unfit, Verdict::Unmet];
+
+    /// The number that is the verdict's byte.
+    pub fn number(self) -> u8 {
+        self as u8
+    }
+
+    /// The verdict with this byte, if it is one.
+    ///
+    /// ```
+    /// use rewrites::Verdict;
+    ///
+    /// assert_eq!(Verdict::from_byte(0), Some(Verdict::Accepted));
+    /// assert_eq!(Verdict::from_byte(14), Some(Verdict::Unmet));
+    /// assert_eq!(Verdict::from_byte(15), None);
+    /// assert_eq!(Verdict::Unmet.to_string(), "its condition is false at n");
+    /// ```
+    pub fn from_byte(byte: u8) -> Option<Verdict> {
+        Verdict::ALL.into_iter().find(|v| v.number() == byte)
+    }
+}
+
+impl fmt::Display for Verdict {
+    fn fmt(&self, f: &mut fmt::Formatter<'_>) -> fmt::Result {
+        f.write_str(match self {
+            Verdict::Accepted => "accepted",
+            Verdict::Missing => "n is 0 or above N",
+            Verdict::Repeated => "an earlier line names n, accepted or not",
+            Verdict::Unfit => "the mark doesn't fit",
+            Verdict::Unmet => "its condition is false at n",
+        })
+    }
 }
 
 /// Why a call is refused. The first that applies is answered, in the order of the variants.
@@ -293,4 +382,99 @@ pub fn tabulate(program: &[u8], condition: &[u8], table: &mut [u64]) -> Result<T
         return Err(Refusal::returned(number));
     }
     Ok(Tabulated { parts, satisfied, first })
+}
+
+/// Judges each mark of a list on a program, and writes the program with the accepted marks made.
+///
+/// A list has zero to 256 lines, each ended by byte 10: `n: mark(rm, X, E)` or `n: mark(rpl, X, A)`.
+///
+/// - `rm` fits where statement n is `X := E`. Condition: `!EX E[!def(X) U use(X)]`. Made: `skip`.
+/// - `rpl` fits where n uses X, and A is a variable if n is an `if` or a `write`. Condition:
+///   `AY A[((!def(X) & trans(A)) & !entry) B stmt(X := A)]`. Made: A for every use of X in n.
+///
+/// Each mark is judged on the given program. Line j's verdict fills byte j of the verdicts, counted
+/// from 0: [`Verdict`] names it. Accepted marks are all made together, refused ones aren't. The new
+/// program has the same line count, and fills the front of the text. All further bytes of the
+/// verdicts and of the text are kept.
+///
+/// From every start, and under every budget that isn't refused, runs of the two programs answer the
+/// same value and the same steps, or 'spent' at the same statement. The values told with 'spent' may
+/// differ.
+///
+/// # Errors
+///
+/// [`Refusal::Buffer`] for verdicts of under [`VERDICT_BYTES`] or a text of under [`TEXT_BYTES`]
+/// bytes, whatever the program and the marks hold; else, for the program, [`Refusal::Misspelled`],
+/// [`Refusal::LineCount`], [`Refusal::Placement`] or [`Refusal::Target`]; else, for the marks,
+/// [`Refusal::MarkMisspelled`] or [`Refusal::MarkCount`]. The verdicts and the text are then kept.
+///
+/// ```
+/// use rewrites::{judge, Judged, Verdict, TEXT_BYTES, VERDICT_BYTES};
+///
+/// let program = b"read i0\n\
+///     i1 := i0\n\
+///     i2 := 7\n\
+///     i3 := i1 + i2\n\
+///     if i0 goto 6 else 8\n\
+///     i0 := i0 - 1\n\
+///     if i0 goto 4 else 8\n\
+///     write i3\n";
+/// let marks = b"4: mark(rpl, i2, 7)\n\
+///     3: mark(rm, i2, 7)\n\
+///     4: mark(rpl, i1, i0)\n\
+///     6: mark(rm, i0, 1)\n\
+///     9: mark(rm, i2, 7)\n";
+/// let mut verdicts = [0; VERDICT_BYTES];
+/// let mut text = [0; TEXT_BYTES];
+/// let answer = judge(program, marks, &mut verdicts, &mut text);
+///
+/// // The first mark is made: statement 4 adds 7.
+/// assert_eq!(answer, Ok(Judged { marks: 5, accepted: 1, bytes: 100 }));
+/// let rewritten = b"read i0\n\
+///     i1 := i0\n\
+///     i2 := 7\n\
+///     i3 := i1 + 7\n\
+///     if i0 goto 6 else 8\n\
+///     i0 := i0 - 1\n\
+///     if i0 goto 4 else 8\n\
+///     write i3\n";
+/// assert_eq!(text[..100], *rewritten);
+///
+/// // i2 is still used by the given program; 4 is named before; 6 isn't `i0 := 1`; there is no 9.
+/// let expected =
+///     [Verdict::Accepted, Verdict::Unmet, Verdict::Repeated, Verdict::Unfit, Verdict::Missing];
+/// for (byte, verdict) in verdicts.into_iter().zip(expected) {
+///     assert_eq!(Verdict::from_byte(byte), Some(verdict));
+/// }
+/// ```
+pub fn judge(
+    program: &[u8],
+    marks: &[u8],
+    verdicts: &mut [u8],
+    text: &mut [u8],
+) -> Result<Judged, Refusal> {
+    let mut mark_count = 0;
+    let mut accepted = 0;
+    let mut bytes = 0;
+    // SAFETY: the pointers come from references, so none is null, and those that are written
+    // through are the only ones to their places.
+    let number = unsafe {
+        raw::rewrites_judge(
+            program.as_ptr(),
+            program.len(),
+            marks.as_ptr(),
+            marks.len(),
+            verdicts.as_mut_ptr(),
+            verdicts.len(),
+            text.as_mut_ptr(),
+            text.len(),
+            &mut mark_count,
+            &mut accepted,
+            &mut bytes,
+        )
+    };
+    if number != 0 {
+        return Err(Refusal::returned(number));
+    }
+    Ok(Judged { marks: mark_count, accepted, bytes })
 }

@@ -65,6 +65,41 @@ static int tabulate_answers(void) {
     return 0;
 }
 
+static int judge_answers(void) {
+    uint8_t (*const judge)(const uint8_t *, size_t, const uint8_t *, size_t, uint8_t *, size_t,
+                           uint8_t *, size_t, uint32_t *, uint32_t *, uint32_t *) = rewrites_judge;
+    static const char list[] =
+        "4: mark(rpl, i2, 7)\n3: mark(rm, i2, 7)\n4: mark(rpl, i1, i0)\n"
+        "6: mark(rm, i0, 1)\n9: mark(rm, i2, 7)\n";
+    static const char rewritten[] =
+        "read i0\ni1 := i0\ni2 := 7\ni3 := i1 + 7\n"
+        "if i0 goto 6 else 8\ni0 := i0 - 1\nif i0 goto 4 else 8\nwrite i3\n";
+    static const uint8_t bytes_of_list[5] = {0, 14, 12, 13, 11};
+    static uint8_t verdicts[256], text[8192];
+    const uint8_t *p = (const uint8_t *)P, *m = (const uint8_t *)list;
+    const size_t length = strlen(P), size = strlen(list), filled = strlen(rewritten);
+    uint32_t count = 15, accepted = 16, bytes = 17;
+    size_t k;
+
+    for (k = 0; k < 256; k++) verdicts[k] = 18;
+    for (k = 0; k < 8192; k++) text[k] = 19;
+    CHECK(judge(p, 0, m, 1, verdicts, 255, text, 8192, &count, &accepted, &bytes) == 1);
+    CHECK(judge(p, 0, m, 1, verdicts, 256, text, 8191, &count, &accepted, &bytes) == 1);
+    CHECK(judge(p, 0, m, 1, verdicts, 256, text, 8192, &count, &accepted, &bytes) == 3);
+    CHECK(judge(p, length, m, size - 1, verdicts, 256, text, 8192, &count, &accepted, &bytes) == 9);
+    CHECK(count == 15 && accepted == 16 && bytes == 17);
+    for (k = 0; k < 256; k++) CHECK(verdicts[k] == 18);
+    for (k = 0; k < 8192; k++) CHECK(text[k] == 19);
+
+    CHECK(judge(p, length, m, size, verdicts, 256, text, 8192, &count, &accepted, &bytes) == 0);
+    CHECK(count == 5 && accepted == 1 && bytes == filled);
+    CHECK(memcmp(verdicts, bytes_of_list, 5) == 0);
+    CHECK(memcmp(text, rewritten, filled) == 0);
+    for (k = 5; k < 256; k++) CHECK(verdicts[k] == 18);
+    for (k = filled; k < 8192; k++) CHECK(text[k] == 19);
+    return 0;
+}
+
 int main(void) {
-    return run_answers() || tabulate_answers();
+    return run_answers() || tabulate_answers() || judge_answers();
 }

@@ -34,6 +34,25 @@ pub fn lines(n: usize) -> Vec<String> {
     lines
 }
 
+/// The values before a run: all different, none small.
+pub fn given() -> [u32; 32] {
+    std::array::from_fn(|x| 1000 + x as u32)
+}
+
+/// Programs that are refused 2 to 5.
+pub fn refused_programs() -> Vec<(Vec<u8>, u8)> {
+    vec![
+        (b"rubbish".to_vec(), 2),
+        (P.as_bytes()[..P.len() - 1].to_vec(), 2),
+        (b"\n".to_vec(), 2),
+        (Vec::new(), 3),
+        (text(&["read i0"]), 3),
+        (text(&lines(257)), 3),
+        (text(&["read i0", "skip"]), 4),
+        (text(&["read i0", "if i0 goto 1 else 2", "write i0"]), 5),
+    ]
+}
+
 /// The start of a text, for a message.
 pub fn shown(text: &[u8]) -> String {
     let end = text.len().min(200);

@@ -289,7 +289,7 @@ fn defines(line: &str, x: &str) -> bool {
     words[..] == ["read", x] || (words.len() > 1 && words[..2] == [x, ":="])
 }
 
-fn uses(line: &str, x: &str) -> bool {
+pub fn uses(line: &str, x: &str) -> bool {
     let words: Vec<&str> = line.split(' ').collect();
     match words[..] {
         ["if", y, ..] | ["write", y] => x == y,
@@ -392,7 +392,7 @@ pub fn tabulate(text: &[u8], condition: &[u8], room: usize, way: Way) -> Result<
 }
 
 impl Random {
-    fn expression(&mut self) -> String {
+    pub fn expression(&mut self) -> String {
         let a = self.operand();
         match self.below(3) {
             0 => a,

@@ -3,6 +3,7 @@
 #![allow(dead_code)]
 
 pub mod conditions;
+pub mod marks;
 
 use rewrites::Outcome;
 
