@@ -1,0 +1,15 @@
+//! A second implementation of shift program rewrites, written from their defining document alone.
+//!
+//! It serves as the oracle of tests: the same calls, the same refusal numbers and the same contents of the
+//! lent buffers, by other algorithms. `generate` makes the random cases.
+
+pub mod check;
+pub mod condition;
+pub mod generate;
+pub mod machine;
+pub mod marks;
+pub mod program;
+pub mod steps;
+
+#[cfg(test)]
+mod tests;
