@@ -1,5 +1,6 @@
 //! Random cases, the same for the same seed.
 
+use crate::condition::LONGEST_TEXT;
 use crate::machine::{Values, LARGEST_BUDGET};
 use crate::marks::{Judge, Kind, Mark};
 use crate::program::{
@@ -110,7 +111,7 @@ impl Style {
         random.shuffle(&mut variables);
         variables.truncate(random.between(1, 6));
         let constants = (0..random.between(1, 3)).map(|_| constant(random)).collect();
-        let branches = random.pick(&[0, 4, 10, 20, 45]);
+        let branches = random.pick(&[0, 4, 10, 20, 45, 90]);
         let reach = random.pick(&[3, 10, MOST_LINES]);
         Style { variables, constants, branches, reach }
     }
@@ -476,7 +477,7 @@ fn wrong_number(random: &mut Random, digits: &[u8]) -> Vec<u8> {
     let value = digits.iter().fold(0_u128, |value, digit| {
         value.wrapping_mul(10).wrapping_add(u128::from(digit.wrapping_sub(b'0')))
     });
-    let number = match random.below(15) {
+    let number = match random.below(14) {
         0 => 0,
         1 => value.wrapping_add(1),
         2 => u128::from(LARGEST),
@@ -488,77 +489,125 @@ fn wrong_number(random: &mut Random, digits: &[u8]) -> Vec<u8> {
         8 => return [b"0".as_slice(), digits].concat(),
         9 => return [b"+".as_slice(), digits].concat(),
         10 => return [b"-".as_slice(), digits].concat(),
-        11..=13 => random.below(300) as u128,
-        _ => return (0..random.between(1, 400)).map(|_| random.pick(b"0123456789")).collect(),
+        _ => random.below(300) as u128,
     };
     number.to_string().into_bytes()
 }
 
-fn damage_once(random: &mut Random, text: &mut Vec<u8>) {
+fn many_digits(random: &mut Random, _: &[u8]) -> Vec<u8> {
+    (0..random.between(11, 400)).map(|_| random.pick(b"0123456789")).collect()
+}
+
+/// A kind of damage to a text.
+#[derive(Clone, Copy, Debug, PartialEq, Eq, PartialOrd, Ord)]
+pub enum Damage {
+    InsertByte,
+    FlipBit,
+    OverwriteByte,
+    DropByte,
+    DoubleByte,
+    SwapBytes,
+    CutEnd,
+    DropLastByte,
+    WrongNumber,
+    ManyDigits,
+    EmptyLine,
+    SwapLines,
+    DoubleLine,
+    DropLine,
+    ManyLines,
+    LongLine,
+    RepeatPiece,
+}
+
+impl Damage {
+    pub const ALL: [Damage; 17] = [
+        Damage::InsertByte,
+        Damage::FlipBit,
+        Damage::OverwriteByte,
+        Damage::DropByte,
+        Damage::DoubleByte,
+        Damage::SwapBytes,
+        Damage::CutEnd,
+        Damage::DropLastByte,
+        Damage::WrongNumber,
+        Damage::ManyDigits,
+        Damage::EmptyLine,
+        Damage::SwapLines,
+        Damage::DoubleLine,
+        Damage::DropLine,
+        Damage::ManyLines,
+        Damage::LongLine,
+        Damage::RepeatPiece,
+    ];
+}
+
+/// Replaces the digits of one of a text's numbers; where it has none, another number is put at its end.
+fn replace_number(
+    random: &mut Random,
+    text: &mut Vec<u8>,
+    change: impl Fn(&mut Random, &[u8]) -> Vec<u8>,
+) {
+    let runs = digit_runs(text);
+    if runs.is_empty() {
+        text.extend(change(random, b"7"));
+    } else {
+        let (begin, end) = random.pick(&runs);
+        let number = change(random, &text[begin..end]);
+        text.splice(begin..end, number);
+    }
+}
+
+fn damage_lines(random: &mut Random, kind: Damage, lines: &mut Vec<Vec<u8>>) {
+    let (one, other) = (random.below(lines.len()), random.below(lines.len()));
+    match kind {
+        Damage::SwapLines => lines.swap(one, other),
+        Damage::DoubleLine => lines.insert(one, lines[other].clone()),
+        Damage::DropLine => drop(lines.remove(one)),
+        // The edge of 256 lines is often met. A text of many long lines would only take time.
+        Damage::ManyLines if lines[one].len() < 2_000 => {
+            let wanted = random.pick(&[255, 256, 257, 258, 300]);
+            let missing = wanted.max(lines.len()) - lines.len();
+            let copies = vec![lines[one].clone(); missing];
+            lines.splice(one..one, copies);
+        }
+        _ => lines.insert(random.below(lines.len() + 1), b"\n".to_vec()),
+    }
+}
+
+/// Does one damage to a text, which may leave it well spelled.
+pub fn damage_by(random: &mut Random, kind: Damage, text: &mut Vec<u8>) {
     let bytes = b"\n\r\t\0 0123456789iEAX!&|()[]:=<+-*,skiprdgoto\x80\xff";
-    let (at, byte) = (random.below(text.len() + 1), random.pick(bytes));
-    let kind = random.below(20);
-    if text.is_empty() || at == text.len() || kind == 0 {
-        text.insert(at, byte);
+    let byte = random.pick(bytes);
+    if text.is_empty() {
+        text.push(byte);
         return;
     }
+    let (at, other) = (random.below(text.len()), random.below(text.len()));
     match kind {
-        1 => text[at] ^= 1 << random.below(8),
-        2 => text[at] = byte,
-        3 => {
-            text.remove(at);
-        }
-        4 => text.insert(at, text[at]),
-        5 => text.truncate(at),
-        6 => {
-            text.pop();
-        }
-        7 => text.swap(at, 0),
-        8..=12 => {
-            let runs = digit_runs(text);
-            if !runs.is_empty() {
-                let (begin, end) = random.pick(&runs);
-                let number = wrong_number(random, &text[begin..end]);
-                text.splice(begin..end, number);
-            }
-        }
-        13 => text.extend_from_slice(b"\n"),
-        14 => {
-            let mut lines = lines(text);
-            let (one, other) = (random.below(lines.len()), random.below(lines.len()));
-            lines.swap(one, other);
-            *text = lines.concat();
-        }
-        15 => {
-            let mut lines = lines(text);
-            let (one, other) = (random.below(lines.len()), random.below(lines.len()));
-            lines.insert(one, lines[other].clone());
-            *text = lines.concat();
-        }
-        16 => {
-            let mut lines = lines(text);
-            lines.remove(random.below(lines.len()));
-            *text = lines.concat();
-        }
-        // A line repeated to some hundred, the edge of 256 lines often met.
-        17 => {
-            let mut lines = lines(text);
-            let wanted = random.pick(&[255, 256, 257, 258, 300]);
-            let one = random.below(lines.len());
-            while lines.len() < wanted {
-                lines.insert(one, lines[one].clone());
-            }
-            *text = lines.concat();
-        }
-        // A very long line of one byte or of one piece of text.
-        18 => {
+        Damage::InsertByte => text.insert(random.below(text.len() + 1), byte),
+        Damage::FlipBit => text[at] ^= 1 << random.below(8),
+        Damage::OverwriteByte => text[at] = byte,
+        Damage::DropByte => drop(text.remove(at)),
+        Damage::DoubleByte => text.insert(at, text[at]),
+        Damage::SwapBytes => text.swap(at, other),
+        Damage::CutEnd => text.truncate(at),
+        Damage::DropLastByte => drop(text.pop()),
+        Damage::WrongNumber => replace_number(random, text, wrong_number),
+        Damage::ManyDigits => replace_number(random, text, many_digits),
+        Damage::LongLine => {
             let long = if random.chance(2) { 70_000 } else { random.between(100, 3_000) };
             text.splice(at..at, vec![byte; long]);
         }
-        _ => {
+        Damage::RepeatPiece => {
             let end = random.between(at, text.len().min(at + 40));
             let piece = text[at..end].repeat(random.between(1, 60));
             text.splice(at..at, piece);
+        }
+        _ => {
+            let mut lines = lines(text);
+            damage_lines(random, kind, &mut lines);
+            *text = lines.concat();
         }
     }
 }
@@ -567,7 +616,93 @@ fn damage_once(random: &mut Random, text: &mut Vec<u8>) {
 pub fn damage(random: &mut Random, text: &[u8]) -> Vec<u8> {
     let mut text = text.to_vec();
     for _ in 0..random.pick(&[1, 1, 1, 2, 3]) {
-        damage_once(random, &mut text);
+        let kind = random.pick(&Damage::ALL);
+        damage_by(random, kind, &mut text);
     }
     text
+}
+
+/// Some of these pieces, in any order.
+fn soup(random: &mut Random, pieces: &[&str], most: usize) -> String {
+    (0..random.between(1, most)).map(|_| random.pick(pieces)).collect()
+}
+
+#[rustfmt::skip]
+const STATEMENT_PIECES: [&str; 28] = [
+    "skip", "read", "write", "if", "goto", "else", " ", " ", " ", " ", ":=", ":", "=", "i", "i0",
+    "i1", "i31", "i32", "0", "1", "2", "3", "2147483647", "2147483648", "+", "-", "*", "<",
+];
+
+/// A program of three lines, the middle one of pieces of statements in any order.
+pub fn statement_soup(random: &mut Random) -> Vec<u8> {
+    let line = if random.chance(70) {
+        let (x, space) = (random.pick(&["i0", "i31", "if i1"]), random.pick(&["", " "]));
+        let middle = random.pick(&[" := ", " goto ", " goto 2 else "]);
+        format!("{x}{middle}{}{space}", soup(random, &STATEMENT_PIECES[4..], 5))
+    } else {
+        soup(random, &STATEMENT_PIECES, 8)
+    };
+    format!("read i0\n{line}\nwrite i0\n").into_bytes()
+}
+
+#[rustfmt::skip]
+const CONDITION_PIECES: [&str; 37] = [
+    "true", "false", "entry", "exit", "node(", "stmt(", "def(", "use(", "trans(", "i0", "i31", "1",
+    "skip", "i0 := 1", ")", ")", ")", "!", "(", " & ", " | ", "EX ", "AF ", "EG ", "AY ", "ER ",
+    "AM ", "E[", "A[", " U ", " W ", " S ", " B ", "]", "]", " ", "true",
+];
+
+/// Pieces of conditions in any order, now and then such that they spell one.
+pub fn condition_soup(random: &mut Random) -> Vec<u8> {
+    let middle = soup(random, &CONDITION_PIECES, 6);
+    match random.below(4) {
+        0 => format!("E[{middle}]"),
+        1 => format!("({middle})"),
+        _ => middle,
+    }
+    .into_bytes()
+}
+
+/// A condition with one operator within itself many times, closed again or not.
+pub fn nested_condition(random: &mut Random) -> Vec<u8> {
+    let (open, close) = random.pick(&[
+        ("!", ""),
+        ("EX ", ""),
+        ("AR ", ""),
+        ("(", ""),
+        ("(", ")"),
+        ("(", " & true)"),
+        ("(entry | ", ")"),
+        ("E[", ""),
+        ("E[", " U true]"),
+        ("A[true B ", "]"),
+    ]);
+    let core = random.pick(&["true", "exit", "def(i0)", "node(2)", "", "x"]);
+    let most = (LONGEST_TEXT + 8 - core.len()) / (open.len() + close.len());
+    let depth = match random.below(3) {
+        0 => random.between(30, 66).min(most),
+        1 => random.between(1, most),
+        _ => random.between(most - 8, most),
+    };
+    [open.repeat(depth), core.to_string(), close.repeat(depth)].concat().into_bytes()
+}
+
+#[rustfmt::skip]
+const MARK_PIECES: [&str; 20] = [
+    "1", "2", "0", "257", ":", " ", "mark", "(", "rm", "rpl", ",", ", ", "i0", "i1", "i32", "7",
+    " + ", "+", ")", "2147483648",
+];
+
+/// A line of pieces of marks in any order, now and then a mark.
+pub fn mark_soup(random: &mut Random) -> Vec<u8> {
+    let line = match random.below(3) {
+        0 => soup(random, &MARK_PIECES, 10),
+        1 => format!(
+            "2: mark({}, i0, {})",
+            random.pick(&["rm", "rpl"]),
+            soup(random, &MARK_PIECES, 4)
+        ),
+        _ => format!("2: mark({})", soup(random, &MARK_PIECES, 6)),
+    };
+    format!("{line}\n").into_bytes()
 }
