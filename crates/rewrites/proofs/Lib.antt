@@ -1,1 +1,3 @@
 pub mod Tabulates
+pub mod Demand
+pub mod Judges

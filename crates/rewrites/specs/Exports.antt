@@ -4,6 +4,9 @@ use mathlib.Core.List.{List}
 use Prim.Native.Nat.{ℕ}
 use lib.IntN.{ℤ}
 use Rattle.rewrites.specs.Run.{RunAnswers}
+use Rattle.rewrites.specs.Judge.{Lent, JudgeAnswers}
+use Rattle.rewrites.specs.declared.JudgeAnswer.{JudgeAnswer}
+use Rattle.rewrites.specs.declared.JudgeAnswer.the-variants as judge
 use Rattle.rewrites.specs.Tabulate.{TabulateAnswers}
 use Rattle.rewrites.specs.declared.RunAnswer.{RunAnswer}
 use Rattle.rewrites.specs.declared.RunAnswer.the-variants.{Refused, Ended, Spent}
@@ -49,3 +52,20 @@ pub record TabulateExported (t u old new : List ℕ) (r : ℕ) (o q : TabulatePl
   pub answer : TabulateAnswer
   pub answers : TabulateAnswers t u old new answer
   pub returned : TabulateReturned answer r o q
+
+-- the places lent to `rewrites_judge` beside the verdict bytes and the new text
+pub record JudgePlaces : Type 0 where
+  pub marks : ℕ
+  pub accepted : ℕ
+  pub bytes : ℕ
+
+-- 0 is a result, which sets all three; any other number is the refusal, which keeps all three
+abbrev pub JudgeReturned : JudgeAnswer → ℕ → JudgePlaces → JudgePlaces → Type 0
+JudgeReturned (judge.Refused n) r o q = (r ≡ n) × (q ≡ o)
+JudgeReturned (judge.Finished m a b) r o q = (r ≡ 0) × (q ≡ record { marks = m; accepted = a; bytes = b })
+
+-- the number and the places are those of the one answer of `judge`, which also says what the verdict bytes and the new text hold
+pub record JudgeExported (t u : List ℕ) (old new : Lent) (r : ℕ) (o q : JudgePlaces) : Type 0 where
+  pub answer : JudgeAnswer
+  pub answers : JudgeAnswers t u old new answer
+  pub returned : JudgeReturned answer r o q

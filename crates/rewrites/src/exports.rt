@@ -1,5 +1,6 @@
 // The calls for C and Rust hosts: include/rewrites.h declares them.
-ghost use Rattle.rewrites.specs.Exports.{RunExported, TabulateExported};
+ghost use Rattle.rewrites.specs.Exports.{RunExported, TabulateExported, JudgeExported};
+use crate::JudgeAnswer;
 use crate::RunAnswer;
 use crate::TabulateAnswer;
 use machine::VALUES;
@@ -57,6 +58,30 @@ pub extern "C" fn rewrites_tabulate(
             *parts = m;
             *satisfied = n;
             *first = k;
+            0
+        }
+    }
+}
+
+#[no_mangle]
+pub extern "C" fn rewrites_judge(
+    program: &[u8],
+    marks: &[u8],
+    verdicts: &mut [u8],
+    text: &mut [u8],
+    count: &mut u32,
+    accepted: &mut u32,
+    bytes: &mut u32,
+) -> u8
+    ensures { λ r. ⌜ JudgeExported (now (program .entry)) (now (marks .entry)) (record { verdicts = now (verdicts .entry); new = now (text .entry) }) (record { verdicts = now (verdicts .exit); new = now (text .exit) }) r (record { marks = now (count .entry); accepted = now (accepted .entry); bytes = now (bytes .entry) }) (record { marks = now (count .exit); accepted = now (accepted .exit); bytes = now (bytes .exit) }) ⌝ }
+{
+    let answer = crate::judge(program, marks, verdicts, text);
+    match answer {
+        JudgeAnswer::Refused(number) => number,
+        JudgeAnswer::Finished(m, a, b) => {
+            *count = m;
+            *accepted = a;
+            *bytes = b;
             0
         }
     }

@@ -2,6 +2,7 @@
 ghost use mathlib.Core.Path.{_≡_};
 ghost use Rattle.rewrites.specs.Run.{RunAnswers};
 ghost use Rattle.rewrites.specs.Tabulate.{TabulateAnswers};
+ghost use Rattle.rewrites.specs.Judge.{JudgeAnswers};
 use machine::VALUES;
 
 pub mod exports;
@@ -112,4 +113,34 @@ pub const TEXT_BYTES: usize = 8192;
 pub enum JudgeAnswer {
     Refused(u8),
     Finished(u32, u32, u32),
+}
+
+// Judges each mark of the list on the program, and puts the program with the accepted ones made at the front of the new text.
+pub fn judge(program: &[u8], marks: &[u8], verdicts: &mut [u8], text: &mut [u8]) -> JudgeAnswer
+    ensures { λ r. ⌜ JudgeAnswers (now (program .entry)) (now (marks .entry)) (record { verdicts = now (verdicts .entry); new = now (text .entry) }) (record { verdicts = now (verdicts .exit); new = now (text .exit) }) r ⌝ }
+{
+    if verdicts.len() < VERDICT_BYTES {
+        return JudgeAnswer::Refused(ROOM_NUMBER);
+    }
+    if text.len() < TEXT_BYTES {
+        return JudgeAnswer::Refused(ROOM_NUMBER);
+    }
+    let reading = program::read(program);
+    let answer = reading.answer;
+    if let program::Answer::Refused(refusal) = answer {
+        return JudgeAnswer::Refused(program::number_of(refusal));
+    }
+    let p = reading.program;
+    let checked = marks::read::check(marks);
+    match checked {
+        marks::Checked::Refused(refusal) => JudgeAnswer::Refused(marks::number_of(refusal)),
+        marks::Checked::Taken(count) => {
+            let flow = flow::of(p);
+            verdicts::judge(marks, p, flow, verdicts);
+            let rewriting = verdicts::rewrite(marks, p, &*verdicts);
+            let made = rewriting.program;
+            let bytes = program::write(made, text);
+            JudgeAnswer::Finished(count, rewriting.accepted, bytes as u32)
+        }
+    }
 }

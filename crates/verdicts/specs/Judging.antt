@@ -4,7 +4,7 @@ use mathlib.Core.Bool.{true}
 use mathlib.Core.List.{List}
 use mathlib.Core.Logic.{_↔_}
 use Prim.Native.Nat.{ℕ, _+_, _*_, _≤_, _<_}
-use lib.ListN.{length}
+use lib.ListN.{length, getD}
 use Rattle.language.specs.declared.Statement.{Statement}
 use Rattle.program.specs.Program.{most}
 use Rattle.program.specs.Reading.{statements, Held}
@@ -18,7 +18,9 @@ use Rattle.condition.specs.Reading.{Taken}
 use Rattle.condition.specs.Truth.{Sat}
 use Rattle.table.specs.Table.{part-words}
 use Rattle.marks.specs.declared.Mark.{Mark}
-use Rattle.rewriting.specs.Verdicts.{Named}
+use Rattle.marks.specs.Reading as marks
+use Rattle.rewriting.specs.Verdicts.{Named, Verdicts, acceptedCount, Rewritten}
+use Rattle.verdicts.specs.declared.Rewriting.{Rewriting}
 
 -- the words for the parts of a published condition, the code's PUBLISHED_WORDS
 abbrev pub published-words : ℕ
@@ -42,5 +44,29 @@ pub record RowOf (P : List Statement) (t row : List ℕ) : Type 0 where
   pub labelled : (c : Condition) → Taken t c → Labelled (length P) (member row) (Sat P c)
 
 -- the row has the places of the statements that the marks name
-abbrev pub NamedIn : List ℕ → List Mark → Type 0
-NamedIn row ms = (s : ℕ) → s < most → (member row s ≡ true) ↔ Named ms (s + 1)
+pub record NamedIn (row : List ℕ) (ms : List Mark) : Type 0 where
+  pub exact : (s : ℕ) → s < most → (member row s ≡ true) ↔ Named ms (s + 1)
+
+-- the text is taken as a list of marks
+pub record SomeTaken (t : List ℕ) : Type 0 where
+  pub ms : List Mark
+  pub taken : marks.Taken t ms
+
+-- the verdicts of the marks stand in their bytes, and all bytes beyond are kept
+pub record VerdictsOf (P : List Statement) (ms : List Mark) (old new : List ℕ) : Type 0 where
+  pub judged : Verdicts P ms new
+  pub same : length new ≡ length old
+  pub past : (j : ℕ) → length ms ≤ j → getD new j 0 ≡ getD old j 0
+
+-- the bytes vs are verdicts of the marks that the text lists
+pub record SomeJudged (P : List Statement) (t vs : List ℕ) : Type 0 where
+  pub ms : List Mark
+  pub taken : marks.Taken t ms
+  pub judged : Verdicts P ms vs
+  pub room : marks.most ≤ length vs
+
+-- the accepted marks of ms are made, and counted
+pub record RewritingOf (P : List Statement) (ms : List Mark) (vs : List ℕ) (r : Rewriting) : Type 0 where
+  pub held : Held (r .program)
+  pub rewritten : Rewritten P ms vs (statements (r .program))
+  pub counted : r .accepted ≡ acceptedCount ms vs

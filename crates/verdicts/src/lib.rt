@@ -1,1 +1,191 @@
 // Marks judged on a program, and the program with the accepted ones made.
+ghost use mathlib.Core.Path.{_≡_};
+ghost use mathlib.Core.List.{List, _∷_};
+ghost use Prim.Native.Nat.{_≤_};
+ghost use lib.ListN.{length};
+ghost use Rattle.program.specs.Reading.{statements, Held};
+ghost use Rattle.marks.specs.Reading.{most, Taken};
+ghost use Rattle.bits.specs.Row.{member};
+ghost use Rattle.labelling.specs.Labels.{Labelled};
+ghost use Rattle.condition.specs.Truth.{Sat};
+ghost use Rattle.marks.specs.Marks.{ValidMark};
+ghost use Rattle.marks.specs.declared.Mark.{Mark as MarkOf};
+ghost use Rattle.rewriting.specs.Rewriting.{published};
+ghost use Rattle.rewriting.specs.Published.{published-room};
+ghost use Rattle.rewriting.specs.Verdicts.{Judged};
+ghost use Rattle.verdicts.specs.Judging.{Ready, published-words, SmallTaken, RowOf, NamedIn, SomeTaken, VerdictsOf, SomeJudged, RewritingOf};
+use flow::Flow;
+use marks::Mark;
+use marks::read::MarkRead;
+use program::Entry;
+use program::Program;
+use rewriting::PUBLISHED_ROOM;
+use rewriting::Verdict;
+use table::WORDS;
+
+// A published condition has at most ten parts.
+const PUBLISHED_WORDS: usize = 40;
+
+fn blank_text() -> [u8; PUBLISHED_ROOM]
+    ensures { λ r. ⌜ length r ≡ published-room ⌝ }
+{
+    [0; PUBLISHED_ROOM]
+}
+
+fn blank_rows() -> [u64; PUBLISHED_WORDS]
+    ensures { λ r. ⌜ length r ≡ published-words ⌝ }
+{
+    [0; PUBLISHED_WORDS]
+}
+
+fn blank_row() -> [u64; WORDS]
+    ensures { λ r. ⌜ length r ≡ 4 ⌝ }
+{
+    [0; WORDS]
+}
+
+// The places at which the condition with this text is true: it is read and tabulated as any other.
+fn row_of(text: &[u8], p: Program, flow: Flow) -> [u64; WORDS]
+    requires { ⌜ Ready p flow ⌝ }
+    requires { ⌜ SmallTaken (now text) ⌝ }
+    ensures { λ r. ⌜ RowOf (statements p) (now (text .entry)) r ⌝ }
+{
+    let reading = condition::read::read(text);
+    let answer = reading.answer;
+    let condition::Answer::Taken(parts) = answer else {
+        return blank_row();
+    };
+    let words = reading.words;
+    let count = parts as usize;
+    let mut rows = blank_rows();
+    table::fill(text, words, count, p, flow, &mut rows);
+    let last = count - 1;
+    table::row_of(&rows, last)
+}
+
+// The places at which the mark's published condition is true.
+fn published_row(m: Mark, p: Program, flow: Flow) -> [u64; WORDS]
+    requires { ⌜ Ready p flow ⌝ }
+    requires { ⌜ ValidMark m ⌝ }
+    ensures { λ r. ⌜ Labelled (length (statements p)) (member r) (Sat (statements p) (published m)) × (length r ≡ 4) ⌝ }
+{
+    let mut text = blank_text();
+    let end = rewriting::write_published(m, &mut text);
+    row_of(&text[..end], p, flow)
+}
+
+// The verdict of a mark; `named` are the places that the earlier lines name.
+fn verdict_of(m: Mark, p: Program, flow: Flow, named: &[u64]) -> Verdict
+    requires { ⌜ Ready p flow ⌝ }
+    requires { ⌜ ValidMark m × (length (now named) ≡ 4) ⌝ }
+    ensures { λ r. ⌜ ((earlier : List MarkOf) → NamedIn (now (named .entry)) earlier → Judged (statements p) earlier m r) ⌝ }
+{
+    let n = rewriting::statement_of(m);
+    if n < 1 {
+        return Verdict::Missing;
+    }
+    let place = (n - 1) as usize;
+    if p.count <= place {
+        return Verdict::Missing;
+    }
+    if bits::contains(named, place) {
+        return Verdict::Repeated;
+    }
+    let e = p.entries[place];
+    let i = e.statement;
+    if !rewriting::fits(m, i) {
+        return Verdict::Unfit;
+    }
+    let row = published_row(m, p, flow);
+    if !bits::contains(&row, place) {
+        return Verdict::Unmet;
+    }
+    Verdict::Accepted
+}
+
+// Adds the statement that the mark names.
+fn note(m: Mark, named: &mut [u64])
+    requires { ⌜ length (now named) ≡ 4 ⌝ }
+    ensures { λ _. ⌜ ((earlier : List MarkOf) → NamedIn (now (named .entry)) earlier → NamedIn (now (named .exit)) (m ∷ earlier)) ⌝ }
+{
+    let n = rewriting::statement_of(m);
+    if n < 1 {
+        return;
+    }
+    let place = (n - 1) as usize;
+    if WORDS * 64 <= place {
+        return;
+    }
+    bits::insert(named, place);
+}
+
+// Judges each mark of the list on the program: line j's verdict fills byte j.
+pub fn judge(marks: &[u8], p: Program, flow: Flow, verdicts: &mut [u8])
+    requires { ⌜ Ready p flow ⌝ }
+    requires { ⌜ SomeTaken (now marks) × (most ≤ length (now verdicts)) ⌝ }
+    ensures { λ _. ⌜ ((ms : List MarkOf) → Taken (now (marks .entry)) ms → VerdictsOf (statements p) ms (now (verdicts .entry)) (now (verdicts .exit))) ⌝ }
+{
+    let mut named = blank_row();
+    bits::clear(&mut named);
+    let mut j: usize = 0;
+    let mut at: usize = 0;
+    while at < marks.len() {
+        let MarkRead::Found(m, k) = marks::read::line(marks, at) else {
+            return;
+        };
+        let v = verdict_of(m, p, flow, &named);
+        verdicts[j] = rewriting::number_of(v);
+        note(m, &mut named);
+        j += 1;
+        at = k;
+    }
+}
+
+// The program with the accepted marks made, and how many those are.
+pub struct Rewriting {
+    pub program: Program,
+    pub accepted: u32,
+}
+
+// Makes the accepted marks of the list, all on the given program.
+pub fn rewrite(marks: &[u8], p: Program, verdicts: &[u8]) -> Rewriting
+    requires { ⌜ Held p ⌝ }
+    requires { ⌜ SomeJudged (statements p) (now marks) (now verdicts) ⌝ }
+    ensures { λ r. ⌜ ((ms : List MarkOf) → Taken (now (marks .entry)) ms → RewritingOf (statements p) ms (now (verdicts .entry)) r) ⌝ }
+{
+    let count = p.count;
+    let mut entries = p.entries;
+    let mut accepted: u32 = 0;
+    let mut j: usize = 0;
+    let mut at: usize = 0;
+    while at < marks.len() {
+        let MarkRead::Found(m, k) = marks::read::line(marks, at) else {
+            return Rewriting {
+                program: p,
+                accepted: 0,
+            };
+        };
+        if verdicts[j] == 0 {
+            let n = rewriting::statement_of(m);
+            let place = (n - 1) as usize;
+            let e = p.entries[place];
+            let i = e.statement;
+            entries[place] = Entry {
+                statement: rewriting::makes(m, i),
+            };
+            accepted += 1;
+            j += 1;
+            at = k;
+        } else {
+            j += 1;
+            at = k;
+        }
+    }
+    Rewriting {
+        program: Program {
+            entries: entries,
+            count: count,
+        },
+        accepted: accepted,
+    }
+}

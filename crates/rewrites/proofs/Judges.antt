@@ -1,0 +1,44 @@
+-- From the verdicts, the rewritten program and its text to what `judge` promises. Assumes nothing.
+use mathlib.Core.Path.{_≡_, refl, ap, _∙_, subst}
+use mathlib.Core.List.{List}
+use Prim.Native.Nat.{ℕ, _≤_}
+use native.Mathlib.Omega.{arith}
+use lib.ListN.{length, getD}
+use Rattle.language.specs.Writing.{Put}
+use Rattle.language.specs.declared.Statement.{Statement}
+use Rattle.program.specs.Program.{text, Taken}
+use Rattle.program.specs.Reading.{statements}
+use Rattle.marks.specs.Reading as marks
+use Rattle.marks.specs.declared.Mark.{Mark}
+use Rattle.verdicts.specs.Judging.{VerdictsOf, SomeJudged, RewritingOf}
+use Rattle.verdicts.specs.declared.Rewriting.{Rewriting}
+use Rattle.rewrites.specs.Judge.{text-bytes, Room, Lent, JudgeFinished}
+use Rattle.rewrites.proofs.Demand.{demand-3, rewritten-fits}
+
+module _ {t u : List ℕ} {P : List Statement} {ms : List Mark} (p : Taken t P) (m : marks.Taken u ms) {old vs : List ℕ} (j : VerdictsOf P ms old vs) where
+  pub some-judged : marks.most ≤ length old → SomeJudged P u vs
+  some-judged h = record { ms = ms; taken = m; judged = j .judged; room = omega (arith, j .same) }
+
+  module _ {r : Rewriting} (w : RewritingOf P ms vs r) where
+    pub text-short : length (text (statements (r .program))) ≤ text-bytes
+    text-short = rewritten-fits (p .program) (m .spells .valid) (j .judged) (w .rewritten)
+
+    pub finished : {before after : List ℕ} {count bytes : ℕ} → Room old before → count ≡ length ms → Put before 0 (text (statements (r .program))) after bytes
+        → JudgeFinished t u (record { verdicts = old; new = before }) (record { verdicts = vs; new = after }) count (r .accepted) bytes
+    finished room n put =
+        record {
+          P = P;
+          ms = ms;
+          Q = statements (r .program);
+          room = room;
+          program = p;
+          marks = m;
+          counted = n;
+          taken = w .counted;
+          judged = j .judged;
+          same = j .same;
+          kept = λ i l. j .past i (omega (arith, n));
+          rewritten = w .rewritten;
+          written = put;
+          demand = demand-3 p m vs (j .judged) (statements (r .program)) (w .rewritten);
+        }

@@ -1,0 +1,100 @@
+-- Marks judged line by line: what is known after j lines. Assumes nothing.
+use mathlib.Core.Path.{_≡_, refl, sym, ap, _∙_, subst}
+use mathlib.Core.Bool.{true, false, _||_}
+use mathlib.Core.List.{List, [], _∷_, _++_}
+use mathlib.Core.Logic.{_⊎_, inl, inr, ⊎-elim, _↔_}
+use Prim.Native.Nat.{ℕ, zero, suc, _+_, _-_, _≤_, _<_}
+use native.Mathlib.Decide.{decLt}
+use native.Mathlib.Numerals.{add-one}
+use native.Mathlib.Omega.{arith}
+use borrow.Author.Count.{below-more}
+use borrow.Author.Tests.{eqb-true, eq-eqb}
+use lib.Dec.{eqb}
+use lib.ListN.{length, getD, take, set, length-set}
+use lib.Seq.{take-suc, take-length, getD-set-same, getD-set-other}
+use Rattle.language.specs.declared.Statement.{Statement}
+use Rattle.program.specs.Program.{most}
+use Rattle.bits.specs.Row.{member}
+use Rattle.bits.proofs.Tests.{clash, or-case, or-left, or-right}
+use Rattle.marks.specs.Marks.{names, Spells}
+use Rattle.marks.specs.Reading.{MarkLineRead}
+use Rattle.marks.specs.Reading as marks
+use Rattle.marks.specs.declared.Mark.{Mark}
+use Rattle.marks.specs.declared.read.MarkRead.{MarkRead}
+use Rattle.marks.specs.declared.read.MarkRead.the-variants as markRead
+use Rattle.marks.proofs.Walk.{Begins, begins-first, line-mark, line-next, line-inside, line-found, text-line, text-done}
+use Rattle.rewriting.specs.Verdicts.{number, Named, Judged, markAt, Verdicts}
+use Rattle.rewriting.specs.declared.Verdict.{Verdict}
+use Rattle.verdicts.specs.Judging.{NamedIn, VerdictsOf}
+
+-- the last of the marks names n, or one before
+named-last : (ms : List Mark) (m : Mark) (n : ℕ) → Named (ms ++ m ∷ []) n ↔ Named (m ∷ ms) n
+named-last [] m n = (λ h. h, λ h. h)
+named-last (o ∷ ms) m n = (
+  λ h. ⊎-elim (λ e. inr (inl e)) (λ k. ⊎-elim inl (λ i. inr (inr i)) (named-last ms m n .0 k)) h,
+  λ h. ⊎-elim (λ e. inr (named-last ms m n .1 (inl e))) (λ k. ⊎-elim inl (λ i. inr (named-last ms m n .1 (inr i))) k) h,
+)
+
+-- no line names a statement yet
+pub named-none : {row : List ℕ} → ((s : ℕ) → member row s ≡ false) → NamedIn row []
+named-none f = record { exact = λ s l. (λ e. clash e (f s), λ h. absurd h) }
+
+-- the row with one more place
+pub named-more : (row new : List ℕ) (m : Mark) (n : ℕ) → n ≡ names m → 1 ≤ n → ((s : ℕ) → member new s ≡ (member row s || eqb (n - 1) s))
+    → (earlier : List Mark) → NamedIn row earlier → NamedIn new (m ∷ earlier)
+named-more row new m n is low f earlier g = record { exact = λ s l. (there s l, back s l) }
+  where
+    there : (s : ℕ) → s < most → member new s ≡ true → Named (m ∷ earlier) (s + 1)
+    there s l e =
+        ⊎-elim (λ a. inr (g .exact s l .0 a)) (λ a. let q = eqb-true (n - 1) s a in inl (omega (arith, is)))
+        (or-case (member row s) (eqb (n - 1) s) (sym (f s) ∙ e))
+
+    back : (s : ℕ) → s < most → Named (m ∷ earlier) (s + 1) → member new s ≡ true
+    back s l h =
+        f s ∙ ⊎-elim (λ a. or-right (member row s) (eqb (n - 1) s) (eq-eqb (n - 1) s (omega (arith, is)))) (λ a. or-left (member row s) (eqb (n - 1) s) (g .exact s l .1 a)) h
+
+-- the row as it was, where the mark names no place of it
+pub named-same : {row : List ℕ} (m : Mark) → ((s : ℕ) → s < most → names m ≡ s + 1 → ⊥) → (earlier : List Mark) → NamedIn row earlier → NamedIn row (m ∷ earlier)
+named-same m f earlier g = record { exact = λ s l. (λ e. inr (g .exact s l .0 e), λ h. ⊎-elim (λ e. absurd (f s l e)) (g .exact s l .1) h) }
+
+pub record JudgedSoFar (P : List Statement) (t : List ℕ) (ms : List Mark) (old new row : List ℕ) (j at : ℕ) : Type 0 where
+  pub begins : Begins t ms j at
+  pub named : NamedIn row (take j ms)
+  pub judged : (i : ℕ) → i < j → (v : Verdict) × Judged P (take i ms) (markAt ms i) v × (getD new i 0 ≡ number v)
+  pub past : (i : ℕ) → j ≤ i → getD new i 0 ≡ getD old i 0
+
+pub judged-none : {P : List Statement} {t : List ℕ} {ms : List Mark} {old : List ℕ} (row : List ℕ) → Spells t ms → ((s : ℕ) → member row s ≡ false)
+    → JudgedSoFar P t ms old old row 0 0
+judged-none row s f = record { begins = begins-first s; named = named-none f; judged = λ i l. absurd (omega arith); past = λ i l. refl }
+
+-- no line is found misspelled in a list that is taken, and each is one of at most 256
+pub never-misspelled : {t : List ℕ} {ms : List Mark} {j at : ℕ} → Begins t ms j at → at < length t → {r : MarkRead} → r ≡ markRead.Misspelled → MarkLineRead t at r → ⊥
+never-misspelled b h is l = line-found b is l (text-line b h)
+
+pub line-below : {t : List ℕ} {ms : List Mark} {j at : ℕ} → Begins t ms j at → marks.Taken t ms → {r : MarkRead} {m : Mark} {k : ℕ} → r ≡ markRead.Found m k → MarkLineRead t at r → j < marks.most
+line-below b t is l = let h = line-inside b is l in let f = t .few in omega arith
+
+module _ {P : List Statement} {t : List ℕ} {ms : List Mark} {old new row : List ℕ} {j at : ℕ} (s : JudgedSoFar P t ms old new row j at) where
+  module _ {r : MarkRead} {m : Mark} {k : ℕ} (is : r ≡ markRead.Found m k) (l : MarkLineRead t at r) where
+    mark-is : m ≡ markAt ms j
+    mark-is = line-mark (s .begins) is l _
+
+    next-take : take (j + 1) ms ≡ take j ms ++ m ∷ []
+    next-take = rw (add-one, mark-is) (take-suc ms j _ (line-inside (s .begins) is l))
+
+    pub judged-more : (v : Verdict) (b : ℕ) → b ≡ number v → ((earlier : List Mark) → NamedIn row earlier → Judged P earlier m v) → {row′ : List ℕ}
+        → ((earlier : List Mark) → NamedIn row earlier → NamedIn row′ (m ∷ earlier)) → j < length new → JudgedSoFar P t ms old (set new j b) row′ (j + 1) k
+    judged-more v b e f g h =
+        record {
+          begins = line-next (s .begins) is l;
+          named = record { exact = λ i u. let q = g (take j ms) (s .named) .exact i u in (λ a. rw next-take (named-last (take j ms) m (i + 1) .1 (q .0 a)), λ a. q .1 (named-last (take j ms) m (i + 1) .0 (rw next-take at a))) };
+          judged = below-more (λ i. (w : Verdict) × Judged P (take i ms) (markAt ms i) w × (getD (set new j b) i 0 ≡ number w)) j
+              (λ i u. let q = s .judged i u in (q .0, q .1, getD-set-other new j i b 0 (λ z. omega arith) ∙ q .2))
+              (v, rw mark-is at (f (take j ms) (s .named)), getD-set-same new j b 0 h ∙ e);
+          past = λ i u. getD-set-other new j i b 0 (λ z. omega arith) ∙ s .past i (omega arith);
+        }
+
+  pub judged-all : length t ≤ at → length new ≡ length old → VerdictsOf P ms old new
+  judged-all h e =
+      let n = text-done (s .begins) h in
+      record { judged = λ i u. s .judged i (omega arith); same = e; past = λ i u. s .past i (omega arith) }

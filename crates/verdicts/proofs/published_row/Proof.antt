@@ -1,0 +1,32 @@
+use mathlib.Core.Path.{sym}
+use native.Mathlib.Omega.{arith}
+use lib.Seq.{length-take-le}
+use Rattle.rewriting.proofs.Published.{published-short}
+use Rattle.verdicts.proofs.Rows.{put-front, put-within, published-small, published-labelled}
+use borrow.Author.Needs.{needs}
+use Rattle.verdicts.proofs.published_row.Statement.{statement}
+use Rattle.verdicts.proofs.published_row.Tie as tie
+
+array-share-prefix-text : tie.Need-array-share-prefix-text
+array-share-prefix-text c = put-within (c .before .write-published .ensures) (omega (arith, published-short (c .before .before .before .before .args .m) (c .before .before .before .before .pre .1), c .before .before .before .blank-text .ensures))
+
+slice-aggregate-row-of : tie.Need-slice-aggregate-row-of
+slice-aggregate-row-of c = sym (length-take-le _ _ (put-within (c .before .before .write-published .ensures) (omega (arith, published-short (c .before .before .before .before .before .args .m) (c .before .before .before .before .before .pre .1), c .before .before .before .before .blank-text .ensures))))
+
+row-of-requires : tie.Need-row-of-requires
+row-of-requires c κs = (c .before .before .before .before .before .pre .0, published-small (c .before .before .before .before .before .args .m) (c .before .before .before .before .before .pre .1) _ (put-front (c .before .before .write-published .ensures) (omega (arith, published-short (c .before .before .before .before .before .args .m) (c .before .before .before .before .before .pre .1), c .before .before .before .before .blank-text .ensures))))
+
+returns : tie.Need-returns
+returns c = published-labelled (c .before .before .before .before .before .before .args .m) (c .before .before .before .before .before .before .pre .1) _ (put-front (c .before .before .before .write-published .ensures) (omega (arith, published-short (c .before .before .before .before .before .before .args .m) (c .before .before .before .before .before .before .pre .1), c .before .before .before .before .before .blank-text .ensures))) (c .row-of .ensures)
+
+pub published-row-spec : {M : Type 1} → statement M
+published-row-spec =
+    tie.close
+    (tie.spec
+    (λ c κs. search needs)
+    (λ c. search needs)
+    (λ c κs. search needs)
+    array-share-prefix-text
+    slice-aggregate-row-of
+    row-of-requires
+    returns)
