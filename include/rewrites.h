@@ -59,6 +59,32 @@ uint8_t rewrites_tabulate(const uint8_t *program, size_t program_len, const uint
                           size_t condition_len, uint64_t *table, size_t table_len, uint32_t *parts,
                           uint32_t *satisfied, uint32_t *first);
 
+/* Judges a list of marks on a program, and writes the program with all accepted marks made. A list
+   is 0 to 256 lines, each `n: mark(rm, X, E)` or `n: mark(rpl, X, A)` ended by byte 10. Each mark is
+   judged on the given program; refused marks aren't made, and are part of a finished call.
+
+   Returns 0, and sets
+   verdicts    byte j for line j, counted from 0: 0 where the mark is accepted, or the number of the
+               first that applies. All further bytes are kept.
+               11: n is 0 or above N, the count of statements.
+               12: an earlier line names n, accepted or not.
+               13: the mark doesn't fit.
+               14: its condition is false at n.
+   text        the text of the rewritten program, which has as many lines as the given one. All
+               further bytes are kept.
+   *mark_count the number of marks.
+   *accepted   the number of accepted marks.
+   *bytes      the number of bytes of new text.
+
+   Returns the number of a refusal, and keeps all:
+    1: verdicts has under 256 bytes, or text under 8,192.
+    2 to 5: the program, as with rewrites_run.
+    9: some line of the marks is misspelled, or the last lacks its byte 10.
+   10: over 256 lines of marks. */
+uint8_t rewrites_judge(const uint8_t *program, size_t program_len, const uint8_t *marks,
+                       size_t marks_len, uint8_t *verdicts, size_t verdicts_len, uint8_t *text,
+                       size_t text_len, uint32_t *mark_count, uint32_t *accepted, uint32_t *bytes);
+
 #ifdef __cplusplus
 }
 #endif

@@ -1,5 +1,5 @@
-//! Shift programs: statements over 32 variables, run under a budget of steps, and conditions on
-//! the paths through them.
+//! Shift programs: statements over 32 variables, run under a budget of steps; conditions on the
+//! paths through them; and marks, by which an optimiser has statements rewritten.
 //!
 //! The calls are those of a library that is proved to meet its contracts. This package links it and
 //! gives each call a safe form.
@@ -45,6 +45,25 @@
 //! // Statement 2 alone.
 //! assert_eq!(answer, Ok(Tabulated { parts: 8, satisfied: 1, first: 2 }));
 //! ```
+//!
+//! A mark names a statement and says what to make of it. It is accepted where its condition is true,
+//! and then no run of the program changes its value or its steps.
+//!
+//! ```
+//! use rewrites::{judge, Judged, Verdict, TEXT_BYTES, VERDICT_BYTES};
+//!
+//! // Statement 3 is to use i0, of which i1 is a copy there.
+//! let program = b"read i0\ni1 := i0\ni2 := i1\ni1 := 7\nwrite i1\n";
+//! let marks = b"3: mark(rpl, i1, i0)\n3: mark(rm, i2, i1)\n4: mark(rm, i1, 7)\n";
+//! let (mut verdicts, mut text) = ([0; VERDICT_BYTES], [0; TEXT_BYTES]);
+//! let answer = judge(program, marks, &mut verdicts, &mut text);
+//!
+//! assert_eq!(answer, Ok(Judged { marks: 3, accepted: 1, bytes: 43 }));
+//! assert_eq!(Verdict::of(verdicts[0]), Some(Verdict::Accepted));
+//! assert_eq!(Verdict::of(verdicts[1]), Some(Verdict::NamedBefore));
+//! assert_eq!(Verdict::of(verdicts[2]), Some(Verdict::ConditionFalse));
+//! assert_eq!(&text[..43], b"read i0\ni1 := i0\ni2 := i0\ni1 := 7\nwrite i1\n");
+//! ```
 
 #![warn(missing_docs)]
 
@@ -64,6 +83,12 @@ pub const TABLE_WORDS: usize = 256;
 
 /// The words of one part in a table.
 pub const PART_WORDS: usize = 4;
+
+/// The bytes that a buffer for verdicts must have: those of 256 marks.
+pub const VERDICT_BYTES: usize = 256;
+
+/// The bytes that a buffer for new text must have.
+pub const TEXT_BYTES: usize = 8_192;
 
 /// What a run answers.
 #[derive(Clone, Copy, Debug, PartialEq, Eq)]
@@ -93,6 +118,67 @@ pub struct Tabulated {
     pub satisfied: u32,
     /// The first of them, numbered from 1; 0 if none.
     pub first: u32,
+}
+
+/// What the judgement of a list of marks answers beside the verdicts and the new text.
+#[derive(Clone, Copy, Debug, PartialEq, Eq)]
+pub struct Judged {
+    /// The number of marks, 0 to 256.
+    pub marks: u32,
+    /// The number of accepted marks.
+    pub accepted: u32,
+    /// The number of bytes of new text.
+    pub bytes: u32,
+}
+
+/// What is found of one mark. The first that applies of those after `Accepted` is answered, in the
+/// order of the variants.
+#[derive(Clone, Copy, Debug, PartialEq, Eq, Hash)]
+#[repr(u8)]
+pub enum Verdict {
+    /// The mark is made.
+    Accepted = 0,
+    /// The program lacks the statement.
+    NoStatement = 11,
+    /// An earlier line names the same statement, accepted or not.
+    NamedBefore = 12,
+    /// The mark doesn't fit the statement.
+    Unfit = 13,
+    /// The mark's condition is false at the statement.
+    ConditionFalse = 14,
+}
+
+impl Verdict {
+    /// Every verdict, in the order in which they apply.
+    pub const ALL: [Verdict; 5] = [
+        Verdict::Accepted,
+        Verdict::NoStatement,
+        Verdict::NamedBefore,
+        Verdict::Unfit,
+        Verdict::ConditionFalse,
+    ];
+
+    /// The verdict of a byte that [`judge`] filled, which is never another number.
+    pub fn of(byte: u8) -> Option<Verdict> {
+        Verdict::ALL.iter().copied().find(|verdict| verdict.number() == byte)
+    }
+
+    /// The number by which the library names the verdict.
+    pub fn number(self) -> u8 {
+        self as u8
+    }
+}
+
+impl fmt::Display for Verdict {
+    fn fmt(&self, f: &mut fmt::Formatter<'_>) -> fmt::Result {
+        f.write_str(match self {
+            Verdict::Accepted => "accepted",
+            Verdict::NoStatement => "n is 0 or above N",
+            Verdict::NamedBefore => "an earlier line names n, accepted or not",
+            Verdict::Unfit => "the mark doesn't fit",
+            Verdict::ConditionFalse => "its condition is false at n",
+        })
+    }
 }
 
 /// Why a call is refused. The first that applies is answered, in the order of the variants.
@@ -293,4 +379,70 @@ pub fn tabulate(program: &[u8], condition: &[u8], table: &mut [u64]) -> Result<T
         return Err(Refusal::returned(number));
     }
     Ok(Tabulated { parts, satisfied, first })
+}
+
+/// Judges a list of marks on a program, fills the verdicts, and writes the program with all accepted
+/// marks made into the text.
+///
+/// A list is 0 to 256 lines, each ended by byte 10. `n: mark(rm, X, E)` fits where statement n is
+/// `X := E`, which it makes `skip`; its condition is `!EX E[!def(X) U use(X)]`. `n: mark(rpl, X, A)`
+/// fits where statement n uses X, and A is a variable if n is an `if` or a `write`; it puts A for
+/// every use of X in n, and its condition is `AY A[((!def(X) & trans(A)) & !entry) B stmt(X := A)]`.
+/// Conditions are those of [`tabulate`], on the given program, at statement n.
+///
+/// Byte j of the verdicts is the [`Verdict`] of line j, counted from 0. The new text has as many
+/// lines as the given program, and every run of it ends with the same value after the same steps, or
+/// is spent at the same statement. All further bytes of both buffers are kept.
+///
+/// # Errors
+///
+/// [`Refusal::Buffer`] for verdicts under [`VERDICT_BYTES`] or a text under [`TEXT_BYTES`], whatever
+/// the texts hold; else, for the program, [`Refusal::Misspelled`], [`Refusal::LineCount`],
+/// [`Refusal::Placement`] or [`Refusal::Target`]; else, for the marks, [`Refusal::MarkMisspelled`] or
+/// [`Refusal::MarkCount`]. Both buffers are then kept.
+///
+/// ```
+/// use rewrites::{judge, Judged, Refusal, TEXT_BYTES, VERDICT_BYTES};
+///
+/// let program = b"read i0\ni1 := 7\ni1 := i0\nwrite i1\n";
+/// let (mut verdicts, mut text) = ([0; VERDICT_BYTES], [0; TEXT_BYTES]);
+///
+/// // What statement 2 stores is never used.
+/// let answer = judge(program, b"2: mark(rm, i1, 7)\n", &mut verdicts, &mut text);
+/// assert_eq!(answer, Ok(Judged { marks: 1, accepted: 1, bytes: 31 }));
+/// assert_eq!(&text[..31], b"read i0\nskip\ni1 := i0\nwrite i1\n");
+///
+/// let answer = judge(program, b"2: mark(rm, i1)\n", &mut verdicts, &mut text);
+/// assert_eq!(answer, Err(Refusal::MarkMisspelled));
+/// ```
+pub fn judge(
+    program: &[u8],
+    marks: &[u8],
+    verdicts: &mut [u8],
+    text: &mut [u8],
+) -> Result<Judged, Refusal> {
+    let mut mark_count = 0;
+    let mut accepted = 0;
+    let mut bytes = 0;
+    // SAFETY: the pointers come from references, so none is null, and those that are written
+    // through are the only ones to their places.
+    let number = unsafe {
+        raw::rewrites_judge(
+            program.as_ptr(),
+            program.len(),
+            marks.as_ptr(),
+            marks.len(),
+            verdicts.as_mut_ptr(),
+            verdicts.len(),
+            text.as_mut_ptr(),
+            text.len(),
+            &mut mark_count,
+            &mut accepted,
+            &mut bytes,
+        )
+    };
+    if number != 0 {
+        return Err(Refusal::returned(number));
+    }
+    Ok(Judged { marks: mark_count, accepted, bytes })
 }

@@ -40,4 +40,25 @@ extern "C" {
         satisfied: *mut u32,
         first: *mut u32,
     ) -> u8;
+
+    /// See [`crate::judge`] and the header.
+    ///
+    /// # Safety
+    ///
+    /// `program` points to `program_len` bytes, `marks` to `marks_len`, `verdicts` to
+    /// `verdicts_len` and `text` to `text_len`. No pointer is null, also where a length is 0. Places
+    /// that the call writes overlap no other place lent to it.
+    pub fn rewrites_judge(
+        program: *const u8,
+        program_len: usize,
+        marks: *const u8,
+        marks_len: usize,
+        verdicts: *mut u8,
+        verdicts_len: usize,
+        text: *mut u8,
+        text_len: usize,
+        mark_count: *mut u32,
+        accepted: *mut u32,
+        bytes: *mut u32,
+    ) -> u8;
 }

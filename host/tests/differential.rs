@@ -17,7 +17,7 @@ use oracle::generate::{self, Damage, Random};
 use oracle::machine::{self, Outcome, Values};
 use oracle::marks::{self, Kind};
 use oracle::program::{Expression, Operand, Operator, Program, Statement};
-use rewrites::{raw, MOST_STEPS, TABLE_WORDS};
+use rewrites::{raw, MOST_STEPS, TABLE_WORDS, TEXT_BYTES, VERDICT_BYTES};
 use std::env;
 
 const CASES: u64 = 100_000;
@@ -458,34 +458,6 @@ const ACCEPTED: usize = 2;
 const BYTES: usize = 4;
 const JUDGE_PLACES: usize = 5;
 
-/// Stands in for the export.
-#[allow(clippy::too_many_arguments)]
-unsafe fn rewrites_judge(
-    program: *const u8,
-    program_len: usize,
-    list: *const u8,
-    list_len: usize,
-    verdicts: *mut u8,
-    verdicts_len: usize,
-    text: *mut u8,
-    text_len: usize,
-    mark_count: *mut u32,
-    accepted: *mut u32,
-    bytes: *mut u32,
-) -> u8 {
-    let program = std::slice::from_raw_parts(program, program_len);
-    let list = std::slice::from_raw_parts(list, list_len);
-    let verdicts = std::slice::from_raw_parts_mut(verdicts, verdicts_len);
-    let text = std::slice::from_raw_parts_mut(text, text_len);
-    match marks::judge(program, list, verdicts, text) {
-        Err(number) => number,
-        Ok(answer) => {
-            (*mark_count, *accepted, *bytes) = answer;
-            0
-        }
-    }
-}
-
 /// What a finished judgement leaves.
 struct Judged {
     verdicts: Vec<u8>,
@@ -521,7 +493,7 @@ fn judgement_agrees(
     let (bytes, new, set) = (verdicts.part(), text.part(), places.part());
     // SAFETY: the pointers come from references, and no two of the written places overlap.
     let number = unsafe {
-        rewrites_judge(
+        raw::rewrites_judge(
             program.as_ptr(),
             program.len(),
             list.as_ptr(),
@@ -628,8 +600,8 @@ fn judgements_are_as_by_the_oracle_and_keep_runs() {
     let mut sizes = Tally::new("sizes of programs judged", 2..=256);
     let mut counts = Tally::new("marks of a list", 0..=256);
     let mut lists = Tally::new("lists accepted", ["not at all", "in part", "whole"]);
-    let mut verdict_rooms = rooms("bytes of verdicts", marks::VERDICT_BYTES);
-    let mut text_rooms = rooms("bytes of new text", marks::TEXT_BYTES);
+    let mut verdict_rooms = rooms("bytes of verdicts", VERDICT_BYTES);
+    let mut text_rooms = rooms("bytes of new text", TEXT_BYTES);
     let mut of_programs = damages("damages of programs judged");
     let mut of_lists = damages("damages of marks");
     let mut runs = Tally::new("runs of both programs", ["budgets", "ended", "spent"]);
@@ -642,7 +614,7 @@ fn judgements_are_as_by_the_oracle_and_keep_runs() {
             _ => random.below(program.count() as usize + 4).min(40),
         });
         let mut list = marks::text(&generate::marks(random, &program, count));
-        let mut rooms = (marks::VERDICT_BYTES, marks::TEXT_BYTES);
+        let mut rooms = (VERDICT_BYTES, TEXT_BYTES);
         if !is_whole(case) {
             match random.below(40) {
                 0..=3 => damaged(random, &mut text, &mut of_programs),
@@ -655,9 +627,9 @@ fn judgements_are_as_by_the_oracle_and_keep_runs() {
                 _ => {}
             }
             match random.below(20) {
-                0 => rooms.0 = room(random, marks::VERDICT_BYTES),
-                1 => rooms.1 = room(random, marks::TEXT_BYTES),
-                2 => rooms = (room(random, marks::VERDICT_BYTES), room(random, marks::TEXT_BYTES)),
+                0 => rooms.0 = room(random, VERDICT_BYTES),
+                1 => rooms.1 = room(random, TEXT_BYTES),
+                2 => rooms = (room(random, VERDICT_BYTES), room(random, TEXT_BYTES)),
                 _ => {}
             }
         }
@@ -798,7 +770,7 @@ fn marks_edited_by_one_byte_are_as_by_the_oracle() {
     let mut numbers = Tally::new("answers to edited marks", [0, 9]);
     let mut verdicts = Tally::new("verdicts of edited marks", [0, 11, 12, 13, 14]);
     let list = b"4: mark(rpl, i2, 7)\n3: mark(rm, i2, 7)\n4: mark(rm, i3, i1 + i2)\n";
-    let rooms = (marks::VERDICT_BYTES, marks::TEXT_BYTES);
+    let rooms = (VERDICT_BYTES, TEXT_BYTES);
     for text in edits(list) {
         let answer = judgement_agrees(random, "edit", P.as_bytes(), &text, rooms);
         numbers.met(answer.as_ref().err().copied().unwrap_or(0));

@@ -65,6 +65,40 @@ static int tabulate_answers(void) {
     return 0;
 }
 
+static int judge_answers(void) {
+    uint8_t (*const judge)(const uint8_t *, size_t, const uint8_t *, size_t, uint8_t *, size_t,
+                           uint8_t *, size_t, uint32_t *, uint32_t *, uint32_t *) = rewrites_judge;
+    static const char marks[] = "4: mark(rpl, i2, 7)\n3: mark(rm, i2, 7)\n";
+    static const char made[] =
+        "read i0\ni1 := i0\ni2 := 7\ni3 := i1 + 7\n"
+        "if i0 goto 6 else 8\ni0 := i0 - 1\nif i0 goto 4 else 8\nwrite i3\n";
+    const uint8_t *program = (const uint8_t *)P, *list = (const uint8_t *)marks;
+    const size_t length = strlen(P), size = strlen(marks);
+    static uint8_t verdicts[256], text[8192];
+    uint32_t count = 11, accepted = 12, bytes = 13;
+    size_t k;
+
+    memset(verdicts, 99, sizeof verdicts);
+    memset(text, 99, sizeof text);
+    CHECK(judge(program, 0, list, 0, verdicts, 255, text, 8192, &count, &accepted, &bytes) == 1);
+    CHECK(judge(program, 0, list, 0, verdicts, 256, text, 8191, &count, &accepted, &bytes) == 1);
+    CHECK(judge(program, 0, list, 1, verdicts, 256, text, 8192, &count, &accepted, &bytes) == 3);
+    CHECK(judge(program, length, list, size - 1, verdicts, 256, text, 8192, &count, &accepted,
+                &bytes) == 9);
+    CHECK(count == 11 && accepted == 12 && bytes == 13);
+    for (k = 0; k < 256; k++) CHECK(verdicts[k] == 99);
+    for (k = 0; k < 8192; k++) CHECK(text[k] == 99);
+
+    CHECK(judge(program, length, list, size, verdicts, 256, text, 8192, &count, &accepted,
+                &bytes) == 0);
+    CHECK(count == 2 && accepted == 1 && bytes == strlen(made));
+    CHECK(verdicts[0] == 0 && verdicts[1] == 14);
+    CHECK(memcmp(text, made, bytes) == 0);
+    for (k = 2; k < 256; k++) CHECK(verdicts[k] == 99);
+    for (k = bytes; k < 8192; k++) CHECK(text[k] == 99);
+    return 0;
+}
+
 int main(void) {
-    return run_answers() || tabulate_answers();
+    return run_answers() || tabulate_answers() || judge_answers();
 }

@@ -12,8 +12,8 @@
 #define ROOM ((size_t)4 << 20)
 #define PATTERN 0xa5
 
-static uint8_t program[8192], condition[1024];
-static size_t program_len, condition_len;
+static uint8_t program[8192], condition[1024], marks[8192];
+static size_t program_len, condition_len, marks_len;
 static uint8_t number;
 
 static void *nothing(void *unused) { return unused; }
@@ -31,6 +31,14 @@ static void *tabulate(void *unused) {
     static uint32_t parts, satisfied, first;
     number = rewrites_tabulate(program, program_len, condition, condition_len, table, 256, &parts,
                                &satisfied, &first);
+    return unused;
+}
+
+static void *judge(void *unused) {
+    static uint8_t verdicts[256], text[8192];
+    static uint32_t count, accepted, bytes;
+    number = rewrites_judge(program, program_len, marks, marks_len, verdicts, 256, text, 8192, &count,
+                            &accepted, &bytes);
     return unused;
 }
 
@@ -82,8 +90,16 @@ int main(int count, char **arguments) {
                                line > 2 ? line - 1 : 255);
     program_len += sprintf((char *)program + program_len, "write i31\n");
 
+    /* 256 marks: each fits, or is of the other kind. */
+    for (line = 1; line <= 256; line++)
+        marks_len += sprintf((char *)marks + marks_len, "%d: mark(%s, i31, i30)\n", line,
+                             line % 8 ? "rpl" : "rm");
+
     bytes = overwritten(run) - alone;
     printf("%7lu bytes of stack: run\n", (unsigned long)bytes);
+    fails += number != 0 || bytes > most;
+    bytes = overwritten(judge) - alone;
+    printf("%7lu bytes of stack: judge, 256 marks\n", (unsigned long)bytes);
     fails += number != 0 || bytes > most;
     for (k = 0; k < sizeof cases / sizeof *cases; k++) {
         condition_len = 0;
