@@ -4,6 +4,7 @@ mod document;
 mod generated;
 mod naive;
 mod open_points;
+mod tuned;
 
 use crate::condition;
 use crate::marks;
