@@ -66,3 +66,7 @@ statement-back Skip = refl
 
 pub code-unique : (s t : Statement) → statementCode s ≡ statementCode t → s ≡ t
 code-unique s t e = sym (statement-back s) ∙ ap statementOf e ∙ statement-back t
+
+pub assign-first : (x : ℕ) (e : Expression) → x ≡ assignCode x e .first
+assign-first x (Single a) = refl
+assign-first x (Binary a o b) = refl

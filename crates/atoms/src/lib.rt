@@ -105,9 +105,25 @@ fn same_code(a: Code, b: Code) -> bool
     a.third == b.third
 }
 
+// The first number of a statement's code: most statements differ there.
+fn first_code(s: Statement) -> u8
+    ensures { λ r. ⌜ r ≡ statementCode s .first ⌝ }
+{
+    match s {
+        Statement::Read(x) => x,
+        Statement::Write(x) => x,
+        Statement::Skip => 0,
+        Statement::Branch(x, _, _) => x,
+        Statement::Assign(x, _) => x,
+    }
+}
+
 pub fn same_statement(s: Statement, t: Statement) -> bool
     ensures { λ r. ⌜ Decides r (s ≡ t) ⌝ }
 {
+    if first_code(s) != first_code(t) {
+        return false;
+    }
     same_code(statement_code(s), statement_code(t))
 }
 

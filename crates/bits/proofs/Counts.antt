@@ -30,7 +30,7 @@ unfolding countBelow
 count-le f zero = omega arith
 count-le f (suc n) = let h = count-le f n in let k = one-le (f n) in omega arith
 
-count-ext : (f g : ℕ → Bool) (n : ℕ) → ((j : ℕ) → j < n → f j ≡ g j) → countBelow f n ≡ countBelow g n
+pub count-ext : (f g : ℕ → Bool) (n : ℕ) → ((j : ℕ) → j < n → f j ≡ g j) → countBelow f n ≡ countBelow g n
 unfolding countBelow
 count-ext f g zero h = refl
 count-ext f g (suc n) h = ap₂ _+_ (count-ext f g n (λ j l. h j (omega arith))) (ap one (h n (omega arith)))

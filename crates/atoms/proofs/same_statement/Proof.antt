@@ -7,12 +7,16 @@ use Rattle.atoms.proofs.same_statement.Statement.{statement}
 use Rattle.atoms.proofs.same_statement.Tie as tie
 
 returns : tie.Need-returns
-returns c =
+returns c = λ e. c .if1 .taken (c .before .before .first-code .ensures ∙ ap (λ z. statementCode z .first) e ∙ sym (c .before .first-code2 .ensures))
+
+returns-2 : tie.Need-returns-2
+returns-2 c =
     let a = c .before .before .statement-code .ensures in
     let b = c .before .statement-code2 .ensures in
-    decides-same (c .same-code .result) (λ e. code-unique (c .before .before .before .args .s) (c .before .before .before .args .t) (sym a ∙ e ∙ b)) (λ e. a ∙ ap statementCode e ∙ sym b) (c .same-code .ensures)
+    let g = c .before .before .before .before .before .before .args in
+    decides-same (c .same-code .result) (λ e. code-unique (g .s) (g .t) (sym a ∙ e ∙ b)) (λ e. a ∙ ap statementCode e ∙ sym b) (c .same-code .ensures)
 
 pub same-statement-spec : {M : Type 1} → statement M
 same-statement-spec =
     tie.close
-    (tie.spec (λ c κs. search needs) (λ c κs. search needs) (λ c κs. search needs) returns)
+    (tie.spec (λ c κs. search needs) (λ c κs. search needs) returns (λ c κs. search needs) (λ c κs. search needs) (λ c κs. search needs) returns-2)

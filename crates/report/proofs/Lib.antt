@@ -1,0 +1,6 @@
+pub mod Lines
+pub mod Walk
+pub mod Together
+pub mod Room
+pub mod Reports
+pub mod Unique

@@ -1,0 +1,127 @@
+-- From what `judge` answers to what is printed. Assumes nothing.
+use mathlib.Core.Path.{_≡_, refl, ap}
+use mathlib.Core.Logic.{_⊎_, inl, inr, ⊎-elim}
+use mathlib.Core.List.{List, _++_}
+use Prim.Native.Nat.{ℕ, _+_, _≤_, _<_}
+use native.Mathlib.Omega.{arith}
+use lib.ListN.{length, take}
+use Rattle.language.specs.Writing.{Put}
+use Rattle.language.proofs.Lengths.{digits-length}
+use Rattle.program.specs.Program.{text}
+use Rattle.program.specs.Reading as program
+use Rattle.program.specs.declared.Refusal as program-refusal
+use Rattle.program.specs.declared.Refusal.the-variants.{Misspelled, LineCount, Placement, Target}
+use Rattle.program.proofs.RoundTrip.{text-fits}
+use Rattle.marks.specs.Reading as marks
+use Rattle.marks.specs.Reading.{Taken}
+use Rattle.marks.specs.declared.Mark.{Mark}
+use Rattle.marks.specs.declared.Refusal as marks-refusal
+use Rattle.marks.specs.declared.Refusal.the-variants as of-marks
+use Rattle.verdicts.proofs.Rows.{put-front, put-within}
+use Rattle.rewrites.specs.Judge.{text-bytes, Room, Lent, JudgeRefused, JudgeFinished, JudgeAnswers}
+use Rattle.rewrites.specs.declared.JudgeAnswer.{JudgeAnswer}
+use Rattle.rewrites.specs.declared.JudgeAnswer.the-variants.{Refused, Finished}
+use Rattle.report.specs.Report.{refusedLine, countsLine, verdictLines, reportText, Refuses, report-room, Printed, Reports}
+use Rattle.report.specs.declared.Reported.{Reported}
+use Rattle.report.specs.declared.Reported.the-variants.{Written}
+use Rattle.report.specs.Writing.{ReportFits}
+use Rattle.report.proofs.Lines.{refused-length}
+use Rattle.report.proofs.Room.{report-most}
+
+-- with room lent, 1 does not apply
+refused-refuses : {t u : List ℕ} (vs w : List ℕ) {n : ℕ} → Room vs w → JudgeRefused t u vs w n → Refuses t u n
+refused-refuses vs w r (inl h) = ⊎-elim (λ l. absurd (omega arith)) (λ l. absurd (omega arith)) (h .0)
+refused-refuses vs w r (inr (inl h)) = inl (h .1, h .2, h .3)
+refused-refuses vs w r (inr (inr h)) = inr (h .1, h .2, h .3, h .4, h .5)
+
+-- what each of the two answers says
+module _ (t u : List ℕ) (o q : Lent) {r : JudgeAnswer} (a : JudgeAnswers t u o q r) where
+  pub answer-refused : {n : ℕ} → r ≡ Refused n → Room (o .verdicts) (o .new) → Refuses t u n
+  answer-refused is h = refused-refuses (o .verdicts) (o .new) h ((rw is at a) .0)
+
+  pub answer-finished : {count accepted bytes : ℕ} → r ≡ Finished count accepted bytes → JudgeFinished t u o q count accepted bytes
+  answer-finished is = rw is at a
+
+program-number : (r : program-refusal.Refusal) → program.number r < 100
+program-number Misspelled = omega arith
+program-number LineCount = omega arith
+program-number Placement = omega arith
+program-number Target = omega arith
+
+marks-number : (r : marks-refusal.Refusal) → marks.number r < 100
+marks-number of-marks.Misspelled = omega arith
+marks-number of-marks.LineCount = omega arith
+
+refuses-number : {t u : List ℕ} {n : ℕ} → Refuses t u n → n < 100
+refuses-number (inl h) = rw (h .2) (program-number (h .0))
+refuses-number (inr h) = rw (h .4) (marks-number (h .2))
+
+pub refused-room : {t u : List ℕ} {n : ℕ} → Refuses t u n → length (refusedLine n) ≤ report-room
+refused-room {n = n} h = omega (arith, refused-length n, digits-length 1 n (refuses-number h))
+
+pub refused-printed : {t u o p : List ℕ} {n k : ℕ} → Refuses t u n → report-room ≤ length o → Put o 0 (refusedLine n) p k → Printed t u o p k
+refused-printed {n = n} h room put =
+    record {
+      room = room;
+      w = refusedLine n;
+      output = inl (record { n = n; refuses = h; line = refl });
+      fits = omega (arith, refused-room h);
+      written = put;
+    }
+
+module _ {t u : List ℕ} {o q : Lent} {count accepted bytes : ℕ} (f : JudgeFinished t u o q count accepted bytes) where
+  text-short : length (text (f .Q)) ≤ text-bytes
+  text-short = let d = f .demand .taken in omega (arith, ap length (d .lines), text-fits (d .program))
+
+  new-text : take bytes (q .new) ≡ text (f .Q)
+  new-text = put-front (f .written) (omega (arith, text-short, f .room .1))
+
+  pub new-within : bytes ≤ length (q .new)
+  new-within = put-within (f .written) (omega (arith, text-short, f .room .1))
+
+  abbrev printed : List ℕ
+  printed = countsLine count accepted ++ (verdictLines (f .ms) (q .verdicts) ++ take bytes (q .new))
+
+  printed-report : printed ≡ reportText (f .ms) (q .verdicts) (f .Q)
+  unfolding reportText
+  printed-report = rw (f .counted, f .taken, new-text)
+
+  printed-most : length printed ≤ report-room
+  printed-most = rw printed-report (report-most (f .P) (f .ms) (q .verdicts) (f .Q) (f .marks) (f .judged) text-short)
+
+  pub report-fits : (n : ℕ) → report-room ≤ n → ReportFits u (q .verdicts) (take bytes (q .new)) count accepted n
+  report-fits n h =
+      record {
+        ms = f .ms;
+        taken = f .marks;
+        judged = omega (arith, f .marks .few, f .room .0, f .same);
+        fits = omega (arith, printed-most);
+      }
+
+  pub finished-printed : {l p : List ℕ} {k : ℕ} → report-room ≤ length l
+      → ((ms : List Mark) → Taken u ms → Put l 0 (countsLine count accepted ++ (verdictLines ms (q .verdicts) ++ take bytes (q .new))) p k)
+      → Printed t u l p k
+  finished-printed room put =
+      record {
+        room = room;
+        w = printed;
+        output =
+            inr
+            (record {
+              P = f .P;
+              ms = f .ms;
+              vs = q .verdicts;
+              Q = f .Q;
+              program = f .program;
+              marks = f .marks;
+              judged = f .judged;
+              rewritten = f .rewritten;
+              lines = printed-report;
+            });
+        fits = omega (arith, printed-most);
+        written = put (f .ms) (f .marks);
+      }
+
+-- an output's end lies within the lent bytes
+pub printed-within : (t u o q : List ℕ) {r : Reported} {n : ℕ} → r ≡ Written n → Reports t u o q r → n ≤ length q
+printed-within t u o q is h = let p : Printed t u o q _ = rw is at h in put-within (p .written) (p .fits)

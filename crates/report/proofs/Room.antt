@@ -1,0 +1,56 @@
+-- A report has room in 11,799 bytes, whatever the program and the list. Assumes nothing.
+use mathlib.Core.Path.{_≡_}
+use mathlib.Core.List.{List, [], _∷_}
+use Prim.Native.Nat.{ℕ, suc, _+_, _*_, _≤_, _<_}
+use native.Mathlib.Omega.{arith}
+use lib.Dec.{eqb}
+use lib.ListN.{length, drop, getD, length-append}
+use lib.Seq.{getD-drop}
+use Rattle.language.specs.Spelling.{largest}
+use Rattle.language.specs.declared.Statement.{Statement}
+use Rattle.language.proofs.Lengths.{digits-length}
+use Rattle.program.specs.Program.{text}
+use Rattle.bits.proofs.Counts.{count-le}
+use Rattle.marks.specs.declared.Mark.{Mark}
+use Rattle.marks.specs.declared.Mark.the-variants.{Rm, Rpl}
+use Rattle.marks.specs.Marks.{names, ValidMark, AllValid}
+use Rattle.marks.specs.Reading.{Taken, most}
+use Rattle.rewriting.specs.declared.Verdict.{Verdict}
+use Rattle.rewriting.specs.declared.Verdict.the-variants.{Accepted, Missing, Repeated, Unfit, Unmet}
+use Rattle.rewriting.specs.Verdicts.{number, Verdicts, acceptedCount}
+use Rattle.rewrites.specs.Judge.{text-bytes}
+use Rattle.report.specs.Report.{countsLine, verdictLine, verdictLines, reportText, report-room}
+use Rattle.report.proofs.Lines.{counts-length, verdict-length}
+
+counts-most : (m a : ℕ) → m ≤ most → a ≤ m → length (countsLine m a) ≤ 23
+counts-most m a h k = omega (arith, counts-length m a, digits-length 2 m (omega arith), digits-length 2 a (omega arith))
+
+verdict-most : (n v : ℕ) → n ≤ largest → v < 100 → length (verdictLine n v) ≤ 14
+verdict-most n v h k = omega (arith, verdict-length n v, digits-length 9 n (omega arith), digits-length 1 v (omega arith))
+
+names-valid : (m : Mark) → ValidMark m → names m ≤ largest
+names-valid (Rm n x e) v = v .0
+names-valid (Rpl n x a) v = v .0
+
+verdicts-most : (ms : List Mark) (vs : List ℕ) → AllValid ms → ((j : ℕ) → j < length ms → getD vs j 0 < 100) → length (verdictLines ms vs) ≤ length ms * 14
+unfolding verdictLines
+verdicts-most [] vs v h = omega arith
+verdicts-most (m ∷ ms) vs v h =
+    let l = verdict-most (names m) (getD vs 0 0) (names-valid m (v .0)) (h 0 (omega arith)) in
+    let k = verdicts-most ms (drop 1 vs) (v .1) (λ j i. let e : 1 + j ≡ suc j = omega arith in rw (getD-drop 1 vs j 0, e) (h (suc j) (omega arith))) in
+    simp length-append (omega arith)
+
+number-small : (v : Verdict) → number v < 100
+number-small Accepted = omega arith
+number-small Missing = omega arith
+number-small Repeated = omega arith
+number-small Unfit = omega arith
+number-small Unmet = omega arith
+
+pub report-most : (P : List Statement) (ms : List Mark) (vs : List ℕ) (Q : List Statement) {u : List ℕ} → Taken u ms → Verdicts P ms vs → length (text Q) ≤ text-bytes
+    → length (reportText ms vs Q) ≤ report-room
+unfolding reportText
+report-most P ms vs Q t j q =
+    let a = counts-most (length ms) (acceptedCount ms vs) (t .few) (count-le (λ i. eqb (getD vs i 0) 0) (length ms)) in
+    let b = verdicts-most ms vs (t .spells .valid) (λ i h. let e = j i h in rw (e .2) (number-small (e .0))) in
+    simp length-append (omega (arith, t .few, q))

@@ -1,0 +1,66 @@
+-- `report` meets its contract: each answer of `judge` is printed. Assumes nothing.
+use Rattle.report.proofs.Reports.{answer-refused, answer-finished, refused-room, refused-printed, new-within, report-fits, finished-printed}
+use Rattle.report.specs.Report.{Refuses}
+use Rattle.rewrites.specs.Judge.{Lent, JudgeFinished}
+use lib.Seq.{length-take-le}
+use native.Mathlib.Omega.{arith}
+use mathlib.Core.Path.{sym}
+use borrow.Author.Needs.{needs}
+use Rattle.report.proofs.report.Statement.{statement}
+use Rattle.report.proofs.report.Tie as tie
+
+-- what was lent to `judge`, and what it left
+abbrev lent : tie.After-text → Lent
+lent c = record { verdicts = c .before .before .before .verdict-buffer .result; new = c .before .before .text-buffer .result }
+
+abbrev left : tie.After-judge → Lent
+left c = record { verdicts = c .judge .last .1 .1 .0; new = c .judge .last .1 .1 .1 .0 }
+
+-- the answer is a refusal
+refuses : (c : tie.After-answer) → Refuses (c .before .before .before .before .before .before .before .before .before .before .before .before .before .args .given .now) (c .before .before .before .before .before .before .before .before .before .before .before .before .before .args .marks .now) (c .answer .given .0 .0)
+refuses c = answer-refused (c .before .before .before .before .before .before .before .before .before .before .before .before .before .args .given .now) (c .before .before .before .before .before .before .before .before .before .before .before .before .before .args .marks .now) (lent (c .before .before .before .before .before)) (left (c .before .before .before .before)) (c .before .before .before .before .judge .ensures) (c .answer .given .1) (omega arith, omega arith)
+
+-- the answer is a result
+finished : (c : tie.After-answer2) → JudgeFinished (c .before .before .before .before .before .before .before .before .before .before .before .before .before .args .given .now) (c .before .before .before .before .before .before .before .before .before .before .before .before .before .args .marks .now) (lent (c .before .before .before .before .before)) (left (c .before .before .before .before)) (c .answer2 .given .0 .0) (c .answer2 .given .0 .1 .0) (c .answer2 .given .0 .1 .1 .0)
+finished c = answer-finished (c .before .before .before .before .before .before .before .before .before .before .before .before .before .args .given .now) (c .before .before .before .before .before .before .before .before .before .before .before .before .before .args .marks .now) (lent (c .before .before .before .before .before)) (left (c .before .before .before .before)) (c .before .before .before .before .judge .ensures) (c .answer2 .given .1)
+
+write-refused-requires : tie.Need-write-refused-requires
+write-refused-requires c κs = omega (arith, refused-room (refuses (c .before .before)))
+
+array-share-prefix-text : tie.Need-array-share-prefix-text
+array-share-prefix-text c = new-within (finished (c .before .before .before))
+
+slice-aggregate-write-report-2 : tie.Need-slice-aggregate-write-report-2
+slice-aggregate-write-report-2 c = sym (length-take-le _ _ (new-within (finished (c .before .before .before .before))))
+
+write-report-requires : tie.Need-write-report-requires
+write-report-requires c κs = report-fits (finished (c .before .before .before .before)) _ (omega arith)
+
+returns-2 : tie.Need-returns-2
+returns-2 c = refused-printed (refuses (c .before .before .before .before .before)) (c .before .before .before .before .before .before .before .before .before .before .before .before .before .before .if1 .left) (c .before .before .write-refused .ensures)
+
+returns-3 : tie.Need-returns-3
+returns-3 c = finished-printed (finished (c .before .before .before .before .before .before .before)) (c .before .before .before .before .before .before .before .before .before .before .before .before .before .before .before .before .if1 .left) (c .before .before .write-report .ensures)
+
+pub report-spec : {M : Type 1} → statement M
+report-spec =
+    tie.close
+    (tie.spec
+    (λ c. search needs)
+    (λ c κs. search needs)
+    (λ c κs. search needs)
+    (λ c. search needs)
+    (λ c. search needs)
+    (λ c κs. search needs)
+    (λ c. search needs)
+    write-refused-requires
+    (λ c. search needs)
+    (λ c. search needs)
+    (λ c. search needs)
+    array-share-prefix-text
+    slice-aggregate-write-report-2
+    write-report-requires
+    (λ c. search needs)
+    returns-2
+    (λ c. search needs)
+    returns-3)

@@ -1,0 +1,29 @@
+-- `write_verdict` meets its contract: two numbers with a space between, and byte 10. Assumes nothing.
+use Rattle.report.proofs.Lines.{verdict-length}
+use Rattle.report.specs.Report.{verdictLine}
+use Rattle.language.proofs.Puts.{put-then}
+use native.Mathlib.Omega.{arith}
+use borrow.Author.Needs.{needs}
+use Rattle.report.proofs.write_verdict.Statement.{statement}
+use Rattle.report.proofs.write_verdict.Tie as tie
+
+number-requires : tie.Need-number-requires
+number-requires c κs = omega (arith, verdict-length (c .before .before .args .n) (c .before .before .args .v))
+
+byte-requires : tie.Need-byte-requires
+byte-requires c κs = omega (arith, verdict-length (c .before .before .before .before .before .before .args .n) (c .before .before .before .before .before .before .args .v))
+
+number-requires-2 : tie.Need-number-requires-2
+number-requires-2 c κs = omega (arith, verdict-length (c .before .before .before .before .before .before .before .before .before .before .args .n) (c .before .before .before .before .before .before .before .before .before .before .args .v))
+
+byte-requires-2 : tie.Need-byte-requires-2
+byte-requires-2 c κs = omega (arith, verdict-length (c .before .before .before .before .before .before .before .before .before .before .before .before .before .before .args .n) (c .before .before .before .before .before .before .before .before .before .before .before .before .before .before .args .v))
+
+returns : tie.Need-returns
+unfolding verdictLine
+returns c = put-then (c .before .before .before .before .before .before .before .before .before .before .before .before .before .before .number .ensures) (put-then (c .before .before .before .before .before .before .before .before .before .before .byte .ensures) (put-then (c .before .before .before .before .before .before .number2 .ensures) (c .before .before .byte2 .ensures)))
+
+pub write-verdict-spec : {M : Type 1} → statement M
+write-verdict-spec =
+    tie.close
+    (tie.spec number-requires byte-requires number-requires-2 byte-requires-2 (λ c. search needs) returns)

@@ -1,0 +1,124 @@
+// The check program's output: a program and a list of marks in, the bytes that are printed out.
+ghost use mathlib.Core.Path.{_≡_};
+ghost use mathlib.Core.List.{List, _++_};
+ghost use lib.ListN.{length};
+ghost use Prim.Native.Nat.{_≤_, _+_};
+ghost use Rattle.language.specs.Writing.{Put};
+ghost use Rattle.marks.specs.Reading.{Taken};
+ghost use Rattle.marks.specs.declared.Mark.{Mark};
+ghost use Rattle.report.specs.Report.{refusedLine, countsLine, verdictLine, verdictLines, Reports};
+ghost use Rattle.rewrites.specs.Judge.{verdict-bytes, text-bytes};
+ghost use Rattle.report.specs.Writing.{VerdictsFit, ReportFits};
+use marks::read::MarkRead;
+use rewrites::JudgeAnswer;
+use rewrites::TEXT_BYTES;
+use rewrites::VERDICT_BYTES;
+
+// Every output has room in this many bytes.
+pub const REPORT_ROOM: usize = 23 + marks::MOST * 14 + TEXT_BYTES;
+
+// Written: the number of bytes of the output. NoRoom: under REPORT_ROOM bytes are lent.
+pub enum Reported {
+    Written(usize),
+    NoRoom,
+}
+
+// Puts the line of a refused call at the front of the lent bytes, and answers its length.
+fn write_refused(out: &mut [u8], n: u8) -> usize
+    requires { ⌜ length (refusedLine n) ≤ length (now out) ⌝ }
+    ensures { λ r. ⌜ Put (now (out .entry)) 0 (refusedLine n) (now (out .exit)) r ⌝ }
+{
+    let k1 = language::write::word(out, 0, b"refused ");
+    let k2 = language::write::number(out, k1, n as u32);
+    language::write::byte(out, k2, 10)
+}
+
+// Puts the line with the number of marks and of accepted ones at the front of the lent bytes, and answers its length.
+fn write_counts(out: &mut [u8], count: u32, accepted: u32) -> usize
+    requires { ⌜ length (countsLine count accepted) ≤ length (now out) ⌝ }
+    ensures { λ r. ⌜ Put (now (out .entry)) 0 (countsLine count accepted) (now (out .exit)) r ⌝ }
+{
+    let k1 = language::write::word(out, 0, b"marks ");
+    let k2 = language::write::number(out, k1, count);
+    let k3 = language::write::word(out, k2, b" accepted ");
+    let k4 = language::write::number(out, k3, accepted);
+    language::write::byte(out, k4, 10)
+}
+
+// A mark's statement and its verdict.
+fn write_verdict(out: &mut [u8], at: usize, n: u32, v: u8) -> usize
+    requires { ⌜ at + length (verdictLine n v) ≤ length (now out) ⌝ }
+    ensures { λ r. ⌜ Put (now (out .entry)) at (verdictLine n v) (now (out .exit)) r ⌝ }
+{
+    let k1 = language::write::number(out, at, n);
+    let k2 = language::write::byte(out, k1, b' ');
+    let k3 = language::write::number(out, k2, v as u32);
+    language::write::byte(out, k3, 10)
+}
+
+// The same for each mark of the list, in order.
+fn write_verdicts(out: &mut [u8], at: usize, list: &[u8], verdicts: &[u8]) -> usize
+    requires { ⌜ VerdictsFit (now list) (now verdicts) at (length (now out)) ⌝ }
+    ensures { λ r. ⌜ ((ms : List Mark) → Taken (now (list .entry)) ms → Put (now (out .entry)) at (verdictLines ms (now (verdicts .entry))) (now (out .exit)) r) ⌝ }
+{
+    let mut to = at;
+    let mut from: usize = 0;
+    let mut j: usize = 0;
+    while from < list.len() {
+        let MarkRead::Found(m, k) = marks::read::line(list, from) else {
+            return to;
+        };
+        to = write_verdict(out, to, rewriting::statement_of(m), verdicts[j]);
+        from = k;
+        j += 1;
+    }
+    to
+}
+
+// The counts, the verdicts and the new text, at the front of the lent bytes.
+fn write_report(
+    out: &mut [u8],
+    count: u32,
+    accepted: u32,
+    list: &[u8],
+    verdicts: &[u8],
+    text: &[u8],
+) -> usize
+    requires { ⌜ ReportFits (now list) (now verdicts) (now text) count accepted (length (now out)) ⌝ }
+    ensures { λ r. ⌜ ((ms : List Mark) → Taken (now (list .entry)) ms → Put (now (out .entry)) 0 (countsLine count accepted ++ (verdictLines ms (now (verdicts .entry)) ++ now (text .entry))) (now (out .exit)) r) ⌝ }
+{
+    let k1 = write_counts(out, count, accepted);
+    let k2 = write_verdicts(out, k1, list, verdicts);
+    language::write::word(out, k2, text)
+}
+
+fn verdict_buffer() -> [u8; VERDICT_BYTES]
+    ensures { λ r. ⌜ length r ≡ verdict-bytes ⌝ }
+{
+    [0; VERDICT_BYTES]
+}
+
+fn text_buffer() -> [u8; TEXT_BYTES]
+    ensures { λ r. ⌜ length r ≡ text-bytes ⌝ }
+{
+    [0; TEXT_BYTES]
+}
+
+// Puts what the check program prints for the program's text and the list of marks at the front of the lent bytes.
+pub fn report(given: &[u8], marks: &[u8], out: &mut [u8]) -> Reported
+    ensures { λ r. ⌜ Reports (now (given .entry)) (now (marks .entry)) (now (out .entry)) (now (out .exit)) r ⌝ }
+{
+    if out.len() < REPORT_ROOM {
+        return Reported::NoRoom;
+    }
+    let mut verdicts = verdict_buffer();
+    let mut text = text_buffer();
+    let answer = rewrites::judge(given, marks, &mut verdicts, &mut text);
+    match answer {
+        JudgeAnswer::Refused(n) => Reported::Written(write_refused(out, n)),
+        JudgeAnswer::Finished(count, accepted, bytes) => {
+            let end = bytes as usize;
+            Reported::Written(write_report(out, count, accepted, marks, &verdicts, &text[..end]))
+        }
+    }
+}
