@@ -628,19 +628,22 @@ fn soup(random: &mut Random, pieces: &[&str], most: usize) -> String {
 }
 
 #[rustfmt::skip]
-const STATEMENT_PIECES: [&str; 28] = [
-    "skip", "read", "write", "if", "goto", "else", " ", " ", " ", " ", ":=", ":", "=", "i", "i0",
-    "i1", "i31", "i32", "0", "1", "2", "3", "2147483647", "2147483648", "+", "-", "*", "<",
+const STATEMENT_PIECES: [&str; 25] = [
+    "skip", "read", "write", "if", "goto", "else", " ", " ", " ", ":=", ":", "=", "i", "i0", "i1",
+    "i31", "i32", "0", "2", "2147483647", "2147483648", "+", "-", "*", "<",
 ];
 
-/// A program of three lines, the middle one of pieces of statements in any order.
+#[rustfmt::skip]
+const EXPRESSION_PIECES: [&str; 14] = [
+    "i0", "i31", "i32", "0", "7", "2147483647", "2147483648", " ", " + ", " - ", " * ", " < ", " = ", "-",
+];
+
+/// A program of three lines, the middle one of pieces of statements in any order, now and then a statement.
 pub fn statement_soup(random: &mut Random) -> Vec<u8> {
-    let line = if random.chance(70) {
-        let (x, space) = (random.pick(&["i0", "i31", "if i1"]), random.pick(&["", " "]));
-        let middle = random.pick(&[" := ", " goto ", " goto 2 else "]);
-        format!("{x}{middle}{}{space}", soup(random, &STATEMENT_PIECES[4..], 5))
-    } else {
-        soup(random, &STATEMENT_PIECES, 8)
+    let line = match random.below(4) {
+        0 => soup(random, &STATEMENT_PIECES, 8),
+        1 => format!("if i0 goto 2 else {}", soup(random, &EXPRESSION_PIECES, 2)),
+        _ => format!("i0 := {}", soup(random, &EXPRESSION_PIECES, 4)),
     };
     format!("read i0\n{line}\nwrite i0\n").into_bytes()
 }

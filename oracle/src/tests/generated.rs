@@ -549,3 +549,20 @@ fn the_same_seed_gives_the_same_cases() {
     assert_eq!(case(77), case(77));
     assert_ne!(case(77), case(78));
 }
+
+#[test]
+fn soups_are_spelled_now_and_then() {
+    let random = &mut Random::new(14);
+    let (mut programs, mut conditions, mut nested, mut lists) = (0, 0, [0; 9], 0);
+    for _ in 0..20_000 {
+        let program = Program::read(&generate::statement_soup(random));
+        programs += usize::from(program != Err(2));
+        conditions += usize::from(Condition::read(&generate::condition_soup(random)).is_ok());
+        let answer = Condition::read(&generate::nested_condition(random));
+        nested[usize::from(answer.err().unwrap_or(0))] += 1;
+        lists += usize::from(marks::read(&generate::mark_soup(random)).is_ok());
+    }
+    println!("{programs} {conditions} {nested:?} {lists}");
+    assert!(programs > 200 && conditions > 200 && lists > 200);
+    assert!([0, 6, 7, 8].iter().all(|&number| nested[number] > 200));
+}
