@@ -1,30 +1,18 @@
-//! Prints steps a second of runs, time a byte of reading, and times of tabulation.
+//! Prints times of the library's calls beside those of the tuned calls in `oracle`, on the same
+//! inputs, with their ratios.
 
-use rewrites::{run, tabulate, Outcome, Refusal, MOST_STEPS, TABLE_WORDS};
+mod inputs;
+mod time;
+
+use inputs::{atoms_condition, binary_condition, marks_for, text, unary_condition, OPERATORS};
+use oracle::tuned;
+use rewrites::{judge, run, tabulate, MOST_STEPS, TABLE_WORDS, TEXT_BYTES, VERDICT_BYTES};
 use std::fs;
-use std::time::Instant;
+use time::medians;
 
-const RUN_CALLS: usize = 51;
-const READING_CALLS: usize = 501;
-const TABLE_CALLS: usize = 1001;
-
-/// The times of some calls, in seconds.
-struct Times {
-    median: f64,
-    fastest: f64,
-}
-
-fn time(calls: usize, mut call: impl FnMut()) -> Times {
-    let mut times: Vec<f64> = (0..calls)
-        .map(|_| {
-            let start = Instant::now();
-            call();
-            start.elapsed().as_secs_f64()
-        })
-        .collect();
-    times.sort_by(f64::total_cmp);
-    Times { median: times[calls / 2], fastest: times[0] }
-}
+const RUN_TIMES: usize = 101;
+const TIMES: usize = 301;
+const SIZES: [usize; 5] = [16, 32, 64, 128, 256];
 
 fn machine() -> String {
     let info = fs::read_to_string("/proc/cpuinfo").unwrap_or_default();
@@ -39,39 +27,86 @@ fn machine() -> String {
     }
 }
 
-/// The lines, each ended by byte 10.
-fn text(lines: &[&str]) -> Vec<u8> {
-    lines.iter().flat_map(|line| line.bytes().chain([10])).collect()
+/// A kind of control flow, by which programs of any size are made.
+struct Flow {
+    name: &'static str,
+    is_ordinary: bool,
+    program: fn(usize) -> Vec<u8>,
 }
 
-/// Runs an endless loop of these statements for the largest budget.
-fn print_run(name: &str, statements: &[&str]) {
-    let mut lines = vec!["read i0"];
-    lines.extend(statements);
-    lines.extend(["if i31 goto 2 else 2", "write i0"]);
-    let program = text(&lines);
-    let times = time(RUN_CALLS, || {
-        let answer = run(&program, &[0; 32], 7, MOST_STEPS);
-        assert!(matches!(answer, Ok(Outcome::Spent { .. })));
-    });
-    let millions = |seconds: f64| f64::from(MOST_STEPS) / seconds / 1e6;
-    let each = times.median * 1e9 / f64::from(MOST_STEPS);
-    println!(
-        "{:<22} {:>8.2} {:>8.2} {:>8.1} {:>8.1}",
-        name,
-        times.median * 1e3,
-        each,
-        millions(times.median),
-        millions(times.fastest)
-    );
+const FLOWS: [Flow; 4] = [
+    Flow { name: "ordinary", is_ordinary: true, program: inputs::ordinary },
+    Flow { name: "straight", is_ordinary: false, program: inputs::straight },
+    Flow { name: "backward jumps", is_ordinary: false, program: inputs::backward },
+    Flow { name: "scattered jumps", is_ordinary: false, program: inputs::scattered },
+];
+
+/// The largest ratio of ordinary inputs, and of the others.
+#[derive(Default)]
+struct Worst {
+    ordinary: (f64, String),
+    adversarial: (f64, String),
 }
+
+impl Worst {
+    fn meet(&mut self, is_ordinary: bool, ratio: f64, name: String) {
+        let worst = if is_ordinary { &mut self.ordinary } else { &mut self.adversarial };
+        if ratio > worst.0 {
+            *worst = (ratio, name);
+        }
+    }
+}
+
+/// Prints a line of times, in microseconds, and their ratio.
+fn print_line(name: &str, [ours, tuned]: [f64; 2], rest: &str) -> f64 {
+    let ratio = ours / tuned;
+    println!("{:<52} {:>10.2} {:>10.2} {:>7.2} {}", name, ours * 1e6, tuned * 1e6, ratio, rest);
+    ratio
+}
+
+fn print_heading(title: &str, last: &str) {
+    println!("\n{}\n{:<52} {:>10} {:>10} {:>7} {}", title, "", "ours", "tuned", "ratio", last);
+}
+
+// Runs
+
+fn print_runs(worst: &mut Worst) {
+    print_heading("Runs of 1,000,000 steps, in microseconds", "    ns/step");
+    let loops: [(&str, &[&str]); 7] = [
+        ("skip", &["skip", "skip", "skip", "skip"]),
+        ("copies", &["i1 := i0", "i2 := 7", "i3 := i2", "i4 := i1"]),
+        ("sums and differences", &["i1 := i1 + i0", "i2 := i2 - 1"]),
+        ("products", &["i1 := i1 * i0", "i2 := i1 * 7"]),
+        ("comparisons", &["i1 := i2 < i0", "i2 := i1 = 0"]),
+        ("jumps", &["if i1 goto 3 else 4", "skip", "if i0 goto 5 else 2", "skip"]),
+        ("all of them", &["i1 := i1 + i0", "i2 := i1 * 7", "i3 := i2 < i1", "skip", "i4 := i3"]),
+    ];
+    for (name, statements) in loops {
+        let mut lines = vec!["read i0"];
+        lines.extend(statements);
+        lines.extend(["if i31 goto 2 else 2", "write i0"]);
+        let program = text(&lines);
+        let values = [0; 32];
+        let times = medians(
+            RUN_TIMES,
+            [&mut || run(&program, &values, 7, MOST_STEPS).is_ok(), &mut || {
+                tuned::run(&program, &values, 7, MOST_STEPS).is_ok()
+            }],
+        );
+        let each = format!("{:>11.2}", times[0] * 1e9 / f64::from(MOST_STEPS));
+        let ratio = print_line(&format!("loop of {}", name), times, &each);
+        worst.meet(true, ratio, format!("run, loop of {}", name));
+    }
+}
+
+// Reading and writing
 
 /// A text of so many good lines, of every kind.
 fn good_text(lines: usize) -> Vec<u8> {
     const INNER: [&str; 5] = [
         "i1 := i0",
         "i12 := i1 + 1234567",
-        "if i12 goto 2 else 200",
+        "if i12 goto 2 else 15",
         "skip",
         "i3 := 2147483647 < i31",
     ];
@@ -81,123 +116,169 @@ fn good_text(lines: usize) -> Vec<u8> {
     text(&text_lines)
 }
 
-/// Reads a text of so many lines, and takes no step.
-fn print_reading(lines: usize) {
-    let program = good_text(lines);
-    let times = time(READING_CALLS, || match run(&program, &[0; 32], 7, 0) {
-        Ok(_) => assert!(lines <= 256),
-        Err(refusal) => assert!(lines > 256 && refusal == Refusal::LineCount),
-    });
-    let bytes = program.len();
-    let each = |seconds: f64| seconds * 1e9 / bytes as f64;
-    println!(
-        "{:>8} {:>8} {:>13.1} {:>8.2} {:>8.2}",
-        lines,
-        bytes,
-        times.median * 1e6,
-        each(times.median),
-        each(times.fastest)
+fn print_reading(worst: &mut Worst) {
+    print_heading(
+        "Reading (run under budget 0; over 256 lines are refused after all are read), in microseconds",
+        "    ns/byte",
     );
-}
-
-/// 256 statements of every kind, with loops of some lines and jumps ahead.
-fn ordinary_program() -> Vec<u8> {
-    let inner = (2..256).map(|n| match n % 8 {
-        0 => format!("if i12 goto {} else {}", n - 6, n + 1),
-        4 => format!("if i1 goto {} else {}", n + 1, (n + 40).min(256)),
-        1 => "i1 := i0".to_string(),
-        2 => format!("i12 := i1 + {}", n),
-        3 => "i0 := i0 - 1".to_string(),
-        5 => "skip".to_string(),
-        6 => "i3 := i12 < i0".to_string(),
-        _ => "i2 := i3 * i1".to_string(),
-    });
-    let lines: Vec<String> = inner.collect();
-    let lines = ["read i0"].into_iter().chain(lines.iter().map(String::as_str)).chain(["write i3"]);
-    text(&lines.collect::<Vec<_>>())
-}
-
-/// 256 statements, each but the ends an `if` that goes to the line before or to the end: the most
-/// steps that a program can have, and paths that run from the end to the start.
-fn backward_program() -> Vec<u8> {
-    let inner = (3..256).map(|n| format!("if i0 goto {} else 256", n - 1));
-    let lines: Vec<String> = inner.collect();
-    let start = ["read i0", "if i0 goto 255 else 256"];
-    let lines = start.into_iter().chain(lines.iter().map(String::as_str)).chain(["write i0"]);
-    text(&lines.collect::<Vec<_>>())
-}
-
-/// The operators in turn, 63 of them, before an atom.
-fn unary_condition(operators: &[&str]) -> String {
-    let mut condition = String::new();
-    for operator in operators.iter().cycle().take(63) {
-        condition += operator;
-        condition += " ";
+    for lines in [16, 64, 256, 1_000, 4_000, 16_000] {
+        let program = good_text(lines);
+        let values = [0; 32];
+        let times = medians(
+            TIMES,
+            [&mut || run(&program, &values, 7, 0).is_ok(), &mut || {
+                tuned::run(&program, &values, 7, 0).is_ok()
+            }],
+        );
+        let each = format!("{:>11.2}", times[0] * 1e9 / program.len() as f64);
+        let name = format!("{} lines, {} bytes", lines, program.len());
+        let ratio = print_line(&name, times, &each);
+        worst.meet(lines <= 256, ratio, format!("reading {}", name));
     }
-    condition + "node(128)"
 }
 
-/// 31 brackets, each the right side of the next, around two parts.
-fn binary_condition() -> String {
-    let mut condition = "!use(i1)".to_string();
-    for k in 0..31 {
-        let quantifier = ["E", "A"][k % 2];
-        let p = ["true", "trans(i1)"][k % 2];
-        let letter = ["U", "S", "W", "B"][k % 4];
-        condition = format!("{}[{} {} {}]", quantifier, p, letter, condition);
-    }
-    condition
-}
-
-/// Tabulates a condition of 64 parts over both programs.
-fn print_table(name: &str, condition: &str, programs: &[Vec<u8>; 2]) {
-    print!("{:<22} {:>6}", name, condition.len());
+fn print_writing(worst: &mut Worst) {
+    print_heading("Reading and writing (judge without marks), in microseconds", "    ns/byte");
+    let mut longest = vec!["i31 := 2147483647 + 2147483647"; 256];
+    longest[0] = "read i31";
+    longest[255] = "write i31";
+    let mut programs: Vec<Vec<u8>> = [16, 64, 256].map(good_text).to_vec();
+    programs.push(text(&longest));
     for program in programs {
-        let mut table = [0; TABLE_WORDS];
-        let times = time(TABLE_CALLS, || {
-            let answer = tabulate(program, condition.as_bytes(), &mut table);
-            assert!(matches!(answer, Ok(t) if t.parts == 64));
-        });
-        print!(" {:>10.1} {:>8.1}", times.median * 1e6, times.fastest * 1e6);
+        let (mut verdicts, mut new) = ([0; VERDICT_BYTES], [0; TEXT_BYTES]);
+        let (mut verdicts_2, mut new_2) = (verdicts, new);
+        let times = medians(
+            TIMES,
+            [&mut || judge(&program, b"", &mut verdicts, &mut new).is_ok(), &mut || {
+                tuned::judge(&program, b"", &mut verdicts_2, &mut new_2).is_ok()
+            }],
+        );
+        assert!(new == new_2);
+        let each = format!("{:>11.2}", times[0] * 1e9 / program.len() as f64);
+        let lines = program.iter().filter(|&&byte| byte == 10).count();
+        let name = format!("{} lines, {} bytes", lines, program.len());
+        let ratio = print_line(&name, times, &each);
+        worst.meet(true, ratio, format!("reading and writing {}", name));
     }
-    println!();
+}
+
+// Tables
+
+fn time_table(program: &[u8], condition: &str) -> [f64; 2] {
+    let condition = condition.as_bytes();
+    let (mut table, mut table_2) = ([0; TABLE_WORDS], [0; TABLE_WORDS]);
+    let times = medians(
+        TIMES,
+        [&mut || tabulate(program, condition, &mut table).is_ok(), &mut || {
+            tuned::tabulate(program, condition, &mut table_2).is_ok()
+        }],
+    );
+    assert!(matches!(tabulate(program, condition, &mut table), Ok(answer) if answer.parts == 64));
+    assert!(table == table_2);
+    times
+}
+
+fn print_tables(worst: &mut Worst) {
+    for flow in &FLOWS {
+        let program = (flow.program)(256);
+        print_heading(
+            &format!("Tables of 64 parts over 256 statements, {}, in microseconds", flow.name),
+            "",
+        );
+        let mut print = |name: &str, condition: &str| {
+            let ratio = print_line(name, time_table(&program, condition), "");
+            worst.meet(flow.is_ordinary, ratio, format!("table, {}, {}", flow.name, name));
+        };
+        if flow.is_ordinary || flow.name == "backward jumps" {
+            for operator in OPERATORS {
+                print(&format!("63 {}", operator), &unary_condition(&[operator]));
+            }
+        }
+        print("63 operators in turn", &unary_condition(&OPERATORS));
+        print("31 of U, S, W, B", &binary_condition());
+        print("32 atoms", &atoms_condition());
+    }
+}
+
+fn print_table_growth(worst: &mut Worst) {
+    print_heading("Tables of 64 parts by size, in microseconds", "ns a statement and part");
+    let conditions =
+        [("operators in turn", unary_condition(&OPERATORS)), ("U, S, W, B", binary_condition())];
+    for flow in &FLOWS {
+        for (condition_name, condition) in &conditions {
+            for size in SIZES {
+                let times = time_table(&(flow.program)(size), condition);
+                let each = format!("{:>11.2}", times[0] * 1e9 / (64 * size) as f64);
+                let name = format!("{}, {}, {} statements", flow.name, condition_name, size);
+                let ratio = print_line(&name, times, &each);
+                worst.meet(flow.is_ordinary, ratio, format!("table, {}", name));
+            }
+        }
+    }
+}
+
+// Marks
+
+fn print_judging(worst: &mut Worst) {
+    println!(
+        "\nJudging a mark for each statement, in microseconds; tuned by a search from each mark's statement,\n\
+         and by labelling all statements for each mark"
+    );
+    println!(
+        "{:<36} {:>8} {:>10} {:>10} {:>7} {:>10} {:>7}",
+        "", "accepted", "ours", "search", "ratio", "labels", "ratio"
+    );
+    for flow in &FLOWS {
+        for size in SIZES {
+            let program = (flow.program)(size);
+            let marks = marks_for(&program);
+            let (mut verdicts, mut new) = ([0; VERDICT_BYTES], [0; TEXT_BYTES]);
+            let (mut verdicts_2, mut new_2) = (verdicts, new);
+            let (mut verdicts_3, mut new_3) = (verdicts, new);
+            let [ours, search, labels] = medians(
+                TIMES,
+                [
+                    &mut || judge(&program, &marks, &mut verdicts, &mut new).is_ok(),
+                    &mut || tuned::judge(&program, &marks, &mut verdicts_2, &mut new_2).is_ok(),
+                    &mut || {
+                        tuned::judge_by_labels(&program, &marks, &mut verdicts_3, &mut new_3)
+                            .is_ok()
+                    },
+                ],
+            );
+            assert!(verdicts == verdicts_2 && verdicts == verdicts_3);
+            assert!(new == new_2 && new == new_3);
+            let answer = judge(&program, &marks, &mut verdicts, &mut new);
+            let accepted = answer.map_or(0, |answer| answer.accepted);
+            let name = format!("{}, {} marks", flow.name, size);
+            println!(
+                "{:<36} {:>8} {:>10.2} {:>10.2} {:>7.2} {:>10.2} {:>7.2}",
+                name,
+                accepted,
+                ours * 1e6,
+                search * 1e6,
+                ours / search,
+                labels * 1e6,
+                ours / labels
+            );
+            worst.meet(flow.is_ordinary, ours / search, format!("judge, {}", name));
+        }
+    }
 }
 
 fn main() {
+    let mut worst = Worst::default();
     println!("machine: {}", machine());
-
-    println!("\nRuns of 1,000,000 steps, {} of each", RUN_CALLS);
-    println!("                         median   median  million steps a second");
-    println!("loop of                      ms  ns/step   median  fastest");
-    print_run("skip", &["skip", "skip", "skip", "skip"]);
-    print_run("copies", &["i1 := i0", "i2 := 7", "i3 := i2", "i4 := i1"]);
-    print_run("sums and differences", &["i1 := i1 + i0", "i2 := i2 - 1"]);
-    print_run("products", &["i1 := i1 * i0", "i2 := i1 * 7"]);
-    print_run("comparisons", &["i1 := i2 < i0", "i2 := i1 = 0"]);
-    let mixed = ["i1 := i1 + i0", "i2 := i1 * 7", "i3 := i2 < i1", "skip", "i4 := i3"];
-    print_run("mixed statements", &mixed);
-
+    println!("medians of {} times of each call, of {} times of runs", TIMES, RUN_TIMES);
+    print_runs(&mut worst);
+    print_reading(&mut worst);
+    print_writing(&mut worst);
+    print_tables(&mut worst);
+    print_table_growth(&mut worst);
+    print_judging(&mut worst);
+    println!("\nlargest ratio, ordinary inputs:    {:.2} ({})", worst.ordinary.0, worst.ordinary.1);
     println!(
-        "\nReading, {} times each; over 256 lines are refused after all are read",
-        READING_CALLS
+        "largest ratio, adversarial inputs: {:.2} ({})",
+        worst.adversarial.0, worst.adversarial.1
     );
-    println!("                         median        ns a byte");
-    println!("   lines    bytes  microseconds   median  fastest");
-    for lines in [2, 256, 1000, 2000, 4000, 8000, 16_000] {
-        print_reading(lines);
-    }
-
-    println!(
-        "\nTables of conditions of 64 parts over 256 statements, reading included, {} of each, in microseconds",
-        TABLE_CALLS
-    );
-    println!("                                ordinary program     backward jumps");
-    println!("operators               bytes     median  fastest     median  fastest");
-    let programs = [ordinary_program(), backward_program()];
-    let operators = ["EX", "AX", "EF", "AF", "EG", "AG", "EY", "AY", "ER", "AR", "EM", "AM"];
-    for operator in operators {
-        print_table(&format!("63 {}", operator), &unary_condition(&[operator]), &programs);
-    }
-    print_table("63, all in turn", &unary_condition(&operators), &programs);
-    print_table("31 of U, S, W, B", &binary_condition(), &programs);
 }

@@ -1,12 +1,9 @@
 //! Executed cases of `tabulate`. Expected rows are worked out from the description of conditions,
-//! by hand or by the second implementation in `reference`.
+//! by hand.
 
 mod common;
-mod reference;
 
-use common::{lines, refused_programs, shown, text, P};
-use reference::conditions::{self as second, Table, Way};
-use reference::Random;
+use common::{lines, shown, text, P};
 use rewrites::{raw, tabulate, Refusal, Tabulated, TABLE_WORDS};
 
 const ALL: u64 = u64::MAX;
@@ -642,6 +639,20 @@ fn a_table_under_256_words_is_refused_1() {
     }
 }
 
+/// Programs that are refused 2 to 5.
+fn refused_programs() -> Vec<(Vec<u8>, u8)> {
+    vec![
+        (b"rubbish".to_vec(), 2),
+        (P.as_bytes()[..P.len() - 1].to_vec(), 2),
+        (b"\n".to_vec(), 2),
+        (Vec::new(), 3),
+        (text(&["read i0"]), 3),
+        (text(&lines(257)), 3),
+        (text(&["read i0", "skip"]), 4),
+        (text(&["read i0", "if i0 goto 1 else 2", "write i0"]), 5),
+    ]
+}
+
 /// Conditions that are refused 6 to 8.
 fn refused_conditions() -> Vec<(Vec<u8>, u8)> {
     vec![
@@ -683,124 +694,4 @@ fn a_second_call_keeps_what_the_first_filled_beyond_its_parts() {
     assert_eq!(table[16..], [7; 284]);
     assert_eq!(tabulate(P.as_bytes(), b"EX", &mut table), Err(Refusal::ConditionMisspelled));
     assert_eq!(table[..8], [128, 0, 0, 0, 208, 0, 0, 0]);
-}
-
-// Against the reference
-
-/// Holds the library to the reference, with the whole table, and tells the number of its answer.
-fn agrees(program: &[u8], condition: &[u8], room: usize, way: Way) -> u8 {
-    let expected = match second::tabulate(program, condition, room, way) {
-        Err(number) => (number, unchanged(room)),
-        Ok(Table { words, parts, satisfied, first }) => {
-            assert_eq!(words.len(), 4 * parts as usize);
-            (0, filled(room, &words, satisfied, first))
-        }
-    };
-    let answer = lend(program, condition, room);
-    let texts = || format!("{} {}", shown(program), String::from_utf8_lossy(condition));
-    assert_eq!(answer, expected, "{:?} {}", way, texts());
-    answer.0
-}
-
-const OPERATORS: [&str; 12] =
-    ["EX", "AX", "EF", "AF", "EG", "AG", "EY", "AY", "ER", "AR", "EM", "AM"];
-
-#[test]
-fn every_operator_over_atoms_of_p_is_as_by_the_reference() {
-    let atoms = ["true", "false", "entry", "exit", "node(4)", "def(i0)", "use(i0)", "trans(i1)"];
-    for way in [Way::Paths, Way::Search] {
-        for p in atoms {
-            for operator in OPERATORS {
-                let condition = format!("{} {}", operator, p);
-                assert_eq!(agrees(P.as_bytes(), condition.as_bytes(), 256, way), 0);
-            }
-            for q in atoms {
-                for letter in ["U", "W", "S", "B"] {
-                    for quantifier in ["E", "A"] {
-                        let condition = format!("{}[{} {} !{}]", quantifier, p, letter, q);
-                        assert_eq!(agrees(P.as_bytes(), condition.as_bytes(), 256, way), 0);
-                    }
-                }
-            }
-        }
-    }
-}
-
-#[test]
-fn random_conditions_on_small_programs_are_as_by_every_path() {
-    let mut random = Random(0x6a09_e667_f3bc_c908);
-    for _ in 0..4000 {
-        let n = 2 + random.below(6);
-        let lines = random.program(n);
-        let parts = 1 + random.below(12);
-        let condition = random.condition(parts, &lines);
-        let number = agrees(&text(&lines), condition.as_bytes(), 256, Way::Paths);
-        assert_eq!(number, 0, "{}", condition);
-    }
-}
-
-#[test]
-fn random_conditions_are_as_by_the_reference() {
-    let mut random = Random(0xbb67_ae85_84ca_a73b);
-    for _ in 0..4000 {
-        let n = 2 + random.below(20);
-        let lines = random.program(n);
-        let parts = 1 + random.below(20);
-        let condition = random.condition(parts, &lines);
-        let room = 256 + random.below(3);
-        let number = agrees(&text(&lines), condition.as_bytes(), room, Way::Search);
-        assert_eq!(number, 0, "{}", condition);
-    }
-}
-
-#[test]
-fn random_conditions_on_programs_of_up_to_256_lines_are_as_by_the_reference() {
-    let mut random = Random(0x3c6e_f372_fe94_f82b);
-    let mut taken = 0;
-    for round in 0..200 {
-        let n = if round % 3 == 0 { 256 } else { 2 + random.below(255) };
-        let lines = random.program(n);
-        let parts = 1 + random.below(66);
-        let condition = random.condition(parts, &lines);
-        let number = agrees(&text(&lines), condition.as_bytes(), 256, Way::Search);
-        taken += u32::from(number == 0);
-    }
-    assert!(taken > 150, "{}", taken);
-}
-
-#[test]
-fn random_damaged_conditions_are_answered_as_by_the_reference() {
-    let mut random = Random(0xa54f_f53a_5f1d_36f1);
-    let mut numbers = [0; 16];
-    for _ in 0..20_000 {
-        let n = 2 + random.below(4);
-        let lines = random.program(n);
-        let parts = match random.below(16) {
-            0 | 1 => 64 + random.below(2),
-            2 => 64 + random.below(200),
-            _ => 1 + random.below(8),
-        };
-        let mut condition = random.condition(parts, &lines).into_bytes();
-        for _ in 0..random.below(3) {
-            let at = random.below(condition.len() + 1);
-            let byte = match random.below(3) {
-                0 => random.next() as u8,
-                _ => b"!()[]&|EAXFGYRMUWSB trueindfs0123456789:=+-*<\n"[random.below(46)],
-            };
-            match random.below(3) {
-                0 => condition.insert(at, byte),
-                1 if at < condition.len() => condition[at] = byte,
-                _ if at < condition.len() => drop(condition.remove(at)),
-                _ => {}
-            }
-        }
-        let room = if random.below(16) == 0 { random.below(256) } else { 256 };
-        let mut program = text(&lines);
-        if random.below(16) == 0 {
-            program.remove(random.below(program.len()));
-        }
-        numbers[usize::from(agrees(&program, &condition, room, Way::Search))] += 1;
-    }
-    // Each of 1, 2, 6, 7 and 8, and conditions that are taken, came up often.
-    assert!([0, 1, 2, 6, 7, 8].iter().all(|&k| numbers[k] > 100), "{:?}", numbers);
 }

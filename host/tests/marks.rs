@@ -1,12 +1,11 @@
 //! Executed cases of `judge`. Verdicts and new texts are worked out from the description of marks,
-//! by hand or by the second implementation in `reference`. Runs of the given and of the new program
-//! are compared too.
+//! by hand; `differential.rs` holds the call to a second implementation. Runs of the given and of the
+//! new program are compared too.
 
 mod common;
-mod reference;
 
 use common::{given, lines, refused_programs, shown, text, P};
-use reference::{marks as second, Random};
+use oracle::generate::{self, Random};
 use rewrites::{judge, raw, run, tabulate, Judged, Outcome, Refusal, Verdict};
 use rewrites::{PART_WORDS, TABLE_WORDS, TEXT_BYTES, VERDICT_BYTES};
 
@@ -1311,22 +1310,24 @@ fn published(mark: &str) -> String {
 
 #[test]
 fn a_mark_that_fits_is_accepted_where_tabulate_shows_its_condition_true() {
-    let mut random = Random(0x9b05_688c_2b3e_6c1f);
+    let mut random = Random::new(0x9b05_688c_2b3e_6c1f);
     let (mut met, mut unmet) = (0, 0);
     for _ in 0..2000 {
-        let n = 3 + random.below(30);
-        let lines = random.program(n);
-        let program: Vec<&str> = lines.iter().map(|line| &line[..]).collect();
-        for mark in random.marks(&lines) {
+        let size = 3 + random.below(30);
+        let program = generate::program(&mut random, size);
+        let marks = oracle::marks::text(&generate::marks(&mut random, &program, 12));
+        let (given, marks) = (shown(&program.text()), shown(&marks));
+        let lines: Vec<&str> = given.lines().collect();
+        for mark in marks.lines() {
             let mut verdicts = [99; VERDICT_BYTES];
-            let list = text(&[&mark]);
-            let answer = judge(&text(&program), &list, &mut verdicts, &mut [0; TEXT_BYTES]);
+            let list = text(&[mark]);
+            let answer = judge(given.as_bytes(), &list, &mut verdicts, &mut [0; TEXT_BYTES]);
             assert!(answer.is_ok(), "{}", mark);
             if matches!(verdicts[0], 11 | 13) {
                 continue;
             }
             let n = mark.split(':').next().and_then(|n| n.parse().ok()).expect("a number");
-            let holds = holds(&program, &published(&mark), n);
+            let holds = holds(&lines, &published(mark), n);
             assert_eq!(verdicts[0], if holds { 0 } else { 14 }, "{}", mark);
             *(if holds { &mut met } else { &mut unmet }) += 1;
         }
@@ -1334,68 +1335,29 @@ fn a_mark_that_fits_is_accepted_where_tabulate_shows_its_condition_true() {
     assert!(met > 1000 && unmet > 1000, "{} {}", met, unmet);
 }
 
-#[test]
-fn random_programs_and_their_rewritings_run_alike() {
-    let mut random = Random(0x510e_527f_ade6_82d1);
-    let mut counts = [0; 15];
-    let (mut dropped, mut replaced) = (0, 0);
-    for _ in 0..6000 {
-        let n = 3 + random.below(14);
-        let lines = random.program(n);
-        let marks = random.marks(&lines);
-        let program = text(&lines);
-        let (mut verdicts, mut new) = ([99; VERDICT_BYTES], [99; TEXT_BYTES]);
-        let answer = judge(&program, &text(&marks), &mut verdicts, &mut new);
-        let answer = answer.expect("the program and the list are taken");
-        for (mark, verdict) in marks.iter().zip(verdicts) {
-            counts[usize::from(verdict)] += 1;
-            let kind = if mark.contains("rm") { &mut dropped } else { &mut replaced };
-            *kind += u32::from(verdict == 0);
+/// Holds the library to the second implementation, with all that is lent, and tells the number of
+/// its answer.
+fn agrees(program: &[u8], marks: &[u8]) -> u8 {
+    let (mut verdicts, mut new) = ([0; VERDICT_BYTES], [0; TEXT_BYTES]);
+    let expected = match oracle::marks::judge(program, marks, &mut verdicts, &mut new) {
+        Err(number) => (number, unchanged(ROOM)),
+        Ok((count, _, bytes)) => {
+            (0, filled(ROOM, &verdicts[..count as usize], &new[..bytes as usize]))
         }
-        let new = &new[..answer.bytes as usize];
-        for _ in 0..3 {
-            let (values, input) = (random.values(), random.word());
-            for budget in (0..20).chain([random.below(1000) as u32]) {
-                let outcome = |text| run(text, &values, input, budget).expect("a program is taken");
-                let texts = || format!("{}\n{}", shown(&program), shown(new));
-                assert!(alike(outcome(&program), outcome(new)), "{}", texts());
-            }
-        }
-    }
-    // Marks of both kinds were made often, and each verdict that the proposals can get came up.
-    assert!(dropped > 1000 && replaced > 1000, "{} {}", dropped, replaced);
-    assert!([0, 12, 13, 14].iter().all(|&k| counts[k] > 1000), "{:?}", counts);
-}
-
-// Against the reference
-
-/// Holds the library to the reference, with all that is lent, and tells the number of its answer.
-fn agrees(program: &[u8], marks: &[u8], room: [usize; 2]) -> u8 {
-    let expected = match second::judge(program, marks, room) {
-        Err(number) => (number, unchanged(room)),
-        Ok((verdicts, lines)) => (0, filled(room, &verdicts, &text(&lines))),
     };
-    let answer = lend(program, marks, room);
+    let answer = lend(program, marks, ROOM);
     let texts = || format!("{}\n{}", shown(program), String::from_utf8_lossy(marks));
     assert_eq!(answer, expected, "{}", texts());
     answer.0
 }
 
 #[test]
-fn the_list_of_p_is_as_by_the_reference() {
-    let (verdicts, lines) = (LIST.map(|(_, v)| v), changed(&p(), &[(4, "i3 := i1 + 7")]));
-    let list = text(&LIST.map(|(line, _)| line));
-    assert_eq!(second::judge(P.as_bytes(), &list, ROOM), Ok((verdicts.to_vec(), lines)));
-    assert_eq!(agrees(P.as_bytes(), &list, ROOM), 0);
-}
-
-#[test]
-fn every_edit_of_one_byte_of_a_list_is_answered_as_by_the_reference() {
+fn every_edit_of_one_byte_of_a_list_is_answered_as_by_the_second_implementation() {
     let good = text(&["4: mark(rpl, i2, 7)", "3: mark(rm, i2, i1 + 7)"]);
     let (mut taken, mut refused) = (0, 0);
     let mut edit = |at: usize, removed: usize, inserted: &[u8]| {
         let edited = [&good[..at], inserted, &good[at + removed..]].concat();
-        match agrees(P.as_bytes(), &edited, ROOM) {
+        match agrees(P.as_bytes(), &edited) {
             0 => taken += 1,
             _ => refused += 1,
         }
@@ -1412,66 +1374,4 @@ fn every_edit_of_one_byte_of_a_list_is_answered_as_by_the_reference() {
         }
     }
     assert!(taken > 100 && refused > 10_000, "{} {}", taken, refused);
-}
-
-#[test]
-fn random_lists_are_judged_as_by_the_reference() {
-    let mut random = Random(0x1f83_d9ab_fb41_bd6b);
-    for _ in 0..2000 {
-        let n = 2 + random.below(20);
-        let lines = random.program(n);
-        let marks = random.marks(&lines);
-        let room = [256 + random.below(3), 8192 + random.below(3)];
-        assert_eq!(agrees(&text(&lines), &text(&marks), room), 0);
-    }
-}
-
-#[test]
-fn random_lists_on_programs_of_up_to_256_lines_are_judged_as_by_the_reference() {
-    let mut random = Random(0x5be0_cd19_137e_2179);
-    for round in 0..8 {
-        let n = if round % 3 == 0 { 256 } else { 2 + random.below(255) };
-        let lines = random.program(n);
-        let marks = random.marks(&lines);
-        assert_eq!(agrees(&text(&lines), &text(&marks), ROOM), 0);
-    }
-}
-
-#[test]
-fn random_damaged_lists_are_answered_as_by_the_reference() {
-    let mut random = Random(0xcbbb_9d5d_c105_9ed8);
-    let mut numbers = [0; 16];
-    for _ in 0..10_000 {
-        let n = 2 + random.below(6);
-        let lines = random.program(n);
-        let mut marks = text(&random.marks(&lines));
-        if random.below(16) == 0 {
-            marks = [marks, repeated("0: mark(rm, i0, 0)", 240 + random.below(30))].concat();
-        }
-        for _ in 0..random.below(3) {
-            let at = random.below(marks.len() + 1);
-            let byte = match random.below(3) {
-                0 => random.next() as u8,
-                _ => b"0123456789:, ()markpli+-*<=\n"[random.below(28)],
-            };
-            match random.below(3) {
-                0 => marks.insert(at, byte),
-                1 if at < marks.len() => marks[at] = byte,
-                _ if at < marks.len() => drop(marks.remove(at)),
-                _ => {}
-            }
-        }
-        let room = match random.below(16) {
-            0 => [random.below(256), 8192],
-            1 => [256, random.below(8192)],
-            _ => ROOM,
-        };
-        let mut program = text(&lines);
-        if random.below(16) == 0 {
-            program.remove(random.below(program.len()));
-        }
-        numbers[usize::from(agrees(&program, &marks, room))] += 1;
-    }
-    // Each of 1, 2, 9 and 10, and lists that are taken, came up often.
-    assert!([0, 1, 2, 9, 10].iter().all(|&k| numbers[k] > 100), "{:?}", numbers);
 }

@@ -90,18 +90,17 @@ int main(int count, char **arguments) {
                                line > 2 ? line - 1 : 255);
     program_len += sprintf((char *)program + program_len, "write i31\n");
 
+    /* 256 marks: each fits, or is of the other kind. */
+    for (line = 1; line <= 256; line++)
+        marks_len += sprintf((char *)marks + marks_len, "%d: mark(%s, i31, i30)\n", line,
+                             line % 8 ? "rpl" : "rm");
+
     bytes = overwritten(run) - alone;
     printf("%7lu bytes of stack: run\n", (unsigned long)bytes);
     fails += number != 0 || bytes > most;
-
-    /* 255 marks that fit, and one that doesn't. */
-    marks_len = sprintf((char *)marks, "1: mark(rm, i31, i30 + i30)\n");
-    for (line = 2; line <= 256; line++)
-        marks_len += sprintf((char *)marks + marks_len, "%d: mark(rpl, i31, i30)\n", line);
     bytes = overwritten(judge) - alone;
     printf("%7lu bytes of stack: judge, 256 marks\n", (unsigned long)bytes);
     fails += number != 0 || bytes > most;
-
     for (k = 0; k < sizeof cases / sizeof *cases; k++) {
         condition_len = 0;
         put(cases[k].open, cases[k].depth);

@@ -61,6 +61,12 @@ pub fn shown(text: &[u8]) -> String {
 
 /// Compiles a C program of this folder, links it to the library, and tells where it is.
 pub fn compiled(name: &str) -> PathBuf {
+    let folder = Path::new(env!("CARGO_MANIFEST_DIR")).join("tests");
+    linked(name, &[folder.join(name).with_extension("c")])
+}
+
+/// Compiles C files, links them to the library, and tells where the program is.
+pub fn linked(name: &str, sources: &[PathBuf]) -> PathBuf {
     let package = Path::new(env!("CARGO_MANIFEST_DIR"));
     let program = Path::new(env!("CARGO_TARGET_TMPDIR")).join(name);
     let status = Command::new("cc")
@@ -68,7 +74,7 @@ pub fn compiled(name: &str) -> PathBuf {
         .arg(&program)
         .arg("-I")
         .arg(package.join("../include"))
-        .arg(package.join("tests").join(name).with_extension("c"))
+        .args(sources)
         .arg(package.join("../target/staticlib/librewrites.a"))
         .status()
         .expect("cc runs");

@@ -1,0 +1,486 @@
+/* A libFuzzer target over the calls. An input is a program, a condition, a list of marks and some
+   bytes that choose the rest, with '%', which no text holds, between them. What is checked holds
+   for every input:
+   - a refused call changes nothing, and a finished one only what its result sets;
+   - no byte beyond a lent text or buffer is touched: each ends at a page that can't be;
+   - a program is misspelled exactly where a line of it is, and is written as it was read;
+   - a run that is spent goes on, and one that has ended stays so;
+   - `!` in front of a condition complements its row and keeps the others;
+   - a mark's verdict is that of its published condition's table;
+   - the rewritten program is taken, and both programs' runs agree.
+   `fuzz/run` builds it and runs it; `host/tests/fuzz.rs` runs it on the seeds. */
+#define _DEFAULT_SOURCE
+#include "rewrites.h"
+
+#include <stdio.h>
+#include <stdlib.h>
+#include <string.h>
+#include <sys/mman.h>
+
+#define REQUIRE(holds)                                                   \
+    do {                                                                 \
+        if (!(holds)) {                                                  \
+            fprintf(stderr, "calls.c:%d: not %s\n", __LINE__, #holds);   \
+            abort();                                                     \
+        }                                                                \
+    } while (0)
+
+#define PAGE 4096
+#define TABLE_WORDS 256
+#define VERDICT_BYTES 256
+#define TEXT_BYTES 8192
+
+static const char P[] =
+    "read i0\ni1 := i0\ni2 := 7\ni3 := i1 + i2\n"
+    "if i0 goto 6 else 8\ni0 := i0 - 1\nif i0 goto 4 else 8\nwrite i3\n";
+
+/* What libFuzzer takes for coverage: the library itself has no counters for it. */
+#define FEATURES 4096
+__attribute__((section("__libfuzzer_extra_counters"))) static uint8_t counters[4 * FEATURES];
+
+enum { OF_CALLS, OF_PROGRAMS, OF_CONDITIONS, OF_MARKS };
+
+static void met(int kind, unsigned feature) { counters[kind * FEATURES + feature % FEATURES] = 1; }
+
+/* Each pair of neighbours in a text that is taken. */
+static void met_text(int kind, const uint8_t *text, size_t length) {
+    for (size_t k = 1; k < length; k++) met(kind, 16 + text[k - 1] * 131u + text[k]);
+}
+
+/* Lent memory */
+
+struct region {
+    uint8_t *start, *end, *shadow;
+    size_t size;
+};
+
+static void map(struct region *r, size_t pages) {
+    r->size = pages * PAGE;
+    r->start =
+        mmap(NULL, r->size + PAGE, PROT_READ | PROT_WRITE, MAP_PRIVATE | MAP_ANONYMOUS, -1, 0);
+    REQUIRE(r->start != MAP_FAILED);
+    r->end = r->start + r->size;
+    REQUIRE(mprotect(r->end, PAGE, PROT_NONE) == 0);
+    r->shadow = malloc(r->size);
+    REQUIRE(r->shadow != NULL);
+    for (size_t k = 0; k < r->size; k++) r->start[k] = (uint8_t)(k * 37 + 11);
+}
+
+/* The last bytes of a region, with the whole of it remembered. */
+static uint8_t *lend(struct region *r, size_t bytes) {
+    REQUIRE(bytes <= r->size);
+    memcpy(r->shadow, r->start, r->size);
+    return r->end - bytes;
+}
+
+/* Takes over that the first bytes of what was lent are set. */
+static void set(struct region *r, const uint8_t *lent, size_t bytes) {
+    memcpy(r->shadow + (lent - r->start), lent, bytes);
+}
+
+static void require_kept(const struct region *r) {
+    REQUIRE(memcmp(r->start, r->shadow, r->size) == 0);
+}
+
+struct text {
+    const uint8_t *bytes;
+    size_t length;
+};
+
+static struct text put(struct region *r, const void *bytes, size_t length) {
+    uint8_t *lent = lend(r, length);
+    if (length > 0) memcpy(lent, bytes, length);
+    memcpy(r->shadow, r->start, r->size);
+    return (struct text){lent, length};
+}
+
+static struct region programs, others, conditions, tables, verdict_bytes, new_text;
+
+/* Out-parameters, with a kept word on both sides of each. */
+#define KEPT 0xa5c3e187u
+
+static void keep(uint32_t *places, size_t count) {
+    for (size_t k = 0; k < count; k++) places[k] = KEPT;
+}
+
+static size_t lines_of(struct text text) {
+    size_t count = 0;
+    for (size_t k = 0; k < text.length; k++) count += text.bytes[k] == 10;
+    return count;
+}
+
+/* Runs */
+
+struct run {
+    uint32_t ended, steps, statement, left[32];
+    int32_t value;
+};
+
+static uint8_t run(struct text program, const uint32_t values[32], uint32_t input, uint32_t budget,
+                   struct run *answer) {
+    uint32_t places[7], left[34], given[32];
+    union {
+        uint32_t word;
+        int32_t value;
+    } value;
+    uint8_t number;
+
+    memcpy(given, values, sizeof given);
+    keep(places, 7);
+    keep(left, 34);
+    value.word = KEPT;
+    number = rewrites_run(program.bytes, program.length, values, input, budget, &places[1],
+                          &value.value, &places[3], &places[5], left + 1);
+    REQUIRE(memcmp(given, values, sizeof given) == 0);
+    for (size_t k = 0; k < 7; k += 2) REQUIRE(places[k] == KEPT);
+    REQUIRE(left[0] == KEPT && left[33] == KEPT);
+    if (number != 0 || places[1] == 1)
+        for (size_t k = 1; k < 33; k++) REQUIRE(left[k] == KEPT);
+    if (number != 0) {
+        REQUIRE(places[1] == KEPT && value.word == KEPT && places[3] == KEPT && places[5] == KEPT);
+        return number;
+    }
+    REQUIRE(places[1] <= 1);
+    if (places[1] == 1) {
+        REQUIRE(places[5] == KEPT && places[3] >= 2 && places[3] <= budget);
+    } else {
+        REQUIRE(value.word == KEPT && places[3] == KEPT);
+        REQUIRE(places[5] >= 1 && places[5] <= lines_of(program));
+    }
+    answer->ended = places[1];
+    answer->value = value.value;
+    answer->steps = places[3];
+    answer->statement = places[5];
+    memcpy(answer->left, left + 1, sizeof answer->left);
+    return 0;
+}
+
+/* Whether both runs have ended alike, or stand before one statement. */
+static int agree(const struct run *a, const struct run *b) {
+    if (a->ended != b->ended) return 0;
+    if (a->ended) return a->value == b->value && a->steps == b->steps;
+    return a->statement == b->statement;
+}
+
+static void check_runs(struct text program, const uint32_t values[32], uint32_t input,
+                       uint32_t budget) {
+    struct run before = {0}, after = {0};
+
+    REQUIRE(run(program, values, input, 0, &before) == 0);
+    REQUIRE(!before.ended && before.statement == 1);
+    REQUIRE(memcmp(before.left, values, sizeof before.left) == 0);
+    for (uint32_t b = 1; b <= budget; b++) {
+        REQUIRE(run(program, values, input, b, &after) == 0);
+        if (before.ended) {
+            REQUIRE(agree(&before, &after));
+            break;
+        }
+        REQUIRE(!after.ended || after.steps == b);
+        before = after;
+    }
+    met(OF_CALLS, 64 + before.ended);
+}
+
+/* Programs */
+
+/* Whether a line, without its byte 10, is a statement: it is then one in a program of its own. */
+static int is_statement(struct text line) {
+    static const uint32_t values[32];
+    static uint8_t program[PAGE];
+    struct run answer;
+    size_t length = 8;
+    uint8_t number;
+
+    memcpy(program, "read i0\n", length);
+    if (line.length > 0) memcpy(program + length, line.bytes, line.length);
+    length += line.length;
+    memcpy(program + length, "\nwrite i0\n", 10);
+    number = run(put(&others, program, length + 10), values, 0, 0, &answer);
+    REQUIRE(number == 0 || number == 2 || number == 4 || number == 5);
+    return number != 2;
+}
+
+/* The number by which a program is refused, or 0. */
+static uint8_t check_program(struct text program) {
+    static const uint32_t values[32];
+    struct run answer;
+    uint8_t number = run(program, values, 0, 0, &answer);
+    size_t start = 0, lines = lines_of(program);
+    int spelled = program.length == 0 || program.bytes[program.length - 1] == 10;
+
+    REQUIRE(run(program, values, 0, 1000001, &answer) == 15);
+    REQUIRE(run(program, values, 0, UINT32_MAX, &answer) == 15);
+    REQUIRE(number == 0 || (number >= 2 && number <= 5));
+    for (size_t k = 0; k < program.length && spelled && lines < 300; k++)
+        if (program.bytes[k] == 10) {
+            if (k - start > 40) break;
+            spelled = is_statement((struct text){program.bytes + start, k - start});
+            if (spelled) met_text(OF_PROGRAMS, program.bytes + start, k - start);
+            start = k + 1;
+        }
+    if (!spelled) REQUIRE(number == 2);
+    if (spelled && start == program.length) {
+        REQUIRE(number != 2);
+        REQUIRE((lines < 2 || lines > 256) == (number == 3));
+    }
+    met(OF_CALLS, number);
+    if (number == 0) met(OF_CALLS, 128 + (unsigned)lines);
+    return number;
+}
+
+/* Tables */
+
+struct table {
+    uint32_t parts, satisfied, first;
+    uint64_t words[TABLE_WORDS];
+};
+
+static uint8_t tabulate(struct text program, struct text condition, size_t room,
+                        struct table *answer) {
+    uint32_t places[7];
+    uint64_t *words = (uint64_t *)(void *)lend(&tables, room * sizeof *words);
+    uint8_t number;
+
+    keep(places, 7);
+    number = rewrites_tabulate(program.bytes, program.length, condition.bytes, condition.length,
+                               words, room, &places[1], &places[3], &places[5]);
+    for (size_t k = 0; k < 7; k++) REQUIRE((number == 0 && k % 2 == 1) || places[k] == KEPT);
+    if (number == 0) {
+        REQUIRE(places[1] >= 1 && places[1] <= 64);
+        set(&tables, (uint8_t *)words, 4 * places[1] * sizeof *words);
+        answer->parts = places[1];
+        answer->satisfied = places[3];
+        answer->first = places[5];
+        memcpy(answer->words, words, 4 * places[1] * sizeof *words);
+    }
+    require_kept(&tables);
+    return number;
+}
+
+static int holds(const uint64_t *row, size_t n) { return row[(n - 1) / 64] >> (n - 1) % 64 & 1; }
+
+static uint8_t check_condition(struct text program, struct text condition, uint8_t refused) {
+    static struct table answer, opposite;
+    static uint8_t longer[1025];
+    size_t lines = lines_of(program), count = 0, first = 0;
+    uint8_t number = tabulate(program, condition, TABLE_WORDS, &answer);
+    const uint64_t *row;
+
+    REQUIRE(tabulate(program, condition, TABLE_WORDS - 1, &opposite) == 1);
+    met(OF_CALLS, 16 + number);
+    if (refused != 0) {
+        REQUIRE(number == refused);
+        return number;
+    }
+    REQUIRE((condition.length > 1024) == (number == 6));
+    REQUIRE(number == 0 || (number >= 6 && number <= 8));
+    if (number != 0) return number;
+    met(OF_CALLS, 512 + answer.parts);
+    met_text(OF_CONDITIONS, condition.bytes, condition.length);
+    for (size_t k = 0; k < answer.parts; k++)
+        for (size_t n = lines + 1; n <= 256; n++) REQUIRE(!holds(answer.words + 4 * k, n));
+    row = answer.words + 4 * (answer.parts - 1);
+    for (size_t n = lines; n >= 1; n--)
+        if (holds(row, n)) {
+            count++;
+            first = n;
+        }
+    REQUIRE(answer.satisfied == count && answer.first == first);
+    met(OF_CALLS, 600 + (count == 0) + 2 * (count == lines));
+
+    if (condition.length == 1024) return 0;
+    longer[0] = '!';
+    memcpy(longer + 1, condition.bytes, condition.length);
+    number = tabulate(program, put(&others, longer, condition.length + 1), TABLE_WORDS, &opposite);
+    REQUIRE(number == (answer.parts == 64 ? 8 : 0));
+    if (number == 0) {
+        REQUIRE(opposite.parts == answer.parts + 1);
+        REQUIRE(memcmp(opposite.words, answer.words, 4 * answer.parts * sizeof *row) == 0);
+        for (size_t n = 1; n <= lines; n++)
+            REQUIRE(holds(row, n) != holds(opposite.words + 4 * answer.parts, n));
+        REQUIRE(opposite.satisfied == lines - count);
+    }
+    return 0;
+}
+
+/* Marks */
+
+struct judgement {
+    uint32_t marks, accepted, bytes;
+    uint8_t verdicts[VERDICT_BYTES], text[TEXT_BYTES];
+};
+
+static uint8_t judge(struct text program, struct text marks, size_t verdict_room, size_t text_room,
+                     struct judgement *answer) {
+    uint32_t places[7];
+    uint8_t *verdicts = lend(&verdict_bytes, verdict_room), *text = lend(&new_text, text_room);
+    uint8_t number;
+
+    keep(places, 7);
+    number = rewrites_judge(program.bytes, program.length, marks.bytes, marks.length, verdicts,
+                            verdict_room, text, text_room, &places[1], &places[3], &places[5]);
+    for (size_t k = 0; k < 7; k++) REQUIRE((number == 0 && k % 2 == 1) || places[k] == KEPT);
+    if (number == 0) {
+        REQUIRE(places[1] <= 256 && places[5] <= TEXT_BYTES);
+        set(&verdict_bytes, verdicts, places[1]);
+        set(&new_text, text, places[5]);
+        answer->marks = places[1];
+        answer->accepted = places[3];
+        answer->bytes = places[5];
+        memcpy(answer->verdicts, verdicts, places[1]);
+        memcpy(answer->text, text, places[5]);
+    }
+    require_kept(&verdict_bytes);
+    require_kept(&new_text);
+    return number;
+}
+
+/* Whether the published condition of a mark is true at its statement. The line is one of a list
+   that is taken. */
+static int is_true(struct text program, const char *line, size_t n) {
+    static struct table answer;
+    static char condition[256];
+    char kind[4], variable[4], right[64];
+
+    REQUIRE(sscanf(line, "%*[0-9]: mark(%3[a-z], %3[i0-9], %63[^)])", kind, variable, right) == 3);
+    if (strcmp(kind, "rm") == 0)
+        snprintf(condition, sizeof condition, "!EX E[!def(%s) U use(%s)]", variable, variable);
+    else
+        snprintf(condition, sizeof condition,
+                 "AY A[((!def(%s) & trans(%s)) & !entry) B stmt(%s := %s)]", variable, right,
+                 variable, right);
+    REQUIRE(tabulate(program, put(&others, condition, strlen(condition)), TABLE_WORDS, &answer) ==
+            0);
+    return holds(answer.words + 4 * (answer.parts - 1), n);
+}
+
+static void check_verdicts(struct text program, struct text marks, const struct judgement *answer) {
+    static char line[128];
+    size_t lines = lines_of(program), start = 0, accepted = 0;
+    uint8_t named[257] = {0};
+
+    for (size_t j = 0; j < answer->marks; j++) {
+        size_t end = start, length;
+        unsigned long n;
+        uint8_t verdict = answer->verdicts[j];
+
+        while (marks.bytes[end] != 10) end++;
+        length = end - start;
+        REQUIRE(length < sizeof line);
+        memcpy(line, marks.bytes + start, length);
+        line[length] = 0;
+        start = end + 1;
+        n = strtoul(line, NULL, 10);
+        accepted += verdict == 0;
+        met(OF_MARKS, verdict);
+        if (n < 1 || n > lines) {
+            REQUIRE(verdict == 11);
+        } else if (named[n]) {
+            REQUIRE(verdict == 12);
+        } else {
+            REQUIRE(verdict == 0 || verdict == 13 || verdict == 14);
+            if (verdict != 13 && j < 40) REQUIRE(is_true(program, line, n) == (verdict == 0));
+            if (verdict != 13) met_text(OF_MARKS, (uint8_t *)line, length);
+            named[n] = 1;
+        }
+    }
+    REQUIRE(start == marks.length && accepted == answer->accepted);
+}
+
+static void check_marks(struct text program, struct text marks, uint8_t refused,
+                        const uint32_t values[32], uint32_t input, uint32_t budget) {
+    static struct judgement answer, other;
+    struct run given = {0}, made = {0};
+    struct text rewritten;
+    uint8_t number = judge(program, marks, VERDICT_BYTES, TEXT_BYTES, &answer);
+
+    REQUIRE(judge(program, marks, VERDICT_BYTES - 1, TEXT_BYTES, &other) == 1);
+    REQUIRE(judge(program, marks, VERDICT_BYTES, TEXT_BYTES - 1, &other) == 1);
+    met(OF_CALLS, 32 + number);
+    if (refused != 0) {
+        REQUIRE(number == refused);
+        return;
+    }
+    REQUIRE(number == 0 || number == 9 || number == 10);
+
+    /* No marks give the program back. */
+    REQUIRE(judge(program, (struct text){marks.bytes, 0}, VERDICT_BYTES, TEXT_BYTES, &other) == 0);
+    REQUIRE(other.marks == 0 && other.accepted == 0 && other.bytes == program.length);
+    REQUIRE(memcmp(other.text, program.bytes, program.length) == 0);
+    if (number != 0) return;
+
+    REQUIRE(answer.marks == lines_of(marks));
+    met(OF_CALLS, 700 + answer.marks);
+    check_verdicts(program, marks, &answer);
+    rewritten = put(&others, answer.text, answer.bytes);
+    REQUIRE(lines_of(rewritten) == lines_of(program));
+    if (answer.accepted == 0) REQUIRE(memcmp(answer.text, program.bytes, program.length) == 0);
+    for (uint32_t b = 0; b <= budget; b++) {
+        REQUIRE(run(program, values, input, b, &given) == 0);
+        REQUIRE(run(rewritten, values, input, b, &made) == 0);
+        REQUIRE(agree(&given, &made));
+        if (given.ended) break;
+    }
+}
+
+/* Inputs */
+
+static struct text cut(const uint8_t **rest, size_t *length) {
+    struct text text = {*rest, 0};
+    while (text.length < *length && (*rest)[text.length] != '%') text.length++;
+    *rest += text.length;
+    *length -= text.length;
+    if (*length > 0) {
+        *rest += 1;
+        *length -= 1;
+    }
+    return text;
+}
+
+int LLVMFuzzerInitialize(int *count, char ***arguments) {
+    (void)count;
+    (void)arguments;
+    map(&programs, 16);
+    map(&others, 16);
+    map(&conditions, 16);
+    map(&tables, 2);
+    map(&verdict_bytes, 1);
+    map(&new_text, 3);
+    return 0;
+}
+
+int LLVMFuzzerTestOneInput(const uint8_t *data, size_t size) {
+    static const uint32_t edges[8] = {0, 1, 2, 0x7fffffff, 0x80000000, 0xffffffff, 0xfffffffe, 7};
+    struct text program, condition, marks;
+    uint32_t values[32], input, budget, sum = 0;
+    uint8_t refused;
+
+    if (size > 16 * PAGE) return 0;
+    program = cut(&data, &size);
+    condition = cut(&data, &size);
+    marks = cut(&data, &size);
+    budget = size > 0 ? data[0] % 64 : 12;
+    for (size_t k = 0; k < size; k++) sum = sum * 31 + data[k];
+    for (size_t k = 0; k < 32; k++) {
+        uint32_t bits = (sum + (uint32_t)k) * 2654435761u;
+        values[k] = bits & 1 ? edges[bits >> 29] : bits >> 3;
+    }
+    input = edges[sum % 8];
+
+    program = put(&programs, program.bytes, program.length);
+    refused = check_program(program);
+    if (refused == 0) check_runs(program, values, input, budget);
+    condition = put(&conditions, condition.bytes, condition.length);
+    check_condition(program, condition, refused);
+    if (refused != 0) check_condition(put(&programs, P, strlen(P)), condition, 0);
+    require_kept(&conditions);
+    marks = put(&conditions, marks.bytes, marks.length);
+    if (refused != 0) {
+        check_marks(put(&programs, P, strlen(P)), marks, 0, values, input, budget);
+    } else {
+        check_marks(program, marks, refused, values, input, budget);
+    }
+    require_kept(&programs);
+    require_kept(&conditions);
+    return 0;
+}

@@ -1,0 +1,783 @@
+//! Random cases of each call, through the exports for C. The library's answer and every lent byte
+//! are held to those of the second implementation in `oracle`. A class of cases that was never met
+//! fails the test; with `--nocapture` the counts are printed.
+//!
+//! The same seed gives the same cases. `DIFFERENTIAL_SEED` and `DIFFERENTIAL_CASES` choose another,
+//! and how many cases of each call there are.
+
+mod common;
+mod coverage;
+mod lent;
+
+use common::P;
+use coverage::Tally;
+use lent::{Lent, Text};
+use oracle::condition::{self, Atom, Condition, Demand, Direction, Part, Quantifier};
+use oracle::generate::{self, Damage, Random};
+use oracle::machine::{self, Outcome, Values};
+use oracle::marks::{self, Kind};
+use oracle::program::{Expression, Operand, Operator, Program, Statement};
+use rewrites::{raw, MOST_STEPS, TABLE_WORDS, TEXT_BYTES, VERDICT_BYTES};
+use std::env;
+
+const CASES: u64 = 100_000;
+const SEED: u64 = 1;
+
+fn option(name: &str, otherwise: u64) -> u64 {
+    match env::var(name) {
+        Ok(number) => number.parse().unwrap_or_else(|_| panic!("{name} is no number")),
+        Err(_) => otherwise,
+    }
+}
+
+/// The source of each case of a call, with the case's number.
+fn cases(call: &str) -> impl Iterator<Item = (u64, Random)> {
+    let (count, seed) = (option("DIFFERENTIAL_CASES", CASES), option("DIFFERENTIAL_SEED", SEED));
+    println!("\n{count} cases of {call}, seed {seed}");
+    let start = call
+        .bytes()
+        .fold(Random::new(seed).bits(), |sum, byte| Random::new(sum ^ u64::from(byte)).bits());
+    (0..count).map(move |case| (case, Random::new(start.wrapping_add(case))))
+}
+
+fn escaped(text: &[u8]) -> String {
+    text.escape_ascii().to_string()
+}
+
+// Texts
+
+/// Every 16th case goes through the classes of one kind in turn, so that all are met.
+fn in_turn(case: u64, kind: u64, classes: std::ops::RangeInclusive<usize>) -> Option<usize> {
+    let count = (classes.end() - classes.start() + 1) as u64;
+    (case % 16 == kind).then_some(classes.start() + (case / 16 % count) as usize)
+}
+
+const EACH_SIZE: u64 = 0;
+const EACH_COUNT: u64 = 8;
+
+/// Whether a case has its texts as they were made, and buffers that are large enough. The others
+/// may have them damaged or too small.
+fn is_whole(case: u64) -> bool {
+    case % 8 == 0
+}
+
+fn program(random: &mut Random, case: u64) -> Program {
+    let size = in_turn(case, EACH_SIZE, 2..=256).unwrap_or_else(|| generate::size(random));
+    generate::program(random, size)
+}
+
+/// Damages a text once to three times, often such that it stays well spelled.
+fn damaged(random: &mut Random, text: &mut Vec<u8>, met: &mut Tally<Shown<Damage>>) {
+    for _ in 0..random.pick(&[1, 1, 1, 2, 3]) {
+        let kind = random.pick(&Damage::ALL);
+        generate::damage_by(random, kind, text);
+        met.met(Shown(kind));
+    }
+}
+
+/// A class that is printed as it is spelled in the code.
+#[derive(Clone, Copy, PartialEq, Eq, PartialOrd, Ord)]
+struct Shown<T>(T);
+
+impl<T: std::fmt::Debug> std::fmt::Display for Shown<T> {
+    fn fmt(&self, f: &mut std::fmt::Formatter<'_>) -> std::fmt::Result {
+        write!(f, "{:?}", self.0)
+    }
+}
+
+fn damages(kind: &'static str) -> Tally<Shown<Damage>> {
+    Tally::new(kind, Damage::ALL.map(Shown))
+}
+
+/// A length for a buffer that must have `least`, often at an edge.
+fn room(random: &mut Random, least: usize) -> usize {
+    match random.below(40) {
+        0 => 0,
+        1 => random.pick(&[1, 4, least / 2]),
+        2 => least - 1,
+        3..=20 => least,
+        21 => random.below(least),
+        22..=24 => least + 1,
+        25 => least * 2,
+        _ => least + random.below(64),
+    }
+}
+
+/// The lengths of a buffer that must have `least`, which are to be met.
+fn rooms(kind: &'static str, least: usize) -> Tally<usize> {
+    Tally::new(kind, [0, 1, least / 2, least - 1, least, least + 1, least * 2])
+}
+
+// Runs
+
+/// The places that a run may set, with kept words between them.
+const ENDED: usize = 0;
+const VALUE: usize = 2;
+const STEPS: usize = 4;
+const STATEMENT: usize = 6;
+const LEFT: usize = 8;
+const RUN_WORDS: usize = LEFT + 32;
+
+fn lend_run(
+    program: &[u8],
+    values: &Values,
+    input: u32,
+    budget: u32,
+    places: &mut Lent<u32>,
+) -> u8 {
+    let places = places.part();
+    assert_eq!(places.len(), RUN_WORDS);
+    let first = places.as_mut_ptr();
+    // SAFETY: the pointers come from references, and no two of the written places overlap.
+    unsafe {
+        raw::rewrites_run(
+            program.as_ptr(),
+            program.len(),
+            values,
+            input,
+            budget,
+            first.add(ENDED),
+            first.add(VALUE).cast(),
+            first.add(STEPS),
+            first.add(STATEMENT),
+            first.add(LEFT).cast(),
+        )
+    }
+}
+
+/// Puts an outcome where a run does.
+fn put_outcome(places: &mut Lent<u32>, outcome: Outcome) {
+    let places = places.part();
+    match outcome {
+        Outcome::Ended { value, steps } => {
+            places[ENDED] = 1;
+            places[VALUE] = value as u32;
+            places[STEPS] = steps;
+        }
+        Outcome::Spent { statement, values } => {
+            places[ENDED] = 0;
+            places[STATEMENT] = statement;
+            places[LEFT..LEFT + 32].copy_from_slice(&values);
+        }
+    }
+}
+
+/// Holds a run to the oracle's, and tells its answer.
+fn run_agrees(
+    random: &mut Random,
+    case: &str,
+    text: &[u8],
+    input: u32,
+    budget: u32,
+) -> Result<Outcome, u8> {
+    let values = generate::values(random);
+    let (mut program, kept) = (Text::new(random, text), values);
+    let mut places = Lent::new(random, RUN_WORDS, |bits| bits as u32);
+    let mut expected = places.clone();
+    let wanted = machine::run(text, values, input, budget);
+    if let Ok(outcome) = wanted {
+        put_outcome(&mut expected, outcome);
+    }
+    let shown = || {
+        let text = escaped(text);
+        format!("case {case}: values {values:?} input {input} budget {budget} program {text}")
+    };
+    let number = lend_run(program.part(), &values, input, budget, &mut places);
+    assert_eq!(number, wanted.err().unwrap_or(0), "number of {}", shown());
+    places.assert_same(&expected, "places", shown);
+    program.assert_kept("program", shown);
+    assert_eq!(values, kept, "{}", shown());
+    wanted
+}
+
+/// The operator of an assignment of a program, and the kinds of its statements.
+fn statement_kind(statement: &Statement) -> &'static str {
+    match statement {
+        Statement::Read(_) => "read",
+        Statement::Write(_) => "write",
+        Statement::Skip => "skip",
+        Statement::Branch { then, other, .. } if then == other => "if with one target",
+        Statement::Branch { .. } => "if",
+        Statement::Assign(_, Expression::Single(Operand::Variable(_))) => "copy",
+        Statement::Assign(_, Expression::Single(Operand::Constant(_))) => "constant",
+        Statement::Assign(_, Expression::Pair(_, operator, _)) => match operator {
+            Operator::Plus => "+",
+            Operator::Minus => "-",
+            Operator::Times => "*",
+            Operator::Less => "<",
+            Operator::Equal => "=",
+        },
+    }
+}
+
+#[rustfmt::skip]
+const STATEMENT_KINDS: [&str; 12] = [
+    "read", "write", "skip", "if", "if with one target", "copy", "constant", "+", "-", "*", "<", "=",
+];
+
+#[test]
+fn runs_are_as_by_the_oracle() {
+    let mut refusals = Tally::new("refusals of run", [15, 2, 3, 4, 5]);
+    let mut outcomes = Tally::new("outcomes of run", ["ended", "spent"]);
+    let mut values = Tally::new("values", [i32::MIN, -1, 0, 1, i32::MAX]);
+    let mut sizes = Tally::new("sizes of programs run", 2..=256);
+    let mut kinds = Tally::new("statements of programs run", STATEMENT_KINDS);
+    let edges = [0, 1, 2, MOST_STEPS - 1, MOST_STEPS, MOST_STEPS + 1, 1 << 31, u32::MAX];
+    let mut budgets = Tally::new("budgets", edges);
+    let mut damages = damages("damages of programs run");
+    for (case, mut random) in cases("run") {
+        let random = &mut random;
+        let program = program(random, case);
+        let mut text = program.text();
+        if !is_whole(case) {
+            match random.below(20) {
+                0 => text = generate::statement_soup(random),
+                1..=6 => damaged(random, &mut text, &mut damages),
+                _ => {}
+            }
+        }
+        let budget = match random.below(200) {
+            0 => random.pick(&edges),
+            _ => generate::budget(random),
+        };
+        let input = generate::word(random);
+        let answer = run_agrees(random, &case.to_string(), &text, input, budget);
+        budgets.met(budget);
+        match answer {
+            Err(number) => refusals.met(number),
+            Ok(outcome) => {
+                match outcome {
+                    Outcome::Ended { value, .. } => {
+                        outcomes.met("ended");
+                        values.met(value);
+                    }
+                    Outcome::Spent { .. } => outcomes.met("spent"),
+                }
+                let program = Program::read(&text).expect("a program that was run is taken");
+                sizes.met(program.count());
+                program.statements().iter().for_each(|s| kinds.met(statement_kind(s)));
+            }
+        }
+    }
+    refusals.report();
+    outcomes.report();
+    values.report();
+    sizes.report();
+    kinds.report();
+    budgets.report();
+    damages.report();
+}
+
+// Tables
+
+/// The places that a tabulation sets, with kept words between them.
+const PARTS: usize = 0;
+const SATISFIED: usize = 2;
+const FIRST: usize = 4;
+const TABLE_PLACES: usize = 5;
+
+/// Holds a tabulation to the oracle's, and tells its answer.
+fn table_agrees(
+    random: &mut Random,
+    case: &str,
+    program: &[u8],
+    condition: &[u8],
+    room: usize,
+) -> Result<(u32, u32, u32), u8> {
+    let (mut given, mut asked) = (Text::new(random, program), Text::new(random, condition));
+    let mut table = Lent::new(random, room, |bits| bits);
+    let mut places = Lent::new(random, TABLE_PLACES, |bits| bits as u32);
+    let (mut expected, mut expected_places) = (table.clone(), places.clone());
+    let wanted = condition::tabulate(program, condition, expected.part());
+    if let Ok((parts, satisfied, first)) = wanted {
+        let places = expected_places.part();
+        places[PARTS] = parts;
+        places[SATISFIED] = satisfied;
+        places[FIRST] = first;
+    }
+    let shown = || {
+        let (program, condition) = (escaped(program), escaped(condition));
+        format!("case {case}: table of {room} words program {program} condition {condition}")
+    };
+    let (program, condition) = (given.part(), asked.part());
+    let (words, set) = (table.part(), places.part());
+    // SAFETY: the pointers come from references, and no two of the written places overlap.
+    let number = unsafe {
+        raw::rewrites_tabulate(
+            program.as_ptr(),
+            program.len(),
+            condition.as_ptr(),
+            condition.len(),
+            words.as_mut_ptr(),
+            words.len(),
+            set.as_mut_ptr().add(PARTS),
+            set.as_mut_ptr().add(SATISFIED),
+            set.as_mut_ptr().add(FIRST),
+        )
+    };
+    assert_eq!(number, wanted.err().unwrap_or(0), "number of {}", shown());
+    table.assert_same(&expected, "table", shown);
+    places.assert_same(&expected_places, "places", shown);
+    given.assert_kept("program", shown);
+    asked.assert_kept("condition", shown);
+    wanted
+}
+
+/// The operator or the atom that a part is.
+fn part_kind(part: &Part) -> &'static str {
+    let (quantifier, direction, letters) = match part {
+        Part::Atom(atom) => {
+            return match atom {
+                Atom::True => "true",
+                Atom::False => "false",
+                Atom::Entry => "entry",
+                Atom::Exit => "exit",
+                Atom::Node(_) => "node",
+                Atom::Stmt(_) => "stmt",
+                Atom::Def(_) => "def",
+                Atom::Use(_) => "use",
+                Atom::Trans(_) => "trans",
+            }
+        }
+        Part::Not(_) => return "!",
+        Part::And(..) => return "&",
+        Part::Or(..) => return "|",
+        Part::Next(quantifier, direction, _) => (quantifier, direction, ["EX", "AX", "EY", "AY"]),
+        Part::Path(quantifier, direction, demand) => {
+            let letters = match demand {
+                Demand::Finally(_) => ["EF", "AF", "ER", "AR"],
+                Demand::Globally(_) => ["EG", "AG", "EM", "AM"],
+                Demand::Until(..) => ["EU", "AU", "ES", "AS"],
+                Demand::Weak(..) => ["EW", "AW", "EB", "AB"],
+            };
+            (quantifier, direction, letters)
+        }
+    };
+    let back = if *direction == Direction::Backward { 2 } else { 0 };
+    letters[back + usize::from(*quantifier == Quantifier::All)]
+}
+
+#[rustfmt::skip]
+const PART_KINDS: [&str; 32] = [
+    "true", "false", "entry", "exit", "node", "stmt", "def", "use", "trans", "!", "&", "|",
+    "EX", "AX", "EF", "AF", "EG", "AG", "EU", "AU", "EW", "AW",
+    "EY", "AY", "ER", "AR", "EM", "AM", "ES", "AS", "EB", "AB",
+];
+
+/// A condition over a program, of 1 to 64 parts in most cases.
+fn condition_text(random: &mut Random, program: &Program) -> Vec<u8> {
+    match random.below(40) {
+        0 => generate::condition_soup(random),
+        1 => generate::nested_condition(random),
+        2 => {
+            let parts = random.pick(&[63, 64, 65, 66]);
+            generate::condition(random, program, parts)
+        }
+        3 => {
+            let parts = random.between(65, 150);
+            generate::condition(random, program, parts)
+        }
+        4 => {
+            let length = random.pick(&[1_022, 1_023, 1_024, 1_025, 1_026]);
+            generate::condition_of_length(random, program, length)
+        }
+        _ => {
+            let parts = random.between(1, 64);
+            generate::condition(random, program, parts)
+        }
+    }
+}
+
+#[test]
+fn tables_are_as_by_the_oracle() {
+    let mut refusals = Tally::new("refusals of tabulate", 1..=8);
+    let mut sizes = Tally::new("sizes of programs tabulated", 2..=256);
+    let mut counts = Tally::new("parts of a condition", 1..=64);
+    let mut kinds = Tally::new("parts tabulated", PART_KINDS);
+    let mut taken = Tally::new("bytes of a condition taken", [4, 1_022, 1_023, 1_024]);
+    let mut rooms = rooms("words of a table", TABLE_WORDS);
+    let mut satisfied = Tally::new("satisfied", ["none", "some", "all"]);
+    let mut of_programs = damages("damages of programs tabulated");
+    let mut of_conditions = damages("damages of conditions");
+    for (case, mut random) in cases("tabulate") {
+        let random = &mut random;
+        let program = program(random, case);
+        let mut text = program.text();
+        let mut condition = if is_whole(case) {
+            let parts = in_turn(case, EACH_COUNT, 1..=64).unwrap_or(random.between(1, 64));
+            generate::condition(random, &program, parts)
+        } else {
+            condition_text(random, &program)
+        };
+        let mut words = TABLE_WORDS + random.below(3);
+        if !is_whole(case) {
+            match random.below(40) {
+                0..=3 => damaged(random, &mut text, &mut of_programs),
+                4 => text = generate::statement_soup(random),
+                _ => {}
+            }
+            if random.below(5) == 0 {
+                damaged(random, &mut condition, &mut of_conditions);
+            }
+            words = room(random, TABLE_WORDS);
+        }
+        rooms.met(words);
+        match table_agrees(random, &case.to_string(), &text, &condition, words) {
+            Err(number) => refusals.met(number),
+            Ok((parts, count, _)) => {
+                let program = Program::read(&text).expect("a program that was tabulated is taken");
+                let asked = Condition::read(&condition).expect("its condition is taken");
+                sizes.met(program.count());
+                counts.met(parts);
+                taken.met(condition.len());
+                asked.parts().iter().for_each(|part| kinds.met(part_kind(part)));
+                satisfied.met(match count {
+                    0 => "none",
+                    _ if count == program.count() => "all",
+                    _ => "some",
+                });
+            }
+        }
+    }
+    refusals.report();
+    sizes.report();
+    counts.report();
+    kinds.report();
+    taken.report();
+    rooms.report();
+    satisfied.report();
+    of_programs.report();
+    of_conditions.report();
+}
+
+// Judgements
+
+/// The places that a judgement sets, with kept words between them.
+const MARK_COUNT: usize = 0;
+const ACCEPTED: usize = 2;
+const BYTES: usize = 4;
+const JUDGE_PLACES: usize = 5;
+
+/// What a finished judgement leaves.
+struct Judged {
+    verdicts: Vec<u8>,
+    text: Vec<u8>,
+}
+
+/// Holds a judgement to the oracle's, and tells what it leaves.
+fn judgement_agrees(
+    random: &mut Random,
+    case: &str,
+    program: &[u8],
+    list: &[u8],
+    rooms: (usize, usize),
+) -> Result<Judged, u8> {
+    let (mut given, mut asked) = (Text::new(random, program), Text::new(random, list));
+    let mut verdicts = Lent::new(random, rooms.0, |bits| bits as u8);
+    let mut text = Lent::new(random, rooms.1, |bits| bits as u8);
+    let mut places = Lent::new(random, JUDGE_PLACES, |bits| bits as u32);
+    let (mut expected_verdicts, mut expected_text) = (verdicts.clone(), text.clone());
+    let mut expected_places = places.clone();
+    let wanted = marks::judge(program, list, expected_verdicts.part(), expected_text.part());
+    if let Ok((count, accepted, bytes)) = wanted {
+        let places = expected_places.part();
+        places[MARK_COUNT] = count;
+        places[ACCEPTED] = accepted;
+        places[BYTES] = bytes;
+    }
+    let shown = || {
+        let (program, list) = (escaped(program), escaped(list));
+        format!("case {case}: rooms {rooms:?} program {program} marks {list}")
+    };
+    let (program, list) = (given.part(), asked.part());
+    let (bytes, new, set) = (verdicts.part(), text.part(), places.part());
+    // SAFETY: the pointers come from references, and no two of the written places overlap.
+    let number = unsafe {
+        raw::rewrites_judge(
+            program.as_ptr(),
+            program.len(),
+            list.as_ptr(),
+            list.len(),
+            bytes.as_mut_ptr(),
+            bytes.len(),
+            new.as_mut_ptr(),
+            new.len(),
+            set.as_mut_ptr().add(MARK_COUNT),
+            set.as_mut_ptr().add(ACCEPTED),
+            set.as_mut_ptr().add(BYTES),
+        )
+    };
+    assert_eq!(number, wanted.err().unwrap_or(0), "number of {}", shown());
+    verdicts.assert_same(&expected_verdicts, "verdicts", shown);
+    text.assert_same(&expected_text, "new text", shown);
+    places.assert_same(&expected_places, "places", shown);
+    given.assert_kept("program", shown);
+    asked.assert_kept("marks", shown);
+    wanted.map(|(count, _, bytes)| Judged {
+        verdicts: verdicts.part()[..count as usize].to_vec(),
+        text: text.part()[..bytes as usize].to_vec(),
+    })
+}
+
+/// What a run tells that a rewriting must keep: its value and steps, or its statement.
+#[derive(Debug, PartialEq)]
+enum Stand {
+    Ended(u32, u32),
+    Before(u32),
+}
+
+fn stand(
+    program: &[u8],
+    values: &Values,
+    input: u32,
+    budget: u32,
+    places: &mut Lent<u32>,
+) -> Stand {
+    let number = lend_run(program, values, input, budget, places);
+    assert_eq!(number, 0, "refused: {}", escaped(program));
+    let places = places.part();
+    match places[ENDED] {
+        1 => Stand::Ended(places[VALUE], places[STEPS]),
+        _ => Stand::Before(places[STATEMENT]),
+    }
+}
+
+/// Runs the given and the rewritten program by growing budgets, step by step first, until both have
+/// ended.
+fn runs_stay(random: &mut Random, case: &str, given: &[u8], new: &[u8], runs: &mut Tally<&str>) {
+    let mut places = Lent::new(random, RUN_WORDS, |bits| bits as u32);
+    let by_steps = if given.len() < 1_000 { 30 } else { 6 };
+    let starts = if given.len() < 1_000 { 2 } else { 1 };
+    for _ in 0..starts {
+        let (values, input) = (generate::values(random), generate::word(random));
+        let further = random.between(by_steps as usize, 400) as u32;
+        let far = random.pick(&[2_000, 2_000, 2_000, 20_000]);
+        let budgets = (0..by_steps).chain(further..further + 6).chain([far]);
+        for budget in budgets {
+            let one = stand(given, &values, input, budget, &mut places);
+            let other = stand(new, &values, input, budget, &mut places);
+            assert_eq!(
+                one,
+                other,
+                "case {case}: values {values:?} input {input} budget {budget} given {} new {}",
+                escaped(given),
+                escaped(new)
+            );
+            runs.met("budgets");
+            if let Stand::Ended(..) = one {
+                runs.met("ended");
+                break;
+            }
+            if budget == far {
+                runs.met("spent");
+            }
+        }
+    }
+}
+
+/// What an accepted mark does to its statement.
+fn mark_kind(kind: Kind, statement: &Statement) -> &'static str {
+    match (kind, statement) {
+        (Kind::Remove(_), _) => "rm",
+        (Kind::Replace(_), Statement::Branch { .. }) => "rpl in if",
+        (Kind::Replace(_), Statement::Write(_)) => "rpl in write",
+        (Kind::Replace(Operand::Variable(_)), _) => "rpl by a variable in an assignment",
+        (Kind::Replace(Operand::Constant(_)), _) => "rpl by a constant in an assignment",
+    }
+}
+
+#[rustfmt::skip]
+const MARK_KINDS: [&str; 5] = [
+    "rm", "rpl in if", "rpl in write", "rpl by a variable in an assignment",
+    "rpl by a constant in an assignment",
+];
+
+#[test]
+fn judgements_are_as_by_the_oracle_and_keep_runs() {
+    let mut refusals = Tally::new("refusals of judge", [1, 2, 3, 4, 5, 9, 10]);
+    let mut verdicts = Tally::new("verdicts", [0, 11, 12, 13, 14]);
+    let mut accepted = Tally::new("marks accepted", MARK_KINDS);
+    let mut sizes = Tally::new("sizes of programs judged", 2..=256);
+    let mut counts = Tally::new("marks of a list", 0..=256);
+    let mut lists = Tally::new("lists accepted", ["not at all", "in part", "whole"]);
+    let mut verdict_rooms = rooms("bytes of verdicts", VERDICT_BYTES);
+    let mut text_rooms = rooms("bytes of new text", TEXT_BYTES);
+    let mut of_programs = damages("damages of programs judged");
+    let mut of_lists = damages("damages of marks");
+    let mut runs = Tally::new("runs of both programs", ["budgets", "ended", "spent"]);
+    for (case, mut random) in cases("judge") {
+        let random = &mut random;
+        let program = program(random, case);
+        let mut text = program.text();
+        let count = in_turn(case, EACH_COUNT, 0..=256).unwrap_or(match random.below(30) {
+            0 => random.between(250, 258),
+            _ => random.below(program.count() as usize + 4).min(40),
+        });
+        let mut list = marks::text(&generate::marks(random, &program, count));
+        let mut rooms = (VERDICT_BYTES, TEXT_BYTES);
+        if !is_whole(case) {
+            match random.below(40) {
+                0..=3 => damaged(random, &mut text, &mut of_programs),
+                4 => text = generate::statement_soup(random),
+                _ => {}
+            }
+            match random.below(20) {
+                0..=2 => damaged(random, &mut list, &mut of_lists),
+                3 => list = generate::mark_soup(random),
+                _ => {}
+            }
+            match random.below(20) {
+                0 => rooms.0 = room(random, VERDICT_BYTES),
+                1 => rooms.1 = room(random, TEXT_BYTES),
+                2 => rooms = (room(random, VERDICT_BYTES), room(random, TEXT_BYTES)),
+                _ => {}
+            }
+        }
+        verdict_rooms.met(rooms.0);
+        text_rooms.met(rooms.1);
+        match judgement_agrees(random, &case.to_string(), &text, &list, rooms) {
+            Err(number) => refusals.met(number),
+            Ok(judged) => {
+                let program = Program::read(&text).expect("a program that was judged is taken");
+                let list = marks::read(&list).expect("its marks are taken");
+                sizes.met(program.count());
+                counts.met(list.len());
+                for (mark, &verdict) in list.iter().zip(&judged.verdicts) {
+                    verdicts.met(verdict);
+                    if verdict == 0 {
+                        let statement = program.statement(mark.number).expect("it has a statement");
+                        accepted.met(mark_kind(mark.kind, statement));
+                    }
+                }
+                let made = judged.verdicts.iter().filter(|&&verdict| verdict == 0).count();
+                lists.met(match made {
+                    0 => "not at all",
+                    _ if made == list.len() => "whole",
+                    _ => "in part",
+                });
+                if made > 0 {
+                    runs_stay(random, &case.to_string(), &text, &judged.text, &mut runs);
+                }
+            }
+        }
+    }
+    refusals.report();
+    verdicts.report();
+    accepted.report();
+    sizes.report();
+    counts.report();
+    lists.report();
+    verdict_rooms.report();
+    text_rooms.report();
+    of_programs.report();
+    of_lists.report();
+    runs.report();
+}
+
+// Whole ranges of cases
+
+#[test]
+fn runs_under_each_small_budget_are_as_by_the_oracle() {
+    let random = &mut Random::new(1);
+    let programs = [
+        P,
+        "read i0\nif i0 goto 2 else 2\nwrite i0\n",
+        "read i0\nskip\nif i1 goto 2 else 2\nwrite i0\n",
+        "read i0\ni1 := i1 * 3\ni0 := i0 - i1\nif i9 goto 2 else 5\nwrite i0\n",
+        // Fibonacci's numbers, past 32 bits.
+        "read i0\ni1 := i2 + i3\ni2 := i3\ni3 := i1\nif i0 goto 2 else 6\nwrite i1\n",
+    ];
+    for program in programs {
+        for input in 0..10 {
+            for budget in 0..60 {
+                let answer = run_agrees(random, program, program.as_bytes(), input, budget);
+                assert!(answer.is_ok());
+            }
+        }
+    }
+}
+
+#[test]
+fn every_operator_over_atoms_of_p_is_as_by_the_oracle() {
+    let random = &mut Random::new(1);
+    let atoms = ["true", "false", "entry", "exit", "node(4)", "def(i0)", "use(i0)", "trans(i1)"];
+    let mut agrees = |condition: String| {
+        let text = condition.as_bytes();
+        assert!(table_agrees(random, &condition, P.as_bytes(), text, TABLE_WORDS).is_ok());
+    };
+    for p in atoms {
+        for operator in ["X", "F", "G", "Y", "R", "M"] {
+            agrees(format!("E{operator} {p}"));
+            agrees(format!("A{operator} {p}"));
+        }
+        for q in atoms {
+            for operator in ["U", "W", "S", "B"] {
+                agrees(format!("E[{p} {operator} !{q}]"));
+                agrees(format!("A[{p} {operator} !{q}]"));
+            }
+        }
+    }
+}
+
+/// A text with each byte dropped, replaced by each other byte, and each byte put in at each place.
+fn edits(text: &[u8]) -> impl Iterator<Item = Vec<u8>> + '_ {
+    (0..=text.len()).flat_map(move |at| {
+        let removals = if at < text.len() { 0..2 } else { 0..1 };
+        removals.flat_map(move |removed| {
+            let pieces = (0..=255).map(Some).chain((removed == 1).then_some(None));
+            pieces.map(move |byte: Option<u8>| {
+                let (before, after) = (&text[..at], &text[at + removed..]);
+                before.iter().copied().chain(byte).chain(after.iter().copied()).collect()
+            })
+        })
+    })
+}
+
+/// A program with a statement of each kind.
+const EACH_KIND: &[u8] = b"read i0\ni1 := i0\ni2 := i1 + 7\nif i2 goto 5 else 6\nskip\nwrite i2\n";
+
+#[test]
+fn programs_edited_by_one_byte_are_as_by_the_oracle() {
+    let random = &mut Random::new(2);
+    let mut numbers = Tally::new("answers to edited programs", [0, 2, 5]);
+    for text in edits(EACH_KIND) {
+        numbers.met(run_agrees(random, "edit", &text, 5, 20).err().unwrap_or(0));
+    }
+    numbers.report();
+}
+
+#[test]
+fn conditions_edited_by_one_byte_are_as_by_the_oracle() {
+    let random = &mut Random::new(3);
+    let mut numbers = Tally::new("answers to edited conditions", [0, 7]);
+    let conditions: [&[u8]; 3] = [
+        b"AY A[((!def(i2) & trans(7)) & !entry) B stmt(i2 := 7)]",
+        b"E[EX exit S (node(4) | AM !stmt(if i0 goto 6 else 8))]",
+        b"!A[EF use(i3) W (false | true)]",
+    ];
+    for condition in conditions {
+        for text in edits(condition) {
+            let answer = table_agrees(random, "edit", P.as_bytes(), &text, TABLE_WORDS);
+            numbers.met(answer.err().unwrap_or(0));
+        }
+    }
+    numbers.report();
+}
+
+#[test]
+fn marks_edited_by_one_byte_are_as_by_the_oracle() {
+    let random = &mut Random::new(4);
+    let mut numbers = Tally::new("answers to edited marks", [0, 9]);
+    let mut verdicts = Tally::new("verdicts of edited marks", [0, 11, 12, 13, 14]);
+    let list = b"4: mark(rpl, i2, 7)\n3: mark(rm, i2, 7)\n4: mark(rm, i3, i1 + i2)\n";
+    let rooms = (VERDICT_BYTES, TEXT_BYTES);
+    for text in edits(list) {
+        let answer = judgement_agrees(random, "edit", P.as_bytes(), &text, rooms);
+        numbers.met(answer.as_ref().err().copied().unwrap_or(0));
+        if let Ok(judged) = answer {
+            judged.verdicts.iter().for_each(|&verdict| verdicts.met(verdict));
+        }
+    }
+    numbers.report();
+    verdicts.report();
+}

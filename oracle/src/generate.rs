@@ -1,0 +1,711 @@
+//! Random cases, the same for the same seed.
+
+use crate::condition::LONGEST_TEXT;
+use crate::machine::{Values, LARGEST_BUDGET};
+use crate::marks::{Judge, Kind, Mark};
+use crate::program::{
+    Expression, Operand, Operator, Program, Statement, LARGEST, MOST_LINES, VARIABLES,
+};
+
+/// A source of random numbers (splitmix64).
+#[derive(Clone, Debug)]
+pub struct Random {
+    state: u64,
+}
+
+impl Random {
+    pub fn new(seed: u64) -> Random {
+        Random { state: seed }
+    }
+
+    /// 64 random bits.
+    pub fn bits(&mut self) -> u64 {
+        self.state = self.state.wrapping_add(0x9E37_79B9_7F4A_7C15);
+        let mut z = self.state;
+        z = (z ^ (z >> 30)).wrapping_mul(0xBF58_476D_1CE4_E5B9);
+        z = (z ^ (z >> 27)).wrapping_mul(0x94D0_49BB_1331_11EB);
+        z ^ (z >> 31)
+    }
+
+    /// A number from 0 to `bound` - 1.
+    pub fn below(&mut self, bound: usize) -> usize {
+        (self.bits() % bound as u64) as usize
+    }
+
+    /// A number from `low` to `high`, both included.
+    pub fn between(&mut self, low: usize, high: usize) -> usize {
+        low + self.below(high - low + 1)
+    }
+
+    pub fn chance(&mut self, percent: usize) -> bool {
+        self.below(100) < percent
+    }
+
+    pub fn pick<T: Copy>(&mut self, items: &[T]) -> T {
+        items[self.below(items.len())]
+    }
+
+    pub fn shuffle<T>(&mut self, items: &mut [T]) {
+        for last in (1..items.len()).rev() {
+            let other = self.below(last + 1);
+            items.swap(last, other);
+        }
+    }
+}
+
+/// A 32-bit word, often one at an end of its range or near 0.
+pub fn word(random: &mut Random) -> u32 {
+    match random.below(8) {
+        0 => 0,
+        1 => 1,
+        2 | 3 => random.below(12) as u32,
+        4 => random.pick(&[u32::MAX, LARGEST, LARGEST + 1, LARGEST - 1, u32::MAX - 1]),
+        _ => random.bits() as u32,
+    }
+}
+
+pub fn values(random: &mut Random) -> Values {
+    let mut values = [0; 32];
+    values.iter_mut().for_each(|value| *value = word(random));
+    values
+}
+
+/// A budget, mostly small, rarely at or over the largest.
+pub fn budget(random: &mut Random) -> u32 {
+    match random.below(1_000) {
+        0 => LARGEST_BUDGET,
+        1..=20 => LARGEST_BUDGET + 1 + word(random) % 1_000,
+        21..=25 => u32::MAX - random.below(3) as u32,
+        26..=100 => 0,
+        101..=900 => random.below(60) as u32,
+        _ => random.below(2_000) as u32,
+    }
+}
+
+/// A number of statements, mostly small, in 2 of 100 cases a hundred and more.
+pub fn size(random: &mut Random) -> usize {
+    match random.below(100) {
+        0 => MOST_LINES,
+        1 => random.between(100, MOST_LINES),
+        2..=20 => random.between(16, 40),
+        21..=30 => random.between(2, 4),
+        _ => random.between(4, 16),
+    }
+}
+
+/// What the statements of one program are made of.
+struct Style {
+    variables: Vec<u8>,
+    constants: Vec<u32>,
+    /// The percentage of branches, and how far their targets lie at most.
+    branches: usize,
+    reach: usize,
+}
+
+impl Style {
+    fn new(random: &mut Random) -> Style {
+        let mut variables: Vec<u8> = (0..VARIABLES).collect();
+        if random.chance(70) {
+            variables.truncate(8);
+        }
+        random.shuffle(&mut variables);
+        variables.truncate(random.between(1, 6));
+        let constants = (0..random.between(1, 3)).map(|_| constant(random)).collect();
+        let branches = random.pick(&[0, 4, 10, 20, 45, 90]);
+        let reach = random.pick(&[3, 10, MOST_LINES]);
+        Style { variables, constants, branches, reach }
+    }
+
+    fn variable(&self, random: &mut Random) -> u8 {
+        random.pick(&self.variables)
+    }
+
+    fn operand(&self, random: &mut Random) -> Operand {
+        if random.chance(70) {
+            Operand::Variable(self.variable(random))
+        } else {
+            Operand::Constant(random.pick(&self.constants))
+        }
+    }
+
+    /// A branch that stands at statement `at` of `size`.
+    fn branch(&self, random: &mut Random, at: usize, size: usize) -> Statement {
+        let ahead = random.between(at + 1, at + self.reach).min(size);
+        let behind = at.saturating_sub(random.below(self.reach)).max(2);
+        let anywhere = random.between(2, size);
+        let (then, other) = match random.below(10) {
+            0 | 1 => (ahead, at + 1),
+            2 => (at + 1, ahead),
+            3 | 4 => (behind, at + 1),
+            5 => (at + 1, behind),
+            6 => (ahead, behind),
+            7 => (ahead, ahead),
+            8 => (anywhere, random.between(2, size)),
+            _ => (anywhere, anywhere),
+        };
+        Statement::Branch { tested: self.variable(random), then: then as u32, other: other as u32 }
+    }
+
+    /// Copies of variables and constants, then uses of what was copied.
+    fn copies(&self, random: &mut Random, lines: &mut Vec<Statement>) {
+        let copied: Vec<u8> = (0..random.between(1, 3)).map(|_| self.variable(random)).collect();
+        for &x in &copied {
+            lines.push(Statement::Assign(x, Expression::Single(self.operand(random))));
+        }
+        for _ in 0..random.between(0, 3) {
+            let used = Operand::Variable(random.pick(&copied));
+            let other = if random.chance(20) { used } else { self.operand(random) };
+            let right = match random.below(4) {
+                0 => Expression::Single(used),
+                1 => Expression::Pair(other, operator(random), used),
+                _ => Expression::Pair(used, operator(random), other),
+            };
+            lines.push(Statement::Assign(self.variable(random), right));
+        }
+    }
+}
+
+fn constant(random: &mut Random) -> u32 {
+    match random.below(8) {
+        0 => 0,
+        1 | 2 => 1,
+        3 => LARGEST,
+        4 => random.bits() as u32 & LARGEST,
+        _ => random.below(20) as u32,
+    }
+}
+
+fn operator(random: &mut Random) -> Operator {
+    random.pick(&[
+        Operator::Plus,
+        Operator::Minus,
+        Operator::Times,
+        Operator::Less,
+        Operator::Equal,
+    ])
+}
+
+/// Any expression over all variables.
+fn expression(random: &mut Random) -> Expression {
+    let mut operand = || {
+        if random.chance(60) {
+            Operand::Variable(random.below(usize::from(VARIABLES)) as u8)
+        } else {
+            Operand::Constant(constant(random))
+        }
+    };
+    let (a, b) = (operand(), operand());
+    if random.chance(50) {
+        Expression::Single(a)
+    } else {
+        Expression::Pair(a, operator(random), b)
+    }
+}
+
+/// A program of 2 to 256 statements with loops, copies, dead assignments and unreachable statements.
+pub fn program(random: &mut Random, size: usize) -> Program {
+    let style = Style::new(random);
+    let mut lines = vec![Statement::Read(style.variable(random))];
+    while lines.len() + 1 < size {
+        let at = lines.len() + 1;
+        if random.chance(style.branches) {
+            lines.push(style.branch(random, at, size));
+            continue;
+        }
+        match random.below(10) {
+            0 => lines.push(Statement::Skip),
+            // A loop that counts down.
+            1 if style.branches > 0 && at + 2 < size => {
+                let x = style.variable(random);
+                let less =
+                    Expression::Pair(Operand::Variable(x), Operator::Minus, Operand::Constant(1));
+                let behind = at.saturating_sub(random.below(style.reach.min(8))).max(2);
+                lines.push(Statement::Assign(x, less));
+                lines.push(Statement::Branch {
+                    tested: x,
+                    then: behind as u32,
+                    other: at as u32 + 2,
+                });
+            }
+            // An assignment that the next one makes useless.
+            2 => {
+                let x = style.variable(random);
+                lines.push(Statement::Assign(x, expression(random)));
+                lines.push(Statement::Assign(x, Expression::Single(style.operand(random))));
+            }
+            // An assignment to a variable that is hardly used.
+            3 => lines.push(Statement::Assign(
+                random.below(usize::from(VARIABLES)) as u8,
+                expression(random),
+            )),
+            4 => {
+                let right = Expression::Pair(
+                    style.operand(random),
+                    operator(random),
+                    style.operand(random),
+                );
+                lines.push(Statement::Assign(style.variable(random), right));
+            }
+            _ => style.copies(random, &mut lines),
+        }
+    }
+    lines.truncate(size - 1);
+    lines.push(Statement::Write(style.variable(random)));
+    Program::new(lines).expect("a generated program is taken")
+}
+
+/// A variable, mostly one that the program names.
+fn variable_near(random: &mut Random, program: &Program) -> u8 {
+    let any = random.below(usize::from(VARIABLES)) as u8;
+    if random.chance(10) {
+        return any;
+    }
+    match random.pick(program.statements()) {
+        Statement::Read(x) | Statement::Write(x) | Statement::Branch { tested: x, .. } => x,
+        Statement::Assign(x, right) => match random.pick(&right.operands()) {
+            Operand::Variable(y) if random.chance(50) => y,
+            _ => x,
+        },
+        Statement::Skip => any,
+    }
+}
+
+/// An expression, mostly one that the program holds or a variable of it.
+fn expression_near(random: &mut Random, program: &Program) -> Expression {
+    match random.pick(program.statements()) {
+        Statement::Assign(_, right) if random.chance(80) => right,
+        _ if random.chance(70) => {
+            Expression::Single(Operand::Variable(variable_near(random, program)))
+        }
+        _ => expression(random),
+    }
+}
+
+/// A statement number, mostly one of the program's.
+fn number_near(random: &mut Random, program: &Program) -> u32 {
+    let count = program.count();
+    match random.below(20) {
+        0 => 0,
+        1 => count + 1,
+        2 => random.pick(&[257, 300, 65_536 + 2, LARGEST]),
+        _ => 1 + random.below(count as usize) as u32,
+    }
+}
+
+fn atom(random: &mut Random, program: &Program) -> String {
+    match random.below(16) {
+        0 => "true".to_string(),
+        1 => "false".to_string(),
+        2 => "entry".to_string(),
+        3 => "exit".to_string(),
+        4..=6 => format!("node({})", number_near(random, program)),
+        7 => {
+            let (x, e) = (variable_near(random, program), expression_near(random, program));
+            format!("stmt({})", Statement::Assign(x, e))
+        }
+        8 => {
+            let tested = variable_near(random, program);
+            let (then, other) = (number_near(random, program), number_near(random, program));
+            format!("stmt({})", Statement::Branch { tested, then, other })
+        }
+        9 => format!("stmt({})", random.pick(program.statements())),
+        10 | 11 => format!("def(i{})", variable_near(random, program)),
+        12 | 13 => format!("use(i{})", variable_near(random, program)),
+        _ => format!("trans({})", expression_near(random, program)),
+    }
+}
+
+const UNARY: [&str; 13] =
+    ["!", "EX ", "AX ", "EF ", "AF ", "EG ", "AG ", "EY ", "AY ", "ER ", "AR ", "EM ", "AM "];
+
+/// The first and the middle mark of operators with two operands.
+const BINARY: [(&str, &str); 10] = [
+    ("(", " & "),
+    ("(", " | "),
+    ("E[", " U "),
+    ("A[", " U "),
+    ("E[", " W "),
+    ("A[", " W "),
+    ("E[", " S "),
+    ("A[", " S "),
+    ("E[", " B "),
+    ("A[", " B "),
+];
+
+fn pair(random: &mut Random, p: &str, q: &str) -> String {
+    let (open, sign) = random.pick(&BINARY);
+    let close = if open == "(" { ")" } else { "]" };
+    format!("{open}{p}{sign}{q}{close}")
+}
+
+fn condition_text(random: &mut Random, program: &Program, parts: usize, unary: usize) -> String {
+    if parts < 2 {
+        return atom(random, program);
+    }
+    if parts == 2 || random.chance(unary) {
+        let sign = if random.chance(25) { "!" } else { random.pick(&UNARY) };
+        return format!("{sign}{}", condition_text(random, program, parts - 1, unary));
+    }
+    let left = random.between(1, parts - 2);
+    let p = condition_text(random, program, left, unary);
+    let q = condition_text(random, program, parts - 1 - left, unary);
+    pair(random, &p, &q)
+}
+
+/// A well spelled condition of exactly this number of parts. Up to 150 parts it has at most 1,024 bytes.
+pub fn condition(random: &mut Random, program: &Program, parts: usize) -> Vec<u8> {
+    let mut unary = if parts > 64 { 60 } else { 35 };
+    loop {
+        let text = condition_text(random, program, parts, unary);
+        if text.len() <= 1_024 || parts > 150 {
+            return text.into_bytes();
+        }
+        unary = (unary + 5).min(95);
+    }
+}
+
+/// A well spelled condition of exactly this number of bytes, at least 4; up to 1,024 it has at most 64 parts.
+pub fn condition_of_length(random: &mut Random, program: &Program, length: usize) -> Vec<u8> {
+    let mut text = atom(random, program);
+    if text.len() > length {
+        text = "true".to_string();
+    }
+    while text.len() < length {
+        let room = length - text.len();
+        text = match room {
+            60.. => {
+                let x = random.between(10, 31);
+                pair(random, &text, &format!("stmt(i{x} := {LARGEST} * {LARGEST})"))
+            }
+            12.. => {
+                let number = LARGEST.to_string();
+                format!("({text} & node({}))", &number[..(room - 11).min(number.len())])
+            }
+            _ => format!("!{text}"),
+        };
+    }
+    text.into_bytes()
+}
+
+/// The marks that fit a statement and that a copy nearest before it, in line order, suggests.
+fn fitting(random: &mut Random, program: &Program, number: u32) -> Vec<Mark> {
+    let before = number as usize - 1;
+    let statements = program.statements();
+    let statement = statements[before];
+    let mut marks = Vec::new();
+    if let Statement::Assign(x, e) = statement {
+        marks.push(Mark { number, variable: x, kind: Kind::Remove(e) });
+    }
+    for x in (0..VARIABLES).filter(|&x| statement.uses(x)) {
+        let copied = |at: usize| match statements[at] {
+            Statement::Assign(y, Expression::Single(a)) if y == x => Some(a),
+            _ => None,
+        };
+        let nearest = (0..before).rev().find_map(copied);
+        let any = (0..statements.len()).find_map(copied);
+        for a in nearest.into_iter().chain(any.filter(|_| random.chance(30))) {
+            let is_variable = matches!(a, Operand::Variable(_));
+            if is_variable || matches!(statement, Statement::Assign(..)) {
+                marks.push(Mark { number, variable: x, kind: Kind::Replace(a) });
+            }
+        }
+    }
+    random.shuffle(&mut marks);
+    marks
+}
+
+/// Any mark at all for this statement number.
+fn any_mark(random: &mut Random, program: &Program, number: u32) -> Mark {
+    let kind = match expression_near(random, program) {
+        Expression::Single(a) if random.chance(60) => Kind::Replace(a),
+        e => Kind::Remove(e),
+    };
+    Mark { number, variable: variable_near(random, program), kind }
+}
+
+/// A list of marks for a program. Most are such that they are accepted by themselves, if there are such;
+/// the others fit only, name a statement again, name one that the program lacks, or are any.
+pub fn marks(random: &mut Random, program: &Program, count: usize) -> Vec<Mark> {
+    let judge = Judge::new(program);
+    let mut unnamed: Vec<u32> = (1..=program.count()).collect();
+    random.shuffle(&mut unnamed);
+    let mut list: Vec<Mark> = Vec::with_capacity(count);
+    while list.len() < count {
+        let somewhere = 1 + random.below(program.count() as usize) as u32;
+        let mark = match random.below(100) {
+            0..=69 => loop {
+                let candidates = match unnamed.pop() {
+                    Some(number) => fitting(random, program, number),
+                    None => break None,
+                };
+                let good = candidates.into_iter().find(|mark| judge.verdict(mark, false) == 0);
+                if good.is_some() {
+                    break good;
+                }
+            },
+            70..=82 => fitting(random, program, somewhere).pop(),
+            83..=88 if !list.is_empty() => {
+                let number = random.pick(&list).number;
+                program.statement(number).and_then(|_| fitting(random, program, number).pop())
+            }
+            89..=94 => {
+                let lacking = [0, program.count() + 1, program.count() + 256, LARGEST];
+                let number = random.pick(&lacking);
+                Some(any_mark(random, program, number))
+            }
+            _ => None,
+        };
+        list.push(mark.unwrap_or_else(|| any_mark(random, program, somewhere)));
+    }
+    list
+}
+
+/// The runs of digits in a text, each by its begin and end.
+fn digit_runs(text: &[u8]) -> Vec<(usize, usize)> {
+    let digit = |at: usize| text.get(at).map_or(false, u8::is_ascii_digit);
+    let begins = (0..text.len()).filter(|&at| digit(at) && (at == 0 || !digit(at - 1)));
+    begins.map(|begin| (begin, (begin..).find(|&at| !digit(at)).unwrap_or(begin))).collect()
+}
+
+/// The lines of a text, each with its byte 10.
+fn lines(text: &[u8]) -> Vec<Vec<u8>> {
+    text.split_inclusive(|&byte| byte == b'\n').map(<[u8]>::to_vec).collect()
+}
+
+/// Another spelling in place of a number's digits, often one that a reader could take wrongly.
+fn wrong_number(random: &mut Random, digits: &[u8]) -> Vec<u8> {
+    let value = digits.iter().fold(0_u128, |value, digit| {
+        value.wrapping_mul(10).wrapping_add(u128::from(digit.wrapping_sub(b'0')))
+    });
+    let number = match random.below(14) {
+        0 => 0,
+        1 => value.wrapping_add(1),
+        2 => u128::from(LARGEST),
+        3 => u128::from(LARGEST) + 1,
+        4 => value.wrapping_add(1 << 31),
+        5 => value.wrapping_add(1 << 32),
+        6 => value.wrapping_add(1 << 64),
+        7 => u128::MAX,
+        8 => return [b"0".as_slice(), digits].concat(),
+        9 => return [b"+".as_slice(), digits].concat(),
+        10 => return [b"-".as_slice(), digits].concat(),
+        _ => random.below(300) as u128,
+    };
+    number.to_string().into_bytes()
+}
+
+fn many_digits(random: &mut Random, _: &[u8]) -> Vec<u8> {
+    (0..random.between(11, 400)).map(|_| random.pick(b"0123456789")).collect()
+}
+
+/// A kind of damage to a text.
+#[derive(Clone, Copy, Debug, PartialEq, Eq, PartialOrd, Ord)]
+pub enum Damage {
+    InsertByte,
+    FlipBit,
+    OverwriteByte,
+    DropByte,
+    DoubleByte,
+    SwapBytes,
+    CutEnd,
+    DropLastByte,
+    WrongNumber,
+    ManyDigits,
+    EmptyLine,
+    SwapLines,
+    DoubleLine,
+    DropLine,
+    ManyLines,
+    LongLine,
+    RepeatPiece,
+}
+
+impl Damage {
+    pub const ALL: [Damage; 17] = [
+        Damage::InsertByte,
+        Damage::FlipBit,
+        Damage::OverwriteByte,
+        Damage::DropByte,
+        Damage::DoubleByte,
+        Damage::SwapBytes,
+        Damage::CutEnd,
+        Damage::DropLastByte,
+        Damage::WrongNumber,
+        Damage::ManyDigits,
+        Damage::EmptyLine,
+        Damage::SwapLines,
+        Damage::DoubleLine,
+        Damage::DropLine,
+        Damage::ManyLines,
+        Damage::LongLine,
+        Damage::RepeatPiece,
+    ];
+}
+
+/// Replaces the digits of one of a text's numbers; where it has none, another number is put at its end.
+fn replace_number(
+    random: &mut Random,
+    text: &mut Vec<u8>,
+    change: impl Fn(&mut Random, &[u8]) -> Vec<u8>,
+) {
+    let runs = digit_runs(text);
+    if runs.is_empty() {
+        text.extend(change(random, b"7"));
+    } else {
+        let (begin, end) = random.pick(&runs);
+        let number = change(random, &text[begin..end]);
+        text.splice(begin..end, number);
+    }
+}
+
+fn damage_lines(random: &mut Random, kind: Damage, lines: &mut Vec<Vec<u8>>) {
+    let (one, other) = (random.below(lines.len()), random.below(lines.len()));
+    match kind {
+        Damage::SwapLines => lines.swap(one, other),
+        Damage::DoubleLine => lines.insert(one, lines[other].clone()),
+        Damage::DropLine => drop(lines.remove(one)),
+        // The edge of 256 lines is often met. A text of many long lines would only take time.
+        Damage::ManyLines if lines[one].len() < 2_000 => {
+            let wanted = random.pick(&[255, 256, 257, 258, 300]);
+            let missing = wanted.max(lines.len()) - lines.len();
+            let copies = vec![lines[one].clone(); missing];
+            lines.splice(one..one, copies);
+        }
+        _ => lines.insert(random.below(lines.len() + 1), b"\n".to_vec()),
+    }
+}
+
+/// Does one damage to a text, which may leave it well spelled.
+pub fn damage_by(random: &mut Random, kind: Damage, text: &mut Vec<u8>) {
+    let bytes = b"\n\r\t\0 0123456789iEAX!&|()[]:=<+-*,skiprdgoto\x80\xff";
+    let byte = random.pick(bytes);
+    if text.is_empty() {
+        text.push(byte);
+        return;
+    }
+    let (at, other) = (random.below(text.len()), random.below(text.len()));
+    match kind {
+        Damage::InsertByte => text.insert(random.below(text.len() + 1), byte),
+        Damage::FlipBit => text[at] ^= 1 << random.below(8),
+        Damage::OverwriteByte => text[at] = byte,
+        Damage::DropByte => drop(text.remove(at)),
+        Damage::DoubleByte => text.insert(at, text[at]),
+        Damage::SwapBytes => text.swap(at, other),
+        Damage::CutEnd => text.truncate(at),
+        Damage::DropLastByte => drop(text.pop()),
+        Damage::WrongNumber => replace_number(random, text, wrong_number),
+        Damage::ManyDigits => replace_number(random, text, many_digits),
+        Damage::LongLine => {
+            let long = if random.chance(2) { 70_000 } else { random.between(100, 3_000) };
+            text.splice(at..at, vec![byte; long]);
+        }
+        Damage::RepeatPiece => {
+            let end = random.between(at, text.len().min(at + 40));
+            let piece = text[at..end].repeat(random.between(1, 60));
+            text.splice(at..at, piece);
+        }
+        _ => {
+            let mut lines = lines(text);
+            damage_lines(random, kind, &mut lines);
+            *text = lines.concat();
+        }
+    }
+}
+
+/// A text with one to three damages, which may leave it well spelled.
+pub fn damage(random: &mut Random, text: &[u8]) -> Vec<u8> {
+    let mut text = text.to_vec();
+    for _ in 0..random.pick(&[1, 1, 1, 2, 3]) {
+        let kind = random.pick(&Damage::ALL);
+        damage_by(random, kind, &mut text);
+    }
+    text
+}
+
+/// Some of these pieces, in any order.
+fn soup(random: &mut Random, pieces: &[&str], most: usize) -> String {
+    (0..random.between(1, most)).map(|_| random.pick(pieces)).collect()
+}
+
+#[rustfmt::skip]
+const STATEMENT_PIECES: [&str; 25] = [
+    "skip", "read", "write", "if", "goto", "else", " ", " ", " ", ":=", ":", "=", "i", "i0", "i1",
+    "i31", "i32", "0", "2", "2147483647", "2147483648", "+", "-", "*", "<",
+];
+
+#[rustfmt::skip]
+const EXPRESSION_PIECES: [&str; 14] = [
+    "i0", "i31", "i32", "0", "7", "2147483647", "2147483648", " ", " + ", " - ", " * ", " < ", " = ", "-",
+];
+
+/// A program of three lines, the middle one of pieces of statements in any order, now and then a statement.
+pub fn statement_soup(random: &mut Random) -> Vec<u8> {
+    let line = match random.below(4) {
+        0 => soup(random, &STATEMENT_PIECES, 8),
+        1 => format!("if i0 goto 2 else {}", soup(random, &EXPRESSION_PIECES, 2)),
+        _ => format!("i0 := {}", soup(random, &EXPRESSION_PIECES, 4)),
+    };
+    format!("read i0\n{line}\nwrite i0\n").into_bytes()
+}
+
+#[rustfmt::skip]
+const CONDITION_PIECES: [&str; 37] = [
+    "true", "false", "entry", "exit", "node(", "stmt(", "def(", "use(", "trans(", "i0", "i31", "1",
+    "skip", "i0 := 1", ")", ")", ")", "!", "(", " & ", " | ", "EX ", "AF ", "EG ", "AY ", "ER ",
+    "AM ", "E[", "A[", " U ", " W ", " S ", " B ", "]", "]", " ", "true",
+];
+
+/// Pieces of conditions in any order, now and then such that they spell one.
+pub fn condition_soup(random: &mut Random) -> Vec<u8> {
+    let middle = soup(random, &CONDITION_PIECES, 6);
+    match random.below(4) {
+        0 => format!("E[{middle}]"),
+        1 => format!("({middle})"),
+        _ => middle,
+    }
+    .into_bytes()
+}
+
+/// A condition with one operator within itself many times, closed again or not.
+pub fn nested_condition(random: &mut Random) -> Vec<u8> {
+    let (open, close) = random.pick(&[
+        ("!", ""),
+        ("EX ", ""),
+        ("AR ", ""),
+        ("(", ""),
+        ("(", ")"),
+        ("(", " & true)"),
+        ("(entry | ", ")"),
+        ("E[", ""),
+        ("E[", " U true]"),
+        ("A[true B ", "]"),
+    ]);
+    let core = random.pick(&["true", "exit", "def(i0)", "node(2)", "", "x"]);
+    let most = (LONGEST_TEXT + 8 - core.len()) / (open.len() + close.len());
+    let depth = match random.below(3) {
+        0 => random.between(30, 66).min(most),
+        1 => random.between(1, most),
+        _ => random.between(most - 8, most),
+    };
+    [open.repeat(depth), core.to_string(), close.repeat(depth)].concat().into_bytes()
+}
+
+#[rustfmt::skip]
+const MARK_PIECES: [&str; 20] = [
+    "1", "2", "0", "257", ":", " ", "mark", "(", "rm", "rpl", ",", ", ", "i0", "i1", "i32", "7",
+    " + ", "+", ")", "2147483648",
+];
+
+/// A line of pieces of marks in any order, now and then a mark.
+pub fn mark_soup(random: &mut Random) -> Vec<u8> {
+    let line = match random.below(3) {
+        0 => soup(random, &MARK_PIECES, 10),
+        1 => format!(
+            "2: mark({}, i0, {})",
+            random.pick(&["rm", "rpl"]),
+            soup(random, &MARK_PIECES, 4)
+        ),
+        _ => format!("2: mark({})", soup(random, &MARK_PIECES, 6)),
+    };
+    format!("{line}\n").into_bytes()
+}

@@ -1,0 +1,17 @@
+//! A second implementation of shift program rewrites, written from their defining document alone.
+//!
+//! It serves as the oracle of tests: the same calls, the same refusal numbers and the same contents of the
+//! lent buffers, by other algorithms. `generate` makes the random cases. `tuned` has the calls once more, made to
+//! be fast, as the yardstick of the benchmark.
+
+pub mod check;
+pub mod condition;
+pub mod generate;
+pub mod machine;
+pub mod marks;
+pub mod program;
+pub mod steps;
+pub mod tuned;
+
+#[cfg(test)]
+mod tests;

@@ -1,0 +1,142 @@
+//! Runs by steps.
+
+use crate::program::{Expression, Operand, Operator, Program, Statement};
+
+/// The values of `i0` to `i31`.
+pub type Values = [u32; 32];
+
+/// The largest budget that isn't refused.
+pub const LARGEST_BUDGET: u32 = 1_000_000;
+
+/// What a run under a budget answers.
+#[derive(Clone, Copy, Debug, PartialEq, Eq)]
+pub enum Outcome {
+    Ended { value: i32, steps: u32 },
+    Spent { statement: u32, values: Values },
+}
+
+/// Where a run stands between two steps.
+#[derive(Clone, Copy, Debug, PartialEq, Eq)]
+pub enum State {
+    Before { statement: u32, values: Values },
+    Ended { value: i32 },
+}
+
+/// A run of a program without a budget.
+#[derive(Clone, Debug)]
+pub struct Run<'a> {
+    program: &'a Program,
+    input: u32,
+    state: State,
+}
+
+fn operand_value(operand: Operand, values: &Values) -> u32 {
+    match operand {
+        Operand::Variable(x) => values[usize::from(x)],
+        Operand::Constant(c) => c,
+    }
+}
+
+/// The value of an expression, worked out in 64 bits and cut to the low 32.
+fn value(expression: &Expression, values: &Values) -> u32 {
+    let (a, operator, b) = match *expression {
+        Expression::Single(a) => return operand_value(a, values),
+        Expression::Pair(a, operator, b) => {
+            (operand_value(a, values), operator, operand_value(b, values))
+        }
+    };
+    let (wide_a, wide_b) = (i64::from(a as i32), i64::from(b as i32));
+    match operator {
+        Operator::Plus => (wide_a + wide_b) as u32,
+        Operator::Minus => (wide_a - wide_b) as u32,
+        Operator::Times => (wide_a * wide_b) as u32,
+        Operator::Less => u32::from(wide_a < wide_b),
+        Operator::Equal => u32::from(a == b),
+    }
+}
+
+impl<'a> Run<'a> {
+    pub fn start(program: &'a Program, values: Values, input: u32) -> Run<'a> {
+        Run { program, input, state: State::Before { statement: 1, values } }
+    }
+
+    pub fn state(&self) -> &State {
+        &self.state
+    }
+
+    /// Performs one statement; a run that has ended stays so.
+    pub fn step(&mut self) {
+        let (at, values) = match &mut self.state {
+            State::Before { statement, values } => (statement, values),
+            State::Ended { .. } => return,
+        };
+        match self.program.statements()[*at as usize - 1] {
+            Statement::Read(x) => values[usize::from(x)] = self.input,
+            Statement::Assign(x, ref right) => values[usize::from(x)] = value(right, values),
+            Statement::Skip => {}
+            Statement::Branch { tested, then, other } => {
+                *at = if values[usize::from(tested)] != 0 { then } else { other };
+                return;
+            }
+            Statement::Write(x) => {
+                let value = values[usize::from(x)] as i32;
+                self.state = State::Ended { value };
+                return;
+            }
+        }
+        *at += 1;
+    }
+}
+
+/// A run of a program that is taken, under a budget of any size.
+pub fn run_program(program: &Program, values: Values, input: u32, budget: u32) -> Outcome {
+    let mut run = Run::start(program, values, input);
+    let mut steps = 0;
+    loop {
+        match *run.state() {
+            State::Ended { value } => return Outcome::Ended { value, steps },
+            State::Before { statement, values } if steps == budget => {
+                return Outcome::Spent { statement, values };
+            }
+            State::Before { .. } => {}
+        }
+        run.step();
+        steps += 1;
+    }
+}
+
+/// The call: a run's outcome, or the refusal, 15 or 2 to 5.
+pub fn run(program: &[u8], values: Values, input: u32, budget: u32) -> Result<Outcome, u8> {
+    if budget > LARGEST_BUDGET {
+        return Err(15);
+    }
+    Ok(run_program(&Program::read(program)?, values, input, budget))
+}
+
+/// Whether two runs stand at the same place: before one statement, or ended with one value.
+pub fn same_place(one: &State, other: &State) -> bool {
+    match (one, other) {
+        (State::Before { statement: a, .. }, State::Before { statement: b, .. }) => a == b,
+        (State::Ended { value: a }, State::Ended { value: b }) => a == b,
+        _ => false,
+    }
+}
+
+/// The first k up to `steps` after which the runs of two programs don't stand at the same place.
+pub fn first_difference(
+    one: &Program,
+    other: &Program,
+    values: Values,
+    input: u32,
+    steps: u32,
+) -> Option<u32> {
+    let (mut a, mut b) = (Run::start(one, values, input), Run::start(other, values, input));
+    for k in 0..=steps {
+        if !same_place(a.state(), b.state()) {
+            return Some(k);
+        }
+        a.step();
+        b.step();
+    }
+    None
+}

@@ -1,0 +1,56 @@
+//! Cases from the defining document, decided open points, and random cross tests.
+
+mod document;
+mod generated;
+mod naive;
+mod open_points;
+mod tuned;
+
+use crate::condition;
+use crate::marks;
+use crate::program::Program;
+
+/// The document's program P.
+const P: &str = "read i0\ni1 := i0\ni2 := 7\ni3 := i1 + i2\nif i0 goto 6 else 8\ni0 := i0 - 1\n\
+                 if i0 goto 4 else 8\nwrite i3\n";
+
+/// The text of the statements that are named between slashes.
+fn lines(statements: &str) -> String {
+    statements.split(" / ").map(|statement| format!("{statement}\n")).collect()
+}
+
+/// `read`, as many `skip` as make `count` lines, `write`.
+fn skips(count: usize) -> String {
+    format!("read i0\n{}write i0\n", "skip\n".repeat(count - 2))
+}
+
+fn refusal(program: &str) -> u8 {
+    Program::read(program.as_bytes()).map_or_else(|number| number, |_| 0)
+}
+
+fn condition_refusal(text: &str) -> u8 {
+    condition::Condition::read(text.as_bytes()).map_or_else(|number| number, |_| 0)
+}
+
+/// Word 0 of each part of a condition over a program.
+fn words(program: &str, text: &str) -> Vec<u64> {
+    let mut table = [0; 256];
+    let answer = condition::tabulate(program.as_bytes(), text.as_bytes(), &mut table);
+    let (parts, _, _) = answer.unwrap_or_else(|number| panic!("{text}: refused {number}"));
+    (0..parts as usize).map(|part| table[4 * part]).collect()
+}
+
+/// Word 0 of a whole condition over a program.
+fn whole(program: &str, text: &str) -> u64 {
+    *words(program, text).last().expect("a condition has a part")
+}
+
+/// The verdicts of a list and the new text.
+fn judged(program: &str, list: &str) -> (Vec<u8>, String) {
+    let (mut verdicts, mut text) = ([99; 256], [99; 8_192]);
+    let answer = marks::judge(program.as_bytes(), list.as_bytes(), &mut verdicts, &mut text);
+    let (count, accepted, bytes) = answer.unwrap_or_else(|number| panic!("refused {number}"));
+    let verdicts = verdicts[..count as usize].to_vec();
+    assert_eq!(accepted as usize, verdicts.iter().filter(|&&verdict| verdict == 0).count());
+    (verdicts, String::from_utf8(text[..bytes as usize].to_vec()).expect("new text is ASCII"))
+}

@@ -1,0 +1,98 @@
+//! The tuned calls against the plain ones.
+
+use crate::condition::tabulate;
+use crate::generate::{self, Random};
+use crate::machine::run;
+use crate::marks::{self, judge};
+use crate::program::Program;
+use crate::tuned;
+
+/// A program's text, damaged or of pieces in some cases.
+fn program_text(random: &mut Random, program: &Program) -> Vec<u8> {
+    match random.below(20) {
+        0 => generate::statement_soup(random),
+        1..=3 => generate::damage(random, &program.text()),
+        _ => program.text(),
+    }
+}
+
+#[test]
+fn tuned_runs_are_the_plain_ones() {
+    let random = &mut Random::new(20);
+    for _ in 0..20_000 {
+        let size = generate::size(random);
+        let program = generate::program(random, size);
+        let text = program_text(random, &program);
+        let (values, input) = (generate::values(random), generate::word(random));
+        let budget = generate::budget(random);
+        assert_eq!(
+            tuned::run(&text, &values, input, budget),
+            run(&text, values, input, budget),
+            "{input} {budget} {}",
+            text.escape_ascii()
+        );
+    }
+}
+
+#[test]
+fn tuned_tables_are_the_plain_ones() {
+    let random = &mut Random::new(21);
+    for _ in 0..20_000 {
+        let size = generate::size(random);
+        let program = generate::program(random, size);
+        let text = program_text(random, &program);
+        let parts = random.between(1, 70);
+        let condition = match random.below(20) {
+            0 => generate::condition_soup(random),
+            1 => generate::nested_condition(random),
+            2 => generate::condition_of_length(random, &program, 1_020 + parts % 8),
+            _ => generate::condition(random, &program, parts),
+        };
+        let condition =
+            if random.chance(15) { generate::damage(random, &condition) } else { condition };
+        let room = random.pick(&[256, 256, 256, 257, 255]);
+        let (mut one, mut other) = (vec![7; room], vec![7; room]);
+        assert_eq!(
+            tuned::tabulate(&text, &condition, &mut one),
+            tabulate(&text, &condition, &mut other),
+            "{} {}",
+            text.escape_ascii(),
+            condition.escape_ascii()
+        );
+        assert_eq!(one, other, "{} {}", text.escape_ascii(), condition.escape_ascii());
+    }
+}
+
+#[test]
+fn tuned_judgements_are_the_plain_ones() {
+    let random = &mut Random::new(22);
+    for _ in 0..10_000 {
+        let size = generate::size(random);
+        let program = generate::program(random, size);
+        let text = program_text(random, &program);
+        let count = random.between(0, size.min(60)) + random.pick(&[0, 0, 0, 0, 200]);
+        let list = marks::text(&generate::marks(random, &program, count));
+        let list = match random.below(20) {
+            0 => generate::mark_soup(random),
+            1..=3 => generate::damage(random, &list),
+            _ => list,
+        };
+        let (verdict_room, text_room) =
+            (random.pick(&[256, 256, 256, 300, 255]), random.pick(&[8_192, 8_192, 8_192, 8_191]));
+        let wanted = {
+            let (mut verdicts, mut new) = (vec![7; verdict_room], vec![7; text_room]);
+            let answer = judge(&text, &list, &mut verdicts, &mut new);
+            (answer, verdicts, new)
+        };
+        for way in [tuned::judge, tuned::judge_by_labels] {
+            let (mut verdicts, mut new) = (vec![7; verdict_room], vec![7; text_room]);
+            let answer = way(&text, &list, &mut verdicts, &mut new);
+            assert!(
+                (answer, verdicts, new) == wanted,
+                "{} {}",
+                text.escape_ascii(),
+                list.escape_ascii()
+            );
+        }
+    }
+}

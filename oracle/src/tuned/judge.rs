@@ -1,0 +1,291 @@
+//! Verdicts and rewriting.
+
+use super::flow::{and, has, put, without, Flow, Row};
+use super::read::{List, Program};
+use super::tabulate::Rows;
+use crate::condition::Direction;
+use crate::marks::{Kind, Mark, TEXT_BYTES, VERDICT_BYTES};
+use crate::program::{Expression, Operand, Operator, Statement};
+
+/// What verdicts are found from.
+struct Judge {
+    flow: Flow,
+    rows: Rows,
+}
+
+/// The statements that a search has to look at yet, and all that it met.
+struct Search {
+    met: Row,
+    items: [u8; 256],
+    count: usize,
+}
+
+impl Search {
+    fn new() -> Search {
+        Search { met: [0; 4], items: [0; 256], count: 0 }
+    }
+
+    fn meet(&mut self, at: u8) {
+        if !has(&self.met, at) {
+            put(&mut self.met, at);
+            self.items[self.count & 255] = at;
+            self.count += 1;
+        }
+    }
+
+    fn next(&mut self) -> Option<u8> {
+        self.count = self.count.checked_sub(1)?;
+        Some(self.items[self.count & 255])
+    }
+}
+
+impl Judge {
+    /// Whether no path from behind a statement comes to a use before a definition.
+    fn is_dead(&self, x: u8, at: u8) -> bool {
+        let (defining, using) =
+            (&self.rows.defining[usize::from(x)], &self.rows.using[usize::from(x)]);
+        let mut search = Search::new();
+        self.flow.successors(at).iter().for_each(|&next| search.meet(next));
+        while let Some(at) = search.next() {
+            if has(using, at) {
+                return false;
+            }
+            if !has(defining, at) {
+                self.flow.successors(at).iter().for_each(|&next| search.meet(next));
+            }
+        }
+        true
+    }
+
+    /// The same by labelling every statement.
+    fn is_dead_by_labels(&self, x: u8, at: u8) -> bool {
+        let unchanged = without(&self.flow.all, &self.rows.defining[usize::from(x)]);
+        let used =
+            self.flow.some_until(Direction::Forward, &unchanged, &self.rows.using[usize::from(x)]);
+        !self.flow.successors(at).iter().any(|&next| has(&used, next))
+    }
+
+    /// Where a copy made before still holds: nothing of it is defined, and the program has started.
+    fn carrying(&self, x: u8, a: Operand) -> Row {
+        let mut row = self.rows.transparent(&self.flow.all, &Expression::Single(a));
+        row = without(&row, &self.rows.defining[usize::from(x)]);
+        without(&row, &[1, 0, 0, 0])
+    }
+
+    /// Whether each path back from before a statement comes to the copy, or goes on for ever, and all its other
+    /// places carry it.
+    fn is_copied(&self, program: &Program, x: u8, a: Operand, at: u8) -> bool {
+        let carrying = self.carrying(x, a);
+        let copy = Statement::Assign(x, Expression::Single(a));
+        let mut search = Search::new();
+        let step = |search: &mut Search, at: u8| match self.flow.predecessors(at) {
+            [] => search.meet(at),
+            sources => sources.iter().for_each(|&source| search.meet(source)),
+        };
+        step(&mut search, at);
+        while let Some(at) = search.next() {
+            // The copy defines its variable, so it doesn't carry.
+            if has(&carrying, at) {
+                step(&mut search, at);
+            } else if program.statements()[usize::from(at)] != copy {
+                return false;
+            }
+        }
+        true
+    }
+
+    /// The same by labelling every statement.
+    fn is_copied_by_labels(&self, program: &Program, x: u8, a: Operand, at: u8) -> bool {
+        let copy = Statement::Assign(x, Expression::Single(a));
+        let mut copies = [0; 4];
+        for (at, statement) in program.statements().iter().enumerate() {
+            if *statement == copy {
+                put(&mut copies, at as u8);
+            }
+        }
+        let others = without(&self.flow.all, &copies);
+        let neither = and(&others, &without(&self.flow.all, &self.carrying(x, a)));
+        let lost = self.flow.some_until(Direction::Backward, &others, &neither);
+        match self.flow.predecessors(at) {
+            [] => !has(&lost, at),
+            sources => !sources.iter().any(|&source| has(&lost, source)),
+        }
+    }
+}
+
+fn fits(mark: &Mark, statement: &Statement) -> bool {
+    match (mark.kind, statement) {
+        (Kind::Remove(e), Statement::Assign(x, right)) => *x == mark.variable && *right == e,
+        (Kind::Remove(_), _) => false,
+        (Kind::Replace(_), Statement::Assign(_, right)) => right.mentions(mark.variable),
+        (Kind::Replace(Operand::Variable(_)), Statement::Branch { tested: x, .. })
+        | (Kind::Replace(Operand::Variable(_)), Statement::Write(x)) => *x == mark.variable,
+        (Kind::Replace(_), _) => false,
+    }
+}
+
+/// Makes of a statement what a mark that fits it says.
+fn make(mark: &Mark, statement: &mut Statement) {
+    match (mark.kind, statement) {
+        (Kind::Remove(_), statement) => *statement = Statement::Skip,
+        (Kind::Replace(a), Statement::Assign(_, right)) => {
+            *right = right.replaced(mark.variable, a);
+        }
+        (Kind::Replace(Operand::Variable(y)), Statement::Branch { tested: x, .. })
+        | (Kind::Replace(Operand::Variable(y)), Statement::Write(x)) => *x = y,
+        _ => {}
+    }
+}
+
+/// Writes into a lent text, which has room for any program.
+struct Writer<'a> {
+    text: &'a mut [u8],
+    at: usize,
+}
+
+impl Writer<'_> {
+    #[inline(always)]
+    fn word(&mut self, word: &[u8]) {
+        self.text[self.at..self.at + word.len()].copy_from_slice(word);
+        self.at += word.len();
+    }
+
+    fn number(&mut self, mut number: u32) {
+        let (mut digits, mut start) = ([0; 10], 10);
+        loop {
+            start -= 1;
+            digits[start] = b'0' + (number % 10) as u8;
+            number /= 10;
+            if number == 0 {
+                break;
+            }
+        }
+        self.word(&digits[start..]);
+    }
+
+    fn variable(&mut self, x: u8) {
+        self.word(b"i");
+        self.number(u32::from(x));
+    }
+
+    fn operand(&mut self, operand: Operand) {
+        match operand {
+            Operand::Variable(x) => self.variable(x),
+            Operand::Constant(c) => self.number(c),
+        }
+    }
+
+    fn statement(&mut self, statement: &Statement) {
+        match *statement {
+            Statement::Read(x) => {
+                self.word(b"read ");
+                self.variable(x);
+            }
+            Statement::Write(x) => {
+                self.word(b"write ");
+                self.variable(x);
+            }
+            Statement::Skip => self.word(b"skip"),
+            Statement::Branch { tested, then, other } => {
+                self.word(b"if ");
+                self.variable(tested);
+                self.word(b" goto ");
+                self.number(then);
+                self.word(b" else ");
+                self.number(other);
+            }
+            Statement::Assign(x, right) => {
+                self.variable(x);
+                self.word(b" := ");
+                match right {
+                    Expression::Single(a) => self.operand(a),
+                    Expression::Pair(a, operator, b) => {
+                        self.operand(a);
+                        self.word(match operator {
+                            Operator::Plus => b" + ",
+                            Operator::Minus => b" - ",
+                            Operator::Times => b" * ",
+                            Operator::Less => b" < ",
+                            Operator::Equal => b" = ",
+                        });
+                        self.operand(b);
+                    }
+                }
+            }
+        }
+        self.word(b"\n");
+    }
+}
+
+#[inline(always)]
+fn judge_with(
+    program: &[u8],
+    marks: &[u8],
+    verdicts: &mut [u8],
+    text: &mut [u8],
+    is_true: impl Fn(&Judge, &Program, &Mark, u8) -> bool,
+) -> Result<(u32, u32, u32), u8> {
+    if verdicts.len() < VERDICT_BYTES || text.len() < TEXT_BYTES {
+        return Err(1);
+    }
+    let mut program = Program::read(program)?;
+    let list = List::read(marks)?;
+    let judge = Judge { flow: Flow::new(&program), rows: Rows::new(&program) };
+    let (mut named, mut accepted) = ([0; 4], 0);
+    for (mark, verdict) in list.marks().iter().zip(verdicts.iter_mut()) {
+        let count = judge.flow.count as u32;
+        *verdict = if !(1..=count).contains(&mark.number) {
+            11
+        } else {
+            let at = (mark.number - 1) as u8;
+            if has(&named, at) {
+                12
+            } else {
+                put(&mut named, at);
+                if !fits(mark, &program.statements()[usize::from(at)]) {
+                    13
+                } else if is_true(&judge, &program, mark, at) {
+                    accepted += 1;
+                    0
+                } else {
+                    14
+                }
+            }
+        };
+    }
+    for (mark, verdict) in list.marks().iter().zip(verdicts.iter()) {
+        if *verdict == 0 {
+            make(mark, &mut program.statements_mut()[mark.number as usize - 1]);
+        }
+    }
+    let mut writer = Writer { text, at: 0 };
+    program.statements().iter().for_each(|statement| writer.statement(statement));
+    Ok((list.marks().len() as u32, accepted, writer.at as u32))
+}
+
+/// The call: fills verdicts and new text; the number of marks, of accepted ones and of bytes of new text, or the
+/// refusal, 1, 2 to 5, 9 or 10. Each mark's condition is found by a search from its statement.
+pub fn judge(
+    program: &[u8],
+    marks: &[u8],
+    verdicts: &mut [u8],
+    text: &mut [u8],
+) -> Result<(u32, u32, u32), u8> {
+    judge_with(program, marks, verdicts, text, |judge, program, mark, at| match mark.kind {
+        Kind::Remove(_) => judge.is_dead(mark.variable, at),
+        Kind::Replace(a) => judge.is_copied(program, mark.variable, a, at),
+    })
+}
+
+/// The same, with each mark's condition labelled at every statement.
+pub fn judge_by_labels(
+    program: &[u8],
+    marks: &[u8],
+    verdicts: &mut [u8],
+    text: &mut [u8],
+) -> Result<(u32, u32, u32), u8> {
+    judge_with(program, marks, verdicts, text, |judge, program, mark, at| match mark.kind {
+        Kind::Remove(_) => judge.is_dead_by_labels(mark.variable, at),
+        Kind::Replace(a) => judge.is_copied_by_labels(program, mark.variable, a, at),
+    })
+}

@@ -1,0 +1,12 @@
+//! The same calls once more, tuned: readers over bytes, bit sets, worklists, and no allocation. They are the
+//! yardstick of the benchmark; tests hold them to the plain ones.
+
+mod flow;
+mod judge;
+mod read;
+mod run;
+mod tabulate;
+
+pub use judge::{judge, judge_by_labels};
+pub use run::run;
+pub use tabulate::tabulate;

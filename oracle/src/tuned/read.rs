@@ -1,0 +1,239 @@
+//! Readers of the one spelling of each thing.
+
+use crate::marks::{Kind, Mark, MOST_MARKS};
+use crate::program::{Expression, Operand, Operator, Statement, LARGEST, MOST_LINES};
+
+pub struct Cursor<'a> {
+    text: &'a [u8],
+    at: usize,
+}
+
+impl<'a> Cursor<'a> {
+    pub fn new(text: &'a [u8]) -> Cursor<'a> {
+        Cursor { text, at: 0 }
+    }
+
+    pub fn is_at_end(&self) -> bool {
+        self.at == self.text.len()
+    }
+
+    /// The next byte, 0 at the end: no spelling has a 0.
+    #[inline(always)]
+    pub fn peek(&self) -> u8 {
+        self.text.get(self.at).copied().unwrap_or(0)
+    }
+
+    #[inline(always)]
+    pub fn pass(&mut self) {
+        self.at += 1;
+    }
+
+    #[inline(always)]
+    pub fn byte(&mut self, wanted: u8) -> Option<()> {
+        if self.peek() != wanted {
+            return None;
+        }
+        self.pass();
+        Some(())
+    }
+
+    #[inline(always)]
+    pub fn word(&mut self, wanted: &[u8]) -> Option<()> {
+        if !self.text[self.at..].starts_with(wanted) {
+            return None;
+        }
+        self.at += wanted.len();
+        Some(())
+    }
+
+    #[inline(always)]
+    fn digit(&self) -> Option<u32> {
+        let digit = self.peek().wrapping_sub(b'0');
+        (digit < 10).then_some(u32::from(digit))
+    }
+
+    pub fn number(&mut self) -> Option<u32> {
+        let mut value = u64::from(self.digit()?);
+        self.pass();
+        if value == 0 {
+            return Some(0);
+        }
+        while let Some(digit) = self.digit() {
+            value = 10 * value + u64::from(digit);
+            if value > u64::from(LARGEST) {
+                return None;
+            }
+            self.pass();
+        }
+        Some(value as u32)
+    }
+
+    pub fn variable(&mut self) -> Option<u8> {
+        self.byte(b'i')?;
+        let mut value = self.digit()?;
+        self.pass();
+        if (1..=3).contains(&value) {
+            if let Some(digit) = self.digit() {
+                value = 10 * value + digit;
+                self.pass();
+            }
+        }
+        (value < 32).then_some(value as u8)
+    }
+
+    fn operand(&mut self) -> Option<Operand> {
+        if self.peek() == b'i' {
+            self.variable().map(Operand::Variable)
+        } else {
+            self.number().map(Operand::Constant)
+        }
+    }
+
+    pub fn expression(&mut self) -> Option<Expression> {
+        let a = self.operand()?;
+        if self.peek() != b' ' {
+            return Some(Expression::Single(a));
+        }
+        self.pass();
+        let operator = match self.peek() {
+            b'+' => Operator::Plus,
+            b'-' => Operator::Minus,
+            b'*' => Operator::Times,
+            b'<' => Operator::Less,
+            b'=' => Operator::Equal,
+            _ => return None,
+        };
+        self.pass();
+        self.byte(b' ')?;
+        Some(Expression::Pair(a, operator, self.operand()?))
+    }
+
+    pub fn statement(&mut self) -> Option<Statement> {
+        match self.peek() {
+            b'i' => {
+                if self.text.get(self.at + 1) == Some(&b'f') {
+                    self.word(b"if ")?;
+                    let tested = self.variable()?;
+                    self.word(b" goto ")?;
+                    let then = self.number()?;
+                    self.word(b" else ")?;
+                    let other = self.number()?;
+                    return Some(Statement::Branch { tested, then, other });
+                }
+                let x = self.variable()?;
+                self.word(b" := ")?;
+                Some(Statement::Assign(x, self.expression()?))
+            }
+            b's' => self.word(b"skip").map(|_| Statement::Skip),
+            b'r' => {
+                self.word(b"read ")?;
+                self.variable().map(Statement::Read)
+            }
+            b'w' => {
+                self.word(b"write ")?;
+                self.variable().map(Statement::Write)
+            }
+            _ => None,
+        }
+    }
+
+    fn mark(&mut self) -> Option<Mark> {
+        let number = self.number()?;
+        self.word(b": mark(r")?;
+        let is_removal = self.peek() == b'm';
+        self.word(if is_removal { b"m, " } else { b"pl, " })?;
+        let variable = self.variable()?;
+        self.word(b", ")?;
+        let kind = if is_removal {
+            Kind::Remove(self.expression()?)
+        } else {
+            Kind::Replace(self.operand()?)
+        };
+        self.byte(b')')?;
+        Some(Mark { number, variable, kind })
+    }
+}
+
+/// A program that is taken.
+pub struct Program {
+    statements: [Statement; MOST_LINES],
+    count: usize,
+}
+
+impl Program {
+    pub fn read(text: &[u8]) -> Result<Program, u8> {
+        let mut program = Program { statements: [Statement::Skip; MOST_LINES], count: 0 };
+        let mut cursor = Cursor::new(text);
+        while !cursor.is_at_end() {
+            let statement = cursor.statement().ok_or(2)?;
+            cursor.byte(b'\n').ok_or(2)?;
+            if let Some(place) = program.statements.get_mut(program.count) {
+                *place = statement;
+            }
+            program.count += 1;
+        }
+        let count = program.count;
+        if !(2..=MOST_LINES).contains(&count) {
+            return Err(3);
+        }
+        let targets = 2..=count as u32;
+        let (mut misplaced, mut outside) = (false, false);
+        for (at, statement) in program.statements().iter().enumerate() {
+            let (mut is_read, mut is_write) = (false, false);
+            match statement {
+                Statement::Read(_) => is_read = true,
+                Statement::Write(_) => is_write = true,
+                Statement::Branch { then, other, .. } => {
+                    outside |= !targets.contains(then) || !targets.contains(other);
+                }
+                _ => {}
+            }
+            misplaced |= is_read != (at == 0) || is_write != (at + 1 == count);
+        }
+        if misplaced {
+            return Err(4);
+        }
+        if outside {
+            return Err(5);
+        }
+        Ok(program)
+    }
+
+    pub fn statements(&self) -> &[Statement] {
+        &self.statements[..self.count]
+    }
+
+    pub fn statements_mut(&mut self) -> &mut [Statement] {
+        &mut self.statements[..self.count]
+    }
+}
+
+/// A list that is taken.
+pub struct List {
+    marks: [Mark; MOST_MARKS],
+    count: usize,
+}
+
+impl List {
+    pub fn read(text: &[u8]) -> Result<List, u8> {
+        let none = Mark { number: 0, variable: 0, kind: Kind::Replace(Operand::Constant(0)) };
+        let mut list = List { marks: [none; MOST_MARKS], count: 0 };
+        let mut cursor = Cursor::new(text);
+        while !cursor.is_at_end() {
+            let mark = cursor.mark().ok_or(9)?;
+            cursor.byte(b'\n').ok_or(9)?;
+            if let Some(place) = list.marks.get_mut(list.count) {
+                *place = mark;
+            }
+            list.count += 1;
+        }
+        if list.count > MOST_MARKS {
+            return Err(10);
+        }
+        Ok(list)
+    }
+
+    pub fn marks(&self) -> &[Mark] {
+        &self.marks[..self.count]
+    }
+}

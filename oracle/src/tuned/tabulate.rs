@@ -1,0 +1,296 @@
+//! Tables of conditions, row by row.
+
+use super::flow::{and, or, put, without, Flow, Row};
+use super::read::{Cursor, Program};
+use crate::condition::{Atom, Demand, Direction, Part, Quantifier};
+use crate::condition::{LONGEST_TEXT, MOST_PARTS, TABLE_WORDS};
+use crate::program::{Expression, Operand, VARIABLES};
+
+/// The statements that define each variable, and those that use it.
+pub struct Rows {
+    pub defining: [Row; VARIABLES as usize],
+    pub using: [Row; VARIABLES as usize],
+}
+
+impl Rows {
+    pub fn new(program: &Program) -> Rows {
+        use crate::program::Statement;
+        let mut rows = Rows { defining: [[0; 4]; 32], using: [[0; 4]; 32] };
+        for (at, statement) in program.statements().iter().enumerate() {
+            let at = at as u8;
+            match *statement {
+                Statement::Read(x) => put(&mut rows.defining[usize::from(x)], at),
+                Statement::Write(x) => put(&mut rows.using[usize::from(x)], at),
+                Statement::Branch { tested, .. } => put(&mut rows.using[usize::from(tested)], at),
+                Statement::Skip => {}
+                Statement::Assign(x, right) => {
+                    put(&mut rows.defining[usize::from(x)], at);
+                    let (a, b) = operands(&right);
+                    for operand in [a, b] {
+                        if let Operand::Variable(y) = operand {
+                            put(&mut rows.using[usize::from(y)], at);
+                        }
+                    }
+                }
+            }
+        }
+        rows
+    }
+
+    /// Where no variable of an expression is defined.
+    pub fn transparent(&self, all: &Row, expression: &Expression) -> Row {
+        let (a, b) = operands(expression);
+        let mut row = *all;
+        for operand in [a, b] {
+            if let Operand::Variable(x) = operand {
+                row = without(&row, &self.defining[usize::from(x)]);
+            }
+        }
+        row
+    }
+}
+
+/// Both operands; the same twice where there is one.
+fn operands(expression: &Expression) -> (Operand, Operand) {
+    match *expression {
+        Expression::Single(a) => (a, a),
+        Expression::Pair(a, _, b) => (a, b),
+    }
+}
+
+/// The parts of a condition, as many as may be; all are counted.
+struct Parts {
+    parts: [Part; MOST_PARTS],
+    count: usize,
+}
+
+impl Parts {
+    fn add(&mut self, part: Part) -> usize {
+        if let Some(place) = self.parts.get_mut(self.count) {
+            *place = part;
+        }
+        self.count += 1;
+        self.count - 1
+    }
+
+    fn read(text: &[u8]) -> Result<Parts, u8> {
+        if text.len() > LONGEST_TEXT {
+            return Err(6);
+        }
+        let mut parts = Parts { parts: [Part::Atom(Atom::True); MOST_PARTS], count: 0 };
+        let mut cursor = Cursor::new(text);
+        parts.condition(&mut cursor).ok_or(7)?;
+        if !cursor.is_at_end() {
+            return Err(7);
+        }
+        if parts.count > MOST_PARTS {
+            return Err(8);
+        }
+        Ok(parts)
+    }
+
+    fn condition(&mut self, cursor: &mut Cursor<'_>) -> Option<usize> {
+        match cursor.peek() {
+            b'!' => {
+                cursor.pass();
+                let p = self.condition(cursor)?;
+                Some(self.add(Part::Not(p)))
+            }
+            b'(' => {
+                cursor.pass();
+                let p = self.condition(cursor)?;
+                cursor.byte(b' ')?;
+                let sign = cursor.peek();
+                cursor.pass();
+                cursor.byte(b' ')?;
+                let q = self.condition(cursor)?;
+                cursor.byte(b')')?;
+                match sign {
+                    b'&' => Some(self.add(Part::And(p, q))),
+                    b'|' => Some(self.add(Part::Or(p, q))),
+                    _ => None,
+                }
+            }
+            b'E' => {
+                cursor.pass();
+                self.paths(cursor, Quantifier::Some)
+            }
+            b'A' => {
+                cursor.pass();
+                self.paths(cursor, Quantifier::All)
+            }
+            _ => {
+                let atom = atom(cursor)?;
+                Some(self.add(Part::Atom(atom)))
+            }
+        }
+    }
+
+    fn paths(&mut self, cursor: &mut Cursor<'_>, quantifier: Quantifier) -> Option<usize> {
+        let letter = cursor.peek();
+        cursor.pass();
+        if letter == b'[' {
+            let p = self.condition(cursor)?;
+            cursor.byte(b' ')?;
+            let letter = cursor.peek();
+            cursor.pass();
+            cursor.byte(b' ')?;
+            let q = self.condition(cursor)?;
+            cursor.byte(b']')?;
+            let (direction, demand) = match letter {
+                b'U' => (Direction::Forward, Demand::Until(p, q)),
+                b'W' => (Direction::Forward, Demand::Weak(p, q)),
+                b'S' => (Direction::Backward, Demand::Until(p, q)),
+                b'B' => (Direction::Backward, Demand::Weak(p, q)),
+                _ => return None,
+            };
+            return Some(self.add(Part::Path(quantifier, direction, demand)));
+        }
+        if !b"XFGYRM".contains(&letter) {
+            return None;
+        }
+        cursor.byte(b' ')?;
+        let p = self.condition(cursor)?;
+        Some(self.add(match letter {
+            b'X' => Part::Next(quantifier, Direction::Forward, p),
+            b'Y' => Part::Next(quantifier, Direction::Backward, p),
+            b'F' => Part::Path(quantifier, Direction::Forward, Demand::Finally(p)),
+            b'R' => Part::Path(quantifier, Direction::Backward, Demand::Finally(p)),
+            b'G' => Part::Path(quantifier, Direction::Forward, Demand::Globally(p)),
+            _ => Part::Path(quantifier, Direction::Backward, Demand::Globally(p)),
+        }))
+    }
+}
+
+fn atom(cursor: &mut Cursor<'_>) -> Option<Atom> {
+    let atom = match cursor.peek() {
+        b't' => {
+            if cursor.word(b"true").is_some() {
+                return Some(Atom::True);
+            }
+            cursor.word(b"trans(")?;
+            Atom::Trans(cursor.expression()?)
+        }
+        b'f' => return cursor.word(b"false").map(|_| Atom::False),
+        b'e' => {
+            if cursor.word(b"entry").is_some() {
+                return Some(Atom::Entry);
+            }
+            return cursor.word(b"exit").map(|_| Atom::Exit);
+        }
+        b'n' => {
+            cursor.word(b"node(")?;
+            Atom::Node(cursor.number()?)
+        }
+        b's' => {
+            cursor.word(b"stmt(")?;
+            Atom::Stmt(cursor.statement()?)
+        }
+        b'd' => {
+            cursor.word(b"def(")?;
+            Atom::Def(cursor.variable()?)
+        }
+        b'u' => {
+            cursor.word(b"use(")?;
+            Atom::Use(cursor.variable()?)
+        }
+        _ => return None,
+    };
+    cursor.byte(b')')?;
+    Some(atom)
+}
+
+/// The statements at which an atom holds.
+fn atom_row(program: &Program, flow: &Flow, rows: &Rows, atom: &Atom) -> Row {
+    let mut row = [0; 4];
+    match atom {
+        Atom::True => row = flow.all,
+        Atom::False => {}
+        Atom::Entry => put(&mut row, 0),
+        Atom::Exit => put(&mut row, (flow.count - 1) as u8),
+        Atom::Node(n) => {
+            if (1..=flow.count as u32).contains(n) {
+                put(&mut row, (n - 1) as u8);
+            }
+        }
+        Atom::Stmt(wanted) => {
+            for (at, statement) in program.statements().iter().enumerate() {
+                if statement == wanted {
+                    put(&mut row, at as u8);
+                }
+            }
+        }
+        Atom::Def(x) => row = rows.defining[usize::from(*x)],
+        Atom::Use(x) => row = rows.using[usize::from(*x)],
+        Atom::Trans(e) => row = rows.transparent(&flow.all, e),
+    }
+    row
+}
+
+/// The statements at which an operator holds on paths: by E U and A U alone, since no path has `p W q` exactly
+/// where each has `!q` until neither.
+fn path_row(
+    flow: &Flow,
+    quantifier: Quantifier,
+    direction: Direction,
+    p: &Row,
+    q: &Row,
+    weak: bool,
+) -> Row {
+    let all = &flow.all;
+    let (not_q, neither) = (without(all, q), without(&without(all, p), q));
+    match (quantifier, weak) {
+        (Quantifier::Some, false) => flow.some_until(direction, p, q),
+        (Quantifier::All, false) => flow.all_until(direction, p, q),
+        (Quantifier::Some, true) => without(all, &flow.all_until(direction, &not_q, &neither)),
+        (Quantifier::All, true) => without(all, &flow.some_until(direction, &not_q, &neither)),
+    }
+}
+
+/// The call: fills the table; the number of parts, of satisfying statements and the first of these, or the
+/// refusal, 1, 2 to 5 or 6 to 8.
+pub fn tabulate(
+    program: &[u8],
+    condition: &[u8],
+    table: &mut [u64],
+) -> Result<(u32, u32, u32), u8> {
+    if table.len() < TABLE_WORDS {
+        return Err(1);
+    }
+    let program = Program::read(program)?;
+    let parts = Parts::read(condition)?;
+    let flow = Flow::new(&program);
+    let rows = Rows::new(&program);
+    let none = [0; 4];
+    let mut done = [none; MOST_PARTS];
+    for k in 0..parts.count {
+        let row = match parts.parts[k] {
+            Part::Atom(atom) => atom_row(&program, &flow, &rows, &atom),
+            Part::Not(p) => without(&flow.all, &done[p]),
+            Part::And(p, q) => and(&done[p], &done[q]),
+            Part::Or(p, q) => or(&done[p], &done[q]),
+            Part::Next(Quantifier::Some, direction, p) => flow.some_next(direction, &done[p]),
+            Part::Next(Quantifier::All, direction, p) => {
+                let others = without(&flow.all, &done[p]);
+                without(&flow.all, &flow.some_next(direction, &others))
+            }
+            Part::Path(quantifier, direction, demand) => {
+                let (p, q, weak) = match demand {
+                    Demand::Finally(p) => (&flow.all, &done[p], false),
+                    Demand::Globally(p) => (&done[p], &none, true),
+                    Demand::Until(p, q) => (&done[p], &done[q], false),
+                    Demand::Weak(p, q) => (&done[p], &done[q], true),
+                };
+                path_row(&flow, quantifier, direction, p, q, weak)
+            }
+        };
+        done[k] = row;
+        table[4 * k..4 * k + 4].copy_from_slice(&row);
+    }
+    let whole = done[parts.count - 1];
+    let satisfied = whole.iter().map(|word| word.count_ones()).sum();
+    let first = (0..4)
+        .find(|&word| whole[word] != 0)
+        .map_or(0, |word| 64 * word as u32 + whole[word].trailing_zeros() + 1);
+    Ok((parts.count as u32, satisfied, first))
+}
