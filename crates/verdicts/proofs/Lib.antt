@@ -1,4 +1,5 @@
 pub mod Rows
+pub mod Memory
 pub mod Marks
 pub mod Lists
 pub mod Made

@@ -24,7 +24,7 @@ use Rattle.marks.specs.Marks.{ValidMark}
 use Rattle.marks.specs.declared.Mark.{Mark}
 use Rattle.rewriting.specs.Rewriting.{published}
 use Rattle.rewriting.proofs.Published.{published-parts, published-taken}
-use Rattle.verdicts.specs.Judging.{SmallTaken, RowOf}
+use Rattle.verdicts.specs.Judging.{SmallTaken, RowOf, RowFor}
 
 -- what was put at the front of the bytes stands there
 pub put-front : {o w q : List ℕ} {k : ℕ} → Put o 0 w q k → length w ≤ length o → take k q ≡ w
@@ -44,8 +44,7 @@ published-small m v t e =
     let n = published-parts m in
     record { c = published m; taken = subst (λ (s : List ℕ). Taken s (published m)) (sym e) (published-taken m v); small = omega arith }
 
-pub published-labelled : (m : Mark) → ValidMark m → (t : List ℕ) → t ≡ spellCondition (published m) → {P : List Statement} {r : List ℕ} → RowOf P t r
-    → Labelled (length P) (member r) (Sat P (published m)) × (length r ≡ 4)
+pub published-labelled : (m : Mark) → ValidMark m → (t : List ℕ) → t ≡ spellCondition (published m) → {P : List Statement} {r : List ℕ} → RowOf P t r → RowFor P m r
 unfolding published-small
 published-labelled m v t e r = (r .labelled (published m) (published-small m v t e .taken), r .room)
 

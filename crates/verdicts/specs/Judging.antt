@@ -1,10 +1,11 @@
 -- What the contracts of the functions that judge a mark say. No sentence of document 01 stands here.
 use mathlib.Core.Path.{_≡_}
 use mathlib.Core.Bool.{true}
-use mathlib.Core.List.{List}
+use mathlib.Core.List.{List, []}
 use mathlib.Core.Logic.{_↔_}
 use Prim.Native.Nat.{ℕ, _+_, _*_, _≤_, _<_}
 use lib.ListN.{length, getD}
+use Rattle.language.specs.declared.Operand.the-variants.{Variable, Constant}
 use Rattle.language.specs.declared.Statement.{Statement}
 use Rattle.program.specs.Program.{most}
 use Rattle.program.specs.Reading.{statements, Held}
@@ -17,8 +18,11 @@ use Rattle.condition.specs.Condition.{Condition, parts}
 use Rattle.condition.specs.Reading.{Taken}
 use Rattle.condition.specs.Truth.{Sat}
 use Rattle.table.specs.Table.{part-words}
+use Rattle.marks.specs.Marks.{ValidMark}
 use Rattle.marks.specs.declared.Mark.{Mark}
+use Rattle.marks.specs.declared.Mark.the-variants.{Rm, Rpl}
 use Rattle.marks.specs.Reading as marks
+use Rattle.rewriting.specs.Rewriting.{published}
 use Rattle.rewriting.specs.Verdicts.{Named, Verdicts, acceptedCount, Rewritten}
 use Rattle.verdicts.specs.declared.Rewriting.{Rewriting}
 
@@ -42,6 +46,26 @@ pub record SmallTaken (t : List ℕ) : Type 0 where
 pub record RowOf (P : List Statement) (t row : List ℕ) : Type 0 where
   pub room : length row ≡ part-words
   pub labelled : (c : Condition) → Taken t c → Labelled (length P) (member row) (Sat P c)
+
+-- the row has the places of P at which the mark's published condition is true
+abbrev pub RowFor : List Statement → Mark → List ℕ → Type 0
+RowFor P m row = Labelled (length P) (member row) (Sat P (published m)) × (length row ≡ part-words)
+
+-- a number for a valid mark's published condition: those of different conditions differ, and none is 0
+abbrev pub keyOf : Mark → ℕ
+keyOf (Rm n x e) = x + 128
+keyOf (Rpl n x (Variable y)) = x + 32 + 128 * y
+keyOf (Rpl n x (Constant k)) = x + 64 + 128 * k
+
+-- the most rows that are remembered, the code's SLOTS
+abbrev pub slots : ℕ
+slots = 251
+
+-- a row beside the key of a valid mark is that of its published condition
+pub record Remembers (P : List Statement) (keys : List ℕ) (rows : List (List ℕ)) : Type 0 where
+  pub many-keys : length keys ≡ slots
+  pub many-rows : length rows ≡ slots
+  pub right : (i : ℕ) → i < slots → (m : Mark) → ValidMark m → getD keys i 0 ≡ keyOf m → RowFor P m (getD rows i [])
 
 -- the row has the places of the statements that the marks name
 pub record NamedIn (row : List ℕ) (ms : List Mark) : Type 0 where

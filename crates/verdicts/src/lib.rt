@@ -1,20 +1,17 @@
 // Marks judged on a program, and the program with the accepted ones made.
 ghost use mathlib.Core.Path.{_≡_};
 ghost use mathlib.Core.List.{List, _∷_};
-ghost use Prim.Native.Nat.{_≤_};
-ghost use lib.ListN.{length};
+ghost use Prim.Native.Nat.{ℕ, _≤_, _<_};
+ghost use lib.ListN.{length, getD};
 ghost use Rattle.program.specs.Reading.{statements, Held};
 ghost use Rattle.marks.specs.Reading.{most, Taken};
-ghost use Rattle.bits.specs.Row.{member};
-ghost use Rattle.labelling.specs.Labels.{Labelled};
-ghost use Rattle.condition.specs.Truth.{Sat};
 ghost use Rattle.marks.specs.Marks.{ValidMark};
 ghost use Rattle.marks.specs.declared.Mark.{Mark as MarkOf};
-ghost use Rattle.rewriting.specs.Rewriting.{published};
 ghost use Rattle.rewriting.specs.Published.{published-room};
 ghost use Rattle.rewriting.specs.Verdicts.{Judged};
-ghost use Rattle.verdicts.specs.Judging.{Ready, published-words, SmallTaken, RowOf, NamedIn, SomeTaken, VerdictsOf, SomeJudged, RewritingOf};
+ghost use Rattle.verdicts.specs.Judging.{Ready, published-words, SmallTaken, RowOf, RowFor, keyOf, slots, Remembers, NamedIn, SomeTaken, VerdictsOf, SomeJudged, RewritingOf};
 use flow::Flow;
+use language::Operand;
 use marks::Mark;
 use marks::read::MarkRead;
 use program::Entry;
@@ -67,18 +64,77 @@ fn row_of(text: &[u8], p: Program, flow: Flow) -> [u64; WORDS]
 fn published_row(m: Mark, p: Program, flow: Flow) -> [u64; WORDS]
     requires { ⌜ Ready p flow ⌝ }
     requires { ⌜ ValidMark m ⌝ }
-    ensures { λ r. ⌜ Labelled (length (statements p)) (member r) (Sat (statements p) (published m)) × (length r ≡ 4) ⌝ }
+    ensures { λ r. ⌜ RowFor (statements p) m r ⌝ }
 {
     let mut text = blank_text();
     let end = rewriting::write_published(m, &mut text);
     row_of(&text[..end], p, flow)
 }
 
+// The most rows that are remembered: a prime, so that the keys spread.
+const SLOTS: usize = 251;
+
+fn blank_keys() -> [u64; SLOTS]
+    ensures { λ r. ⌜ (length r ≡ slots) × ((i : ℕ) → i < slots → getD r i 0 ≡ 0) ⌝ }
+{
+    [0; SLOTS]
+}
+
+fn blank_memory() -> [[u64; WORDS]; SLOTS]
+    ensures { λ r. ⌜ length r ≡ slots ⌝ }
+{
+    [[0; WORDS]; SLOTS]
+}
+
+// The key of the mark's published condition.
+fn key_of(m: Mark) -> u64
+    ensures { λ r. ⌜ r ≡ keyOf m ⌝ }
+{
+    match m {
+        Mark::Rm(_, x, _) => (x as u64) + 128,
+        Mark::Rpl(_, x, a) => match a {
+            Operand::Variable(y) => (x as u64) + 32 + 128 * (y as u64),
+            Operand::Constant(n) => (x as u64) + 64 + 128 * (n as u64),
+        },
+    }
+}
+
+// The same as `published_row`: equal conditions are labelled once, unless another takes the slot between.
+fn remembered_row(
+    m: Mark,
+    p: Program,
+    flow: Flow,
+    keys: &mut [u64],
+    rows: &mut [[u64; WORDS]],
+) -> [u64; WORDS]
+    requires { ⌜ Ready p flow ⌝ }
+    requires { ⌜ ValidMark m × Remembers (statements p) (now keys) (now rows) ⌝ }
+    ensures { λ r. ⌜ RowFor (statements p) m r × Remembers (statements p) (now (keys .exit)) (now (rows .exit)) ⌝ }
+{
+    let key = key_of(m);
+    let slot = (key % (SLOTS as u64)) as usize;
+    if keys[slot] == key {
+        return rows[slot];
+    }
+    let row = published_row(m, p, flow);
+    keys[slot] = key;
+    rows[slot] = row;
+    row
+}
+
 // The verdict of a mark; `named` are the places that the earlier lines name.
-fn verdict_of(m: Mark, p: Program, flow: Flow, named: &[u64]) -> Verdict
+fn verdict_of(
+    m: Mark,
+    p: Program,
+    flow: Flow,
+    named: &[u64],
+    keys: &mut [u64],
+    rows: &mut [[u64; WORDS]],
+) -> Verdict
     requires { ⌜ Ready p flow ⌝ }
     requires { ⌜ ValidMark m × (length (now named) ≡ 4) ⌝ }
-    ensures { λ r. ⌜ ((earlier : List MarkOf) → NamedIn (now (named .entry)) earlier → Judged (statements p) earlier m r) ⌝ }
+    requires { ⌜ Remembers (statements p) (now keys) (now rows) ⌝ }
+    ensures { λ r. ⌜ ((earlier : List MarkOf) → NamedIn (now (named .entry)) earlier → Judged (statements p) earlier m r) × Remembers (statements p) (now (keys .exit)) (now (rows .exit)) ⌝ }
 {
     let n = rewriting::statement_of(m);
     if n < 1 {
@@ -96,7 +152,7 @@ fn verdict_of(m: Mark, p: Program, flow: Flow, named: &[u64]) -> Verdict
     if !rewriting::fits(m, i) {
         return Verdict::Unfit;
     }
-    let row = published_row(m, p, flow);
+    let row = remembered_row(m, p, flow, keys, rows);
     if !bits::contains(&row, place) {
         return Verdict::Unmet;
     }
@@ -127,13 +183,15 @@ pub fn judge(marks: &[u8], p: Program, flow: Flow, verdicts: &mut [u8])
 {
     let mut named = blank_row();
     bits::clear(&mut named);
+    let mut keys = blank_keys();
+    let mut rows = blank_memory();
     let mut j: usize = 0;
     let mut at: usize = 0;
     while at < marks.len() {
         let MarkRead::Found(m, k) = marks::read::line(marks, at) else {
             return;
         };
-        let v = verdict_of(m, p, flow, &named);
+        let v = verdict_of(m, p, flow, &named, &mut keys, &mut rows);
         verdicts[j] = rewriting::number_of(v);
         note(m, &mut named);
         j += 1;

@@ -1,46 +1,49 @@
-use borrow.Author.Needs.{needs}
-use mathlib.Core.Path.{_≡_, refl, _∙_}
 use mathlib.Core.List.{List}
+use mathlib.Core.Path.{_≡_, refl, _∙_}
 use Prim.Native.Nat.{_-_}
 use native.Mathlib.Omega.{arith}
+use borrow.Author.Needs.{needs}
 use lib.ListN.{length, length-set}
-use Rattle.program.specs.Reading.{statements}
-use Rattle.marks.specs.Reading.{Taken}
-use Rattle.marks.specs.declared.Mark.{Mark}
+use Rattle.verdicts.proofs.Memory.{remembers-none}
 use Rattle.verdicts.proofs.Lists.{JudgedSoFar, judged-none, never-misspelled, line-below, judged-more, judged-all}
+use Rattle.verdicts.specs.Judging.{Remembers}
 use Rattle.marks.proofs.Walk.{line-of, line-further}
+use Rattle.marks.specs.declared.Mark.{Mark}
+use Rattle.marks.specs.Reading.{Taken}
+use Rattle.program.specs.Reading.{statements}
 use Rattle.verdicts.proofs.judge.Statement.{statement}
 use Rattle.verdicts.proofs.judge.Tie as tie
 
 abbrev Inv-loop : tie.InvT-loop
-Inv-loop marks p flow verdicts₀ named₀ j₀ at₀ verdicts named j at =
-    (length verdicts ≡ length verdicts₀) × (length named ≡ 4) × ((ms : List Mark) → Taken marks ms → JudgedSoFar (statements p) marks ms verdicts₀ verdicts named j at)
+Inv-loop marks p flow verdicts₀ named₀ keys₀ rows₀ j₀ at₀ verdicts named keys rows j at =
+    (length verdicts ≡ length verdicts₀) × (length named ≡ 4) × ((ms : List Mark) → Taken marks ms → JudgedSoFar (statements p) marks ms verdicts₀ verdicts named j at) × Remembers (statements p) keys rows
 
 abbrev μ-loop : tie.MeasureT-loop
-μ-loop marks p flow verdicts₀ named₀ j₀ at₀ verdicts named j at = length marks - at
+μ-loop marks p flow verdicts₀ named₀ keys₀ rows₀ j₀ at₀ verdicts named keys rows j at = length marks - at
 
 loop-holds : tie.Need-loop-holds Inv-loop μ-loop
-loop-holds c = (refl, omega (arith, c .before .clear .kept .0, c .before .before .before .blank-row .ensures), λ ms t. judged-none _ (t .spells) (c .before .clear .ensures))
+loop-holds c = (refl, omega (arith, c .before .before .before .clear .kept .0, c .before .before .before .before .before .blank-row .ensures), (λ ms t. judged-none _ (t .spells) (c .before .before .before .clear .ensures)), remembers-none (c .before .blank-keys .ensures) (c .blank-memory .ensures))
 
 returns : tie.Need-returns Inv-loop μ-loop
 returns c = λ ms t. absurd (never-misspelled (c .before .before .before .before .loop .inv .2 ms t .begins) (c .before .before .before .loop-test .taken) (c .enum-told .given .1) (c .before .before .line .ensures))
 
 verdict-of-requires : tie.Need-verdict-of-requires Inv-loop μ-loop
-verdict-of-requires c κs = (c .before .before .before .before .before .before .before .before .before .before .before .before .before .pre .0, (line-of _ _ (c .before .before .m .given .1) (c .before .before .before .before .line .ensures) .valid, c .before .before .before .before .before .before .loop .inv .1))
+verdict-of-requires c κs = (c .before .before .before .before .before .before .before .before .before .before .before .before .before .before .before .before .before .pre .0, ((line-of _ _ (c .before .before .before .before .m .given .1) (c .before .before .before .before .before .before .line .ensures) .valid, c .before .before .before .before .before .before .before .before .loop .inv .1), c .before .before .before .before .before .before .before .before .loop .inv .3))
 
 slice-write-verdicts : tie.Need-slice-write-verdicts Inv-loop μ-loop
-slice-write-verdicts c = omega (arith, c .before .before .before .before .before .before .before .before .loop .inv .0, c .before .before .before .before .before .before .before .before .before .before .before .before .before .before .before .pre .1 .1, line-below (c .before .before .before .before .before .before .before .before .loop .inv .2 (c .before .before .before .before .before .before .before .before .before .before .before .before .before .before .before .pre .1 .0 .ms) (c .before .before .before .before .before .before .before .before .before .before .before .before .before .before .before .pre .1 .0 .taken) .begins) (c .before .before .before .before .before .before .before .before .before .before .before .before .before .before .before .pre .1 .0 .taken) (c .before .before .before .before .m .given .1) (c .before .before .before .before .before .before .line .ensures))
+slice-write-verdicts c = let t = c .before .before .before .before .before .before .before .before .before .before .before .before .before .before .before .before .before .before .before .before .before .pre .1 .0 in omega (arith, c .before .before .before .before .before .before .before .before .before .before .before .before .loop .inv .0, c .before .before .before .before .before .before .before .before .before .before .before .before .before .before .before .before .before .before .before .before .before .pre .1 .1, line-below (c .before .before .before .before .before .before .before .before .before .before .before .before .loop .inv .2 (t .ms) (t .taken) .begins) (t .taken) (c .before .before .before .before .before .before .before .before .m .given .1) (c .before .before .before .before .before .before .before .before .before .before .line .ensures))
 
 add-j : tie.Need-add-j Inv-loop μ-loop
-add-j c = omega (arith, line-below (c .before .before .before .before .before .before .before .before .before .before .before .loop .inv .2 (c .before .before .before .before .before .before .before .before .before .before .before .before .before .before .before .before .before .before .pre .1 .0 .ms) (c .before .before .before .before .before .before .before .before .before .before .before .before .before .before .before .before .before .before .pre .1 .0 .taken) .begins) (c .before .before .before .before .before .before .before .before .before .before .before .before .before .before .before .before .before .before .pre .1 .0 .taken) (c .before .before .before .before .before .before .before .m .given .1) (c .before .before .before .before .before .before .before .before .before .line .ensures))
+add-j c = let t = c .before .before .before .before .before .before .before .before .before .before .before .before .before .before .before .before .before .before .before .before .before .before .before .before .pre .1 .0 in omega (arith, line-below (c .before .before .before .before .before .before .before .before .before .before .before .before .before .before .before .loop .inv .2 (t .ms) (t .taken) .begins) (t .taken) (c .before .before .before .before .before .before .before .before .before .before .before .m .given .1) (c .before .before .before .before .before .before .before .before .before .before .before .before .before .line .ensures))
 
 loop-less : tie.Need-loop-less Inv-loop μ-loop
-loop-less c = line-further _ _ (c .before .before .before .before .before .before .before .m .given .1) (c .before .before .before .before .before .before .before .before .before .line .ensures)
+loop-less c = line-further _ _ (c .before .before .before .before .before .before .before .before .before .before .before .m .given .1) (c .before .before .before .before .before .before .before .before .before .before .before .before .before .line .ensures)
 
 loop-again : tie.Need-loop-again Inv-loop μ-loop
 loop-again c =
-    let i = c .before .before .before .before .before .before .before .before .before .before .before .loop .inv in
-    (length-set (c .before .before .before .before .before .before .before .before .before .before .before .loop .verdicts) (c .before .before .before .before .before .before .before .before .before .before .before .loop .j) (c .before .before .before .number-of .result) ∙ i .0, omega (arith, c .before .note .kept, i .1), λ ms t. judged-more (i .2 ms t) (c .before .before .before .before .before .before .before .m .given .1) (c .before .before .before .before .before .before .before .before .before .line .ensures) (c .before .before .before .before .verdict-of .result) _ (c .before .before .before .number-of .ensures) (c .before .before .before .before .verdict-of .ensures) (c .before .note .ensures) (slice-write-verdicts (c .before .before .before)))
+    let l = c .before .before .before .before .before .before .before .before .before .before .before .before .before .before .before .loop in
+    let v = c .before .before .before .before .before .before .verdict-of in
+    (length-set (l .verdicts) (l .j) (c .before .before .before .number-of .result) ∙ l .inv .0, omega (arith, c .before .note .kept, l .inv .1), (λ ms t. judged-more (l .inv .2 ms t) (c .before .before .before .before .before .before .before .before .before .before .before .m .given .1) (c .before .before .before .before .before .before .before .before .before .before .before .before .before .line .ensures) (v .result) _ (c .before .before .before .number-of .ensures) (v .ensures .0) (c .before .note .ensures) (slice-write-verdicts (c .before .before .before))), v .ensures .1)
 
 same-length-2 : tie.Need-same-length-2 Inv-loop μ-loop
 same-length-2 c = c .before .loop .inv .0
@@ -57,12 +60,16 @@ judge-spec =
     (λ c κs. search needs)
     (λ c. search needs)
     (λ c κs. search needs)
+    (λ c κs. search needs)
+    (λ c κs. search needs)
     loop-holds
     (λ c κs. search needs)
     (λ c. search needs)
     (λ c. search needs)
     (λ c. search needs)
     returns
+    (λ c. search needs)
+    (λ c. search needs)
     (λ c. search needs)
     verdict-of-requires
     (λ c κs. search needs)
