@@ -120,3 +120,18 @@ pub fn marks_for(program: &[u8]) -> Vec<u8> {
     let list: Vec<Mark> = statements.iter().enumerate().map(mark).collect();
     marks::text(&list)
 }
+
+/// A mark for each statement that uses a variable, no two of which have the same condition.
+pub fn different_marks_for(program: &[u8]) -> Vec<u8> {
+    let program = Program::read(program).expect("the program is taken");
+    let mark = |(at, statement): (usize, &Statement)| {
+        let variable = (0..32).find(|&x| statement.uses(x))?;
+        let a = match statement {
+            Statement::Assign(..) => Operand::Constant(at as u32),
+            _ => Operand::Variable((at / 8) as u8),
+        };
+        Some(Mark { number: at as u32 + 1, variable, kind: Kind::Replace(a) })
+    };
+    let list: Vec<Mark> = program.statements().iter().enumerate().filter_map(mark).collect();
+    marks::text(&list)
+}

@@ -4,7 +4,8 @@
 mod inputs;
 mod time;
 
-use inputs::{atoms_condition, binary_condition, marks_for, text, unary_condition, OPERATORS};
+use inputs::{atoms_condition, binary_condition, text, unary_condition, OPERATORS};
+use inputs::{different_marks_for, marks_for};
 use oracle::tuned;
 use rewrites::{judge, run, tabulate, MOST_STEPS, TABLE_WORDS, TEXT_BYTES, VERDICT_BYTES};
 use std::fs;
@@ -219,49 +220,57 @@ fn print_table_growth(worst: &mut Worst) {
 
 // Marks
 
+fn time_judging(program: &[u8], marks: &[u8]) -> [f64; 3] {
+    let (mut verdicts, mut new) = ([0; VERDICT_BYTES], [0; TEXT_BYTES]);
+    let (mut verdicts_2, mut new_2) = (verdicts, new);
+    let (mut verdicts_3, mut new_3) = (verdicts, new);
+    let times = medians(
+        TIMES,
+        [
+            &mut || judge(program, marks, &mut verdicts, &mut new).is_ok(),
+            &mut || tuned::judge(program, marks, &mut verdicts_2, &mut new_2).is_ok(),
+            &mut || tuned::judge_by_labels(program, marks, &mut verdicts_3, &mut new_3).is_ok(),
+        ],
+    );
+    assert!(verdicts == verdicts_2 && verdicts == verdicts_3);
+    assert!(new == new_2 && new == new_3);
+    times
+}
+
 fn print_judging(worst: &mut Worst) {
     println!(
-        "\nJudging a mark for each statement, in microseconds; tuned by a search from each mark's statement,\n\
-         and by labelling all statements for each mark"
+        "\nJudging, in microseconds; tuned by a search from each mark's statement, and by labelling all statements for\n\
+         each mark. A mark for each statement; then such that no two have the same condition"
     );
     println!(
-        "{:<36} {:>8} {:>10} {:>10} {:>7} {:>10} {:>7}",
+        "{:<54} {:>8} {:>10} {:>10} {:>7} {:>10} {:>7}",
         "", "accepted", "ours", "search", "ratio", "labels", "ratio"
     );
+    let lists: [(&str, fn(&[u8]) -> Vec<u8>); 2] =
+        [("", marks_for), ("different ", different_marks_for)];
     for flow in &FLOWS {
-        for size in SIZES {
-            let program = (flow.program)(size);
-            let marks = marks_for(&program);
-            let (mut verdicts, mut new) = ([0; VERDICT_BYTES], [0; TEXT_BYTES]);
-            let (mut verdicts_2, mut new_2) = (verdicts, new);
-            let (mut verdicts_3, mut new_3) = (verdicts, new);
-            let [ours, search, labels] = medians(
-                TIMES,
-                [
-                    &mut || judge(&program, &marks, &mut verdicts, &mut new).is_ok(),
-                    &mut || tuned::judge(&program, &marks, &mut verdicts_2, &mut new_2).is_ok(),
-                    &mut || {
-                        tuned::judge_by_labels(&program, &marks, &mut verdicts_3, &mut new_3)
-                            .is_ok()
-                    },
-                ],
-            );
-            assert!(verdicts == verdicts_2 && verdicts == verdicts_3);
-            assert!(new == new_2 && new == new_3);
-            let answer = judge(&program, &marks, &mut verdicts, &mut new);
-            let accepted = answer.map_or(0, |answer| answer.accepted);
-            let name = format!("{}, {} marks", flow.name, size);
-            println!(
-                "{:<36} {:>8} {:>10.2} {:>10.2} {:>7.2} {:>10.2} {:>7.2}",
-                name,
-                accepted,
-                ours * 1e6,
-                search * 1e6,
-                ours / search,
-                labels * 1e6,
-                ours / labels
-            );
-            worst.meet(flow.is_ordinary, ours / search, format!("judge, {}", name));
+        for (kind, list) in lists {
+            for size in SIZES {
+                let program = (flow.program)(size);
+                let marks = list(&program);
+                let [ours, search, labels] = time_judging(&program, &marks);
+                let answer = judge(&program, &marks, &mut [0; VERDICT_BYTES], &mut [0; TEXT_BYTES]);
+                let answer = answer.expect("the list is taken");
+                let name =
+                    format!("{}, {} {}marks, {} statements", flow.name, answer.marks, kind, size);
+                println!(
+                    "{:<54} {:>8} {:>10.2} {:>10.2} {:>7.2} {:>10.2} {:>7.2}",
+                    name,
+                    answer.accepted,
+                    ours * 1e6,
+                    search * 1e6,
+                    ours / search,
+                    labels * 1e6,
+                    ours / labels
+                );
+                let is_ordinary = flow.is_ordinary && kind.is_empty();
+                worst.meet(is_ordinary, ours / search, format!("judge, {}", name));
+            }
         }
     }
 }

@@ -414,6 +414,19 @@ fn fitting(random: &mut Random, program: &Program, number: u32) -> Vec<Mark> {
     marks
 }
 
+/// A mark that fits a statement, and replaces a variable by anything. Lists of such marks have many different
+/// conditions, and some of them again.
+fn fitting_by_any(random: &mut Random, program: &Program, number: u32) -> Option<Mark> {
+    let statement = program.statement(number)?;
+    let used: Vec<u8> = (0..VARIABLES).filter(|&x| statement.uses(x)).collect();
+    let by = match statement {
+        Statement::Assign(..) if random.chance(60) => Operand::Constant(constant(random)),
+        _ => Operand::Variable(random.below(usize::from(VARIABLES)) as u8),
+    };
+    let kind = Kind::Replace(by);
+    (!used.is_empty()).then(|| Mark { number, variable: random.pick(&used), kind })
+}
+
 /// Any mark at all for this statement number.
 fn any_mark(random: &mut Random, program: &Program, number: u32) -> Mark {
     let kind = match expression_near(random, program) {
@@ -423,16 +436,20 @@ fn any_mark(random: &mut Random, program: &Program, number: u32) -> Mark {
     Mark { number, variable: variable_near(random, program), kind }
 }
 
-/// A list of marks for a program. Most are such that they are accepted by themselves, if there are such;
-/// the others fit only, name a statement again, name one that the program lacks, or are any.
+/// A list of marks for a program. In most lists most are such that they are accepted by themselves, if there are
+/// such; the others fit only, name a statement again, name one that the program lacks, or are any.
 pub fn marks(random: &mut Random, program: &Program, count: usize) -> Vec<Mark> {
     let judge = Judge::new(program);
     let mut unnamed: Vec<u32> = (1..=program.count()).collect();
     random.shuffle(&mut unnamed);
     let mut list: Vec<Mark> = Vec::with_capacity(count);
+    let is_varied = random.chance(15);
     while list.len() < count {
         let somewhere = 1 + random.below(program.count() as usize) as u32;
         let mark = match random.below(100) {
+            0..=69 if is_varied => {
+                unnamed.pop().and_then(|number| fitting_by_any(random, program, number))
+            }
             0..=69 => loop {
                 let candidates = match unnamed.pop() {
                     Some(number) => fitting(random, program, number),
