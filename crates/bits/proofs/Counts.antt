@@ -48,6 +48,10 @@ pub count-one : (f : ℕ → Bool) (n : ℕ) → f n ≡ true → countBelow f (
 unfolding countBelow
 count-one f n e = rw (add-one n, e)
 
+pub count-none : (f : ℕ → Bool) (n : ℕ) → f n ≡ false → countBelow f (n + 1) ≡ countBelow f n
+unfolding countBelow
+count-none f n e = rw (add-one n, e) (omega arith)
+
 -- a set within another has no more members, and fewer where the other has one more
 module _ (f g : ℕ → Bool) where
   one-mono : (a b : Bool) → (a ≡ true → b ≡ true) → one a ≤ one b

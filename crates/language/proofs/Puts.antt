@@ -5,8 +5,8 @@ use Prim.Native.Nat.{ℕ, zero, suc, _+_, _≤_, _<_}
 use native.Mathlib.Omega.{arith}
 use native.Mathlib.Nat.{add-suc, suc-add}
 use native.Mathlib.Numerals.{add-one}
-use lib.ListN.{length, set, take, getD, length-append}
-use lib.Seq.{sets, length-sets, take-suc, length-take-le}
+use lib.ListN.{length, set, take, drop, getD, length-append}
+use lib.Seq.{sets, sets-eq, length-sets, take-suc, take-append-seam, length-take-le}
 use Rattle.language.specs.declared.Operand.{Operand}
 use Rattle.language.specs.declared.Operator.{Operator}
 use Rattle.language.specs.declared.Expression.{Expression}
@@ -35,6 +35,18 @@ module _ {o q u : List ℕ} {at k : ℕ} where
 
 pub front : (u v : List ℕ) (at n : ℕ) → at + length (u ++ v) ≤ n → at + length u ≤ n
 front u v at n h = omega (arith, length-append u v, h)
+
+-- what was put at the front of the bytes stands there
+pub put-front : {o w q : List ℕ} {k : ℕ} → Put o 0 w q k → length w ≤ length o → take k q ≡ w
+put-front {o = o} {w = w} {q = q} {k = k} p h =
+    let z : 0 + length w ≡ length w = omega arith in
+    let rest : w ++ drop (0 + length w) o ≡ w ++ drop (length w) o = ap (λ (n : ℕ). w ++ drop n o) z in
+    let e : q ≡ w ++ drop (length w) o = p .text ∙ sets-eq w o 0 (omega arith) ∙ rest in
+    let n : k ≡ length w = p .after ∙ z in
+    rw (e, n) (take-append-seam w (drop (length w) o))
+
+pub put-within : {o w q : List ℕ} {k : ℕ} → Put o 0 w q k → length w ≤ length o → k ≤ length q
+put-within {o = o} {w = w} p h = omega (arith, p .after, ap length (p .text) ∙ length-sets o 0 w)
 
 -- one byte more of a word
 pub sets-more : (w o : List ℕ) (at i : ℕ) → i < length w → set (sets o at (take i w)) (at + i) (getD w i 0) ≡ sets o at (take (i + 1) w)

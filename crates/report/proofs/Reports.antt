@@ -17,7 +17,7 @@ use Rattle.marks.specs.Reading.{Taken}
 use Rattle.marks.specs.declared.Mark.{Mark}
 use Rattle.marks.specs.declared.Refusal as marks-refusal
 use Rattle.marks.specs.declared.Refusal.the-variants as of-marks
-use Rattle.verdicts.proofs.Rows.{put-front, put-within}
+use Rattle.language.proofs.Puts.{put-front, put-within}
 use Rattle.rewrites.specs.Judge.{text-bytes, Room, Lent, JudgeRefused, JudgeFinished, JudgeAnswers}
 use Rattle.rewrites.specs.declared.JudgeAnswer.{JudgeAnswer}
 use Rattle.rewrites.specs.declared.JudgeAnswer.the-variants.{Refused, Finished}

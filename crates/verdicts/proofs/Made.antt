@@ -19,8 +19,8 @@ use Rattle.program.specs.Reading.{entry, statementIn, statements, Held}
 use Rattle.program.specs.declared.Entry.{Entry}
 use Rattle.program.specs.declared.Program.{Program}
 use Rattle.program.proofs.Held.{held, at-held, length-held}
-use Rattle.bits.specs.Row.{one, countBelow}
-use Rattle.bits.proofs.Counts.{count-le, count-one}
+use Rattle.bits.specs.Row.{countBelow}
+use Rattle.bits.proofs.Counts.{count-le, count-one, count-none}
 use Rattle.marks.specs.Marks.{names, Spells}
 use Rattle.marks.specs.Reading.{MarkLineRead, Taken}
 use Rattle.marks.specs.declared.Mark.{Mark}
@@ -33,10 +33,6 @@ use Rattle.rewriting.specs.declared.Verdict.the-variants.{Accepted}
 use Rattle.rewriting.proofs.Accepted.{accepted-judged}
 use Rattle.marks.proofs.Lists.{taken-unique}
 use Rattle.verdicts.specs.Judging.{SomeJudged}
-
-count-none : (f : ℕ → Bool) (n : ℕ) → f n ≡ false → countBelow f (n + 1) ≡ countBelow f n
-unfolding countBelow
-count-none f n e = rw (add-one n, e) (omega arith)
 
 -- a line before j names what it names
 pub named-earlier : (ms : List Mark) (i j : ℕ) → i < j → i < length ms → Named (take j ms) (names (markAt ms i))

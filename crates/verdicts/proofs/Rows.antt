@@ -1,11 +1,10 @@
 -- From a text that is taken as a condition to the row of the places at which it is true. Assumes nothing.
 use mathlib.Core.Path.{_≡_, refl, sym, ap, _∙_, subst}
-use mathlib.Core.List.{List, [], _++_}
+use mathlib.Core.List.{List}
 use Prim.Native.Nat.{ℕ, _+_, _-_, _*_, _≤_, _<_}
 use native.Mathlib.Omega.{arith}
-use lib.ListN.{length, take, drop, length-drop}
-use lib.Seq.{sets-eq, length-sets, take-append-seam, length-take-le}
-use Rattle.language.specs.Writing.{Put}
+use lib.ListN.{length, drop, length-drop}
+use lib.Seq.{length-take-le}
 use Rattle.language.specs.declared.Statement.{Statement}
 use Rattle.bits.specs.Row.{member}
 use Rattle.labelling.specs.Labels.{Labelled}
@@ -25,18 +24,6 @@ use Rattle.marks.specs.declared.Mark.{Mark}
 use Rattle.rewriting.specs.Rewriting.{published}
 use Rattle.rewriting.proofs.Published.{published-parts, published-taken}
 use Rattle.verdicts.specs.Judging.{SmallTaken, RowOf, RowFor}
-
--- what was put at the front of the bytes stands there
-pub put-front : {o w q : List ℕ} {k : ℕ} → Put o 0 w q k → length w ≤ length o → take k q ≡ w
-put-front {o = o} {w = w} {q = q} {k = k} p h =
-    let z : 0 + length w ≡ length w = omega arith in
-    let rest : w ++ drop (0 + length w) o ≡ w ++ drop (length w) o = ap (λ (n : ℕ). w ++ drop n o) z in
-    let e : q ≡ w ++ drop (length w) o = p .text ∙ sets-eq w o 0 (omega arith) ∙ rest in
-    let n : k ≡ length w = p .after ∙ z in
-    rw (e, n) (take-append-seam w (drop (length w) o))
-
-pub put-within : {o w q : List ℕ} {k : ℕ} → Put o 0 w q k → length w ≤ length o → k ≤ length q
-put-within {o = o} {w = w} p h = omega (arith, p .after, ap length (p .text) ∙ length-sets o 0 w)
 
 -- the text of a published condition is taken as it
 pub published-small : (m : Mark) → ValidMark m → (t : List ℕ) → t ≡ spellCondition (published m) → SmallTaken t

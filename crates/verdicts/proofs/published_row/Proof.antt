@@ -2,7 +2,8 @@ use mathlib.Core.Path.{sym}
 use native.Mathlib.Omega.{arith}
 use lib.Seq.{length-take-le}
 use Rattle.rewriting.proofs.Published.{published-short}
-use Rattle.verdicts.proofs.Rows.{put-front, put-within, published-small, published-labelled}
+use Rattle.verdicts.proofs.Rows.{published-small, published-labelled}
+use Rattle.language.proofs.Puts.{put-front, put-within}
 use borrow.Author.Needs.{needs}
 use Rattle.verdicts.proofs.published_row.Statement.{statement}
 use Rattle.verdicts.proofs.published_row.Tie as tie
