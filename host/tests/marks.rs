@@ -1315,63 +1315,22 @@ fn a_mark_that_fits_is_accepted_where_tabulate_shows_its_condition_true() {
     for _ in 0..2000 {
         let size = 3 + random.below(30);
         let program = generate::program(&mut random, size);
-        let marks = oracle::marks::text(&generate::marks(&mut random, &program, 12));
-        let (given, marks) = (shown(&program.text()), shown(&marks));
+        let marks = generate::marks(&mut random, &program, 12);
+        let given = program.to_string();
         let lines: Vec<&str> = given.lines().collect();
-        for mark in marks.lines() {
+        for mark in marks.iter().map(|mark| mark.to_string()) {
             let mut verdicts = [99; VERDICT_BYTES];
-            let list = text(&[mark]);
+            let list = text(&[&mark]);
             let answer = judge(given.as_bytes(), &list, &mut verdicts, &mut [0; TEXT_BYTES]);
             assert!(answer.is_ok(), "{}", mark);
             if matches!(verdicts[0], 11 | 13) {
                 continue;
             }
             let n = mark.split(':').next().and_then(|n| n.parse().ok()).expect("a number");
-            let holds = holds(&lines, &published(mark), n);
+            let holds = holds(&lines, &published(&mark), n);
             assert_eq!(verdicts[0], if holds { 0 } else { 14 }, "{}", mark);
             *(if holds { &mut met } else { &mut unmet }) += 1;
         }
     }
     assert!(met > 1000 && unmet > 1000, "{} {}", met, unmet);
-}
-
-/// Holds the library to the second implementation, with all that is lent, and tells the number of
-/// its answer.
-fn agrees(program: &[u8], marks: &[u8]) -> u8 {
-    let (mut verdicts, mut new) = ([0; VERDICT_BYTES], [0; TEXT_BYTES]);
-    let expected = match oracle::marks::judge(program, marks, &mut verdicts, &mut new) {
-        Err(number) => (number, unchanged(ROOM)),
-        Ok((count, _, bytes)) => {
-            (0, filled(ROOM, &verdicts[..count as usize], &new[..bytes as usize]))
-        }
-    };
-    let answer = lend(program, marks, ROOM);
-    let texts = || format!("{}\n{}", shown(program), String::from_utf8_lossy(marks));
-    assert_eq!(answer, expected, "{}", texts());
-    answer.0
-}
-
-#[test]
-fn every_edit_of_one_byte_of_a_list_is_answered_as_by_the_second_implementation() {
-    let good = text(&["4: mark(rpl, i2, 7)", "3: mark(rm, i2, i1 + 7)"]);
-    let (mut taken, mut refused) = (0, 0);
-    let mut edit = |at: usize, removed: usize, inserted: &[u8]| {
-        let edited = [&good[..at], inserted, &good[at + removed..]].concat();
-        match agrees(P.as_bytes(), &edited) {
-            0 => taken += 1,
-            _ => refused += 1,
-        }
-    };
-    for at in 0..=good.len() {
-        for byte in 0..=255 {
-            edit(at, 0, &[byte]);
-        }
-        if at < good.len() {
-            for byte in 0..=255 {
-                edit(at, 1, &[byte]);
-            }
-            edit(at, 1, &[]);
-        }
-    }
-    assert!(taken > 100 && refused > 10_000, "{} {}", taken, refused);
 }
