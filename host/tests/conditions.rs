@@ -3,7 +3,7 @@
 
 mod common;
 
-use common::{lines, shown, text, P};
+use common::{lines, refused_programs, shown, text, P};
 use rewrites::{raw, tabulate, Refusal, Tabulated, TABLE_WORDS};
 
 const ALL: u64 = u64::MAX;
@@ -637,20 +637,6 @@ fn a_table_under_256_words_is_refused_1() {
     for room in [256, 257, 1000] {
         assert_eq!(number(P.as_bytes(), b"exit", room), 0);
     }
-}
-
-/// Programs that are refused 2 to 5.
-fn refused_programs() -> Vec<(Vec<u8>, u8)> {
-    vec![
-        (b"rubbish".to_vec(), 2),
-        (P.as_bytes()[..P.len() - 1].to_vec(), 2),
-        (b"\n".to_vec(), 2),
-        (Vec::new(), 3),
-        (text(&["read i0"]), 3),
-        (text(&lines(257)), 3),
-        (text(&["read i0", "skip"]), 4),
-        (text(&["read i0", "if i0 goto 1 else 2", "write i0"]), 5),
-    ]
 }
 
 /// Conditions that are refused 6 to 8.

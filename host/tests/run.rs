@@ -3,13 +3,8 @@
 
 mod common;
 
-use common::{lines, shown, text, P};
+use common::{given, lines, shown, text, P};
 use rewrites::{raw, run, Outcome, Refusal};
-
-/// The given values: all different, none small.
-fn given() -> [u32; 32] {
-    std::array::from_fn(|x| 1000 + x as u32)
-}
 
 /// The given values with some of them replaced.
 fn given_but(changes: &[(usize, u32)]) -> [u32; 32] {
