@@ -9,7 +9,7 @@ mod common;
 mod coverage;
 mod lent;
 
-use common::P;
+use common::{option, P};
 use coverage::Tally;
 use lent::{Lent, Text};
 use oracle::condition::{self, Atom, Condition, Demand, Direction, Part, Quantifier};
@@ -18,17 +18,9 @@ use oracle::machine::{self, Outcome, Values};
 use oracle::marks::{self, Kind};
 use oracle::program::{Expression, Operand, Operator, Program, Statement};
 use rewrites::{raw, MOST_STEPS, TABLE_WORDS, TEXT_BYTES, VERDICT_BYTES};
-use std::env;
 
 const CASES: u64 = 100_000;
 const SEED: u64 = 1;
-
-fn option(name: &str, otherwise: u64) -> u64 {
-    match env::var(name) {
-        Ok(number) => number.parse().unwrap_or_else(|_| panic!("{name} is no number")),
-        Err(_) => otherwise,
-    }
-}
 
 /// The source of each case of a call, with the case's number.
 fn cases(call: &str) -> impl Iterator<Item = (u64, Random)> {

@@ -1,6 +1,7 @@
 //! What the tests share. Each test file uses a part of it.
 #![allow(dead_code)]
 
+use std::env;
 use std::path::{Path, PathBuf};
 use std::process::Command;
 
@@ -51,6 +52,14 @@ pub fn refused_programs() -> Vec<(Vec<u8>, u8)> {
         (text(&["read i0", "skip"]), 4),
         (text(&["read i0", "if i0 goto 1 else 2", "write i0"]), 5),
     ]
+}
+
+/// The number that an environment variable has, if it is set.
+pub fn option(name: &str, otherwise: u64) -> u64 {
+    match env::var(name) {
+        Ok(number) => number.parse().unwrap_or_else(|_| panic!("{name} is no number")),
+        Err(_) => otherwise,
+    }
 }
 
 /// The start of a text, for a message.
