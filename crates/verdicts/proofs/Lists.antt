@@ -13,7 +13,6 @@ use lib.Dec.{eqb}
 use lib.ListN.{length, getD, take, set, length-set}
 use lib.Seq.{take-suc, take-length, getD-set-same, getD-set-other}
 use Rattle.language.specs.declared.Statement.{Statement}
-use Rattle.program.specs.Program.{most}
 use Rattle.bits.specs.Row.{member}
 use Rattle.bits.proofs.Tests.{clash, or-case, or-left, or-right}
 use Rattle.marks.specs.Marks.{names, Spells}
@@ -23,9 +22,10 @@ use Rattle.marks.specs.declared.Mark.{Mark}
 use Rattle.marks.specs.declared.read.MarkRead.{MarkRead}
 use Rattle.marks.specs.declared.read.MarkRead.the-variants as markRead
 use Rattle.marks.proofs.Walk.{Begins, begins-first, line-mark, line-next, line-inside, line-found, text-line, text-done}
-use Rattle.rewriting.specs.Verdicts.{number, Named, Judged, markAt, Verdicts}
+use Rattle.rewriting.specs.Verdicts.{number, Inside, Named, Judged, markAt, Verdicts}
 use Rattle.rewriting.specs.declared.Verdict.{Verdict}
-use Rattle.verdicts.specs.Judging.{NamedIn, VerdictsOf}
+use Rattle.rewriting.specs.declared.Verdict.the-variants.{Accepted, Missing, Repeated, Unfit, Unmet}
+use Rattle.verdicts.specs.Judging.{NamedIn, Stands, VerdictsOf}
 
 -- the last of the marks names n, or one before
 named-last : (ms : List Mark) (m : Mark) (n : ℕ) → Named (ms ++ m ∷ []) n ↔ Named (m ∷ ms) n
@@ -36,30 +36,37 @@ named-last (o ∷ ms) m n = (
 )
 
 -- no line names a statement yet
-pub named-none : {row : List ℕ} → ((s : ℕ) → member row s ≡ false) → NamedIn row []
+pub named-none : {N : ℕ} {row : List ℕ} → ((s : ℕ) → member row s ≡ false) → NamedIn N row []
 named-none f = record { exact = λ s l. (λ e. clash e (f s), λ h. absurd h) }
 
 -- the row with one more place
 pub named-more : (row new : List ℕ) (m : Mark) (n : ℕ) → n ≡ names m → 1 ≤ n → ((s : ℕ) → member new s ≡ (member row s || eqb (n - 1) s))
-    → (earlier : List Mark) → NamedIn row earlier → NamedIn new (m ∷ earlier)
-named-more row new m n is low f earlier g = record { exact = λ s l. (there s l, back s l) }
+    → (N : ℕ) (earlier : List Mark) → NamedIn N row earlier → NamedIn N new (m ∷ earlier)
+named-more row new m n is low f N earlier g = record { exact = λ s l. (there s l, back s l) }
   where
-    there : (s : ℕ) → s < most → member new s ≡ true → Named (m ∷ earlier) (s + 1)
+    there : (s : ℕ) → s < N → member new s ≡ true → Named (m ∷ earlier) (s + 1)
     there s l e =
         ⊎-elim (λ a. inr (g .exact s l .0 a)) (λ a. let q = eqb-true (n - 1) s a in inl (omega (arith, is)))
         (or-case (member row s) (eqb (n - 1) s) (sym (f s) ∙ e))
 
-    back : (s : ℕ) → s < most → Named (m ∷ earlier) (s + 1) → member new s ≡ true
+    back : (s : ℕ) → s < N → Named (m ∷ earlier) (s + 1) → member new s ≡ true
     back s l h =
         f s ∙ ⊎-elim (λ a. or-right (member row s) (eqb (n - 1) s) (eq-eqb (n - 1) s (omega (arith, is)))) (λ a. or-left (member row s) (eqb (n - 1) s) (g .exact s l .1 a)) h
 
--- the row as it was, where the mark names no place of it
-pub named-same : {row : List ℕ} (m : Mark) → ((s : ℕ) → s < most → names m ≡ s + 1 → ⊥) → (earlier : List Mark) → NamedIn row earlier → NamedIn row (m ∷ earlier)
-named-same m f earlier g = record { exact = λ s l. (λ e. inr (g .exact s l .0 e), λ h. ⊎-elim (λ e. absurd (f s l e)) (g .exact s l .1) h) }
+-- the row as it was, where the mark names none of the N statements
+pub named-same : {row : List ℕ} (m : Mark) (N : ℕ) → (Inside N (names m) → ⊥) → (earlier : List Mark) → NamedIn N row earlier → NamedIn N row (m ∷ earlier)
+named-same m N f earlier g = record { exact = λ s l. (λ e. inr (g .exact s l .0 e), λ h. ⊎-elim (λ e. absurd (f (omega arith, omega arith))) (g .exact s l .1) h) }
+
+judged-inside : (P : List Statement) (earlier : List Mark) (m : Mark) (v : Verdict) → Judged P earlier m v → (Stands v → ⊥) → Inside (length P) (names m) → ⊥
+judged-inside P earlier m Accepted j f i = f tt
+judged-inside P earlier m Missing j f i = j i
+judged-inside P earlier m Repeated j f i = f tt
+judged-inside P earlier m Unfit j f i = f tt
+judged-inside P earlier m Unmet j f i = f tt
 
 pub record JudgedSoFar (P : List Statement) (t : List ℕ) (ms : List Mark) (old new row : List ℕ) (j at : ℕ) : Type 0 where
   pub begins : Begins t ms j at
-  pub named : NamedIn row (take j ms)
+  pub named : NamedIn (length P) row (take j ms)
   pub judged : (i : ℕ) → i < j → (v : Verdict) × Judged P (take i ms) (markAt ms i) v × (getD new i 0 ≡ number v)
   pub past : (i : ℕ) → j ≤ i → getD new i 0 ≡ getD old i 0
 
@@ -82,12 +89,12 @@ module _ {P : List Statement} {t : List ℕ} {ms : List Mark} {old new row : Lis
     next-take : take (j + 1) ms ≡ take j ms ++ m ∷ []
     next-take = rw (add-one, mark-is) (take-suc ms j _ (line-inside (s .begins) is l))
 
-    pub judged-more : (v : Verdict) (b : ℕ) → b ≡ number v → ((earlier : List Mark) → NamedIn row earlier → Judged P earlier m v) → {row′ : List ℕ}
-        → ((earlier : List Mark) → NamedIn row earlier → NamedIn row′ (m ∷ earlier)) → j < length new → JudgedSoFar P t ms old (set new j b) row′ (j + 1) k
+    pub judged-more : (v : Verdict) (b : ℕ) → b ≡ number v → ((earlier : List Mark) → NamedIn (length P) row earlier → Judged P earlier m v) → {row′ : List ℕ}
+        → ((earlier : List Mark) → ((Stands v → ⊥) → Inside (length P) (names m) → ⊥) → NamedIn (length P) row earlier → NamedIn (length P) row′ (m ∷ earlier)) → j < length new → JudgedSoFar P t ms old (set new j b) row′ (j + 1) k
     judged-more v b e f g h =
         record {
           begins = line-next (s .begins) is l;
-          named = record { exact = λ i u. let q = g (take j ms) (s .named) .exact i u in (λ a. rw next-take (named-last (take j ms) m (i + 1) .1 (q .0 a)), λ a. q .1 (named-last (take j ms) m (i + 1) .0 (rw next-take at a))) };
+          named = record { exact = λ i u. let q = g (take j ms) (judged-inside P (take j ms) m v (f (take j ms) (s .named))) (s .named) .exact i u in (λ a. rw next-take (named-last (take j ms) m (i + 1) .1 (q .0 a)), λ a. q .1 (named-last (take j ms) m (i + 1) .0 (rw next-take at a))) };
           judged = below-more (λ i. (w : Verdict) × Judged P (take i ms) (markAt ms i) w × (getD (set new j b) i 0 ≡ number w)) j
               (λ i u. let q = s .judged i u in (q .0, q .1, getD-set-other new j i b 0 (λ z. omega arith) ∙ q .2))
               (v, rw mark-is at (f (take j ms) (s .named)), getD-set-same new j b 0 h ∙ e);

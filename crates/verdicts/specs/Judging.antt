@@ -24,6 +24,8 @@ use Rattle.marks.specs.declared.Mark.the-variants.{Rm, Rpl}
 use Rattle.marks.specs.Reading as marks
 use Rattle.rewriting.specs.Rewriting.{published}
 use Rattle.rewriting.specs.Verdicts.{Named, Verdicts, acceptedCount, Rewritten}
+use Rattle.rewriting.specs.declared.Verdict.{Verdict}
+use Rattle.rewriting.specs.declared.Verdict.the-variants.{Accepted, Missing, Repeated, Unfit, Unmet}
 use Rattle.verdicts.specs.declared.Rewriting.{Rewriting}
 
 -- the words for the parts of a published condition, the code's PUBLISHED_WORDS
@@ -67,9 +69,17 @@ pub record Remembers (P : List Statement) (keys : List ℕ) (rows : List (List �
   pub many-rows : length rows ≡ slots
   pub right : (i : ℕ) → i < slots → (m : Mark) → ValidMark m → getD keys i 0 ≡ keyOf m → RowFor P m (getD rows i [])
 
--- the row has the places of the statements that the marks name
-pub record NamedIn (row : List ℕ) (ms : List Mark) : Type 0 where
-  pub exact : (s : ℕ) → s < most → (member row s ≡ true) ↔ Named ms (s + 1)
+-- the row has the places of the statements that the marks name, of n statements
+pub record NamedIn (n : ℕ) (row : List ℕ) (ms : List Mark) : Type 0 where
+  pub exact : (s : ℕ) → s < n → (member row s ≡ true) ↔ Named ms (s + 1)
+
+-- the verdict is one of a mark whose statement the program has
+abbrev pub Stands : Verdict → Type 0
+Stands Accepted = Unit
+Stands Missing = ⊥
+Stands Repeated = Unit
+Stands Unfit = Unit
+Stands Unmet = Unit
 
 -- the text is taken as a list of marks
 pub record SomeTaken (t : List ℕ) : Type 0 where

@@ -3,13 +3,15 @@ ghost use mathlib.Core.Path.{_≡_};
 ghost use mathlib.Core.List.{List, _∷_};
 ghost use Prim.Native.Nat.{ℕ, _≤_, _<_};
 ghost use lib.ListN.{length, getD};
-ghost use Rattle.program.specs.Reading.{statements, Held};
+ghost use Rattle.program.specs.Program.{most as statements-most};
+ghost use Rattle.program.specs.Reading.{Decides, statements, Held};
+ghost use Rattle.bits.specs.Row.{member};
 ghost use Rattle.marks.specs.Reading.{most, Taken};
-ghost use Rattle.marks.specs.Marks.{ValidMark};
+ghost use Rattle.marks.specs.Marks.{ValidMark, names};
 ghost use Rattle.marks.specs.declared.Mark.{Mark as MarkOf};
 ghost use Rattle.rewriting.specs.Published.{published-room};
-ghost use Rattle.rewriting.specs.Verdicts.{Judged};
-ghost use Rattle.verdicts.specs.Judging.{Ready, published-words, SmallTaken, RowOf, RowFor, keyOf, slots, Remembers, NamedIn, SomeTaken, VerdictsOf, SomeJudged, RewritingOf};
+ghost use Rattle.rewriting.specs.Verdicts.{Inside, place, Judged};
+ghost use Rattle.verdicts.specs.Judging.{Ready, published-words, SmallTaken, RowOf, RowFor, keyOf, slots, Remembers, NamedIn, Stands, SomeTaken, VerdictsOf, SomeJudged, RewritingOf};
 use flow::Flow;
 use language::Operand;
 use marks::Mark;
@@ -122,6 +124,34 @@ fn remembered_row(
     row
 }
 
+// Whether the statement that the mark names is one of n.
+fn is_inside(n: usize, m: Mark) -> bool
+    requires { ⌜ n ≤ statements-most ⌝ }
+    ensures { λ r. ⌜ Decides r (Inside n (names m)) ⌝ }
+{
+    let k = rewriting::statement_of(m);
+    if k < 1 {
+        return false;
+    }
+    k <= n as u32
+}
+
+// Whether the row has the place that the mark names.
+fn has(row: &[u64], m: Mark) -> bool
+    requires { ⌜ length (now row) ≡ 4 ⌝ }
+    ensures { λ r. ⌜ (Inside statements-most (names m) → r ≡ member (now (row .entry)) (place m)) ⌝ }
+{
+    let k = rewriting::statement_of(m);
+    if k < 1 {
+        return false;
+    }
+    let place = (k - 1) as usize;
+    if WORDS * 64 <= place {
+        return false;
+    }
+    bits::contains(row, place)
+}
+
 // The verdict of a mark; `named` are the places that the earlier lines name.
 fn verdict_of(
     m: Mark,
@@ -134,19 +164,18 @@ fn verdict_of(
     requires { ⌜ Ready p flow ⌝ }
     requires { ⌜ ValidMark m × (length (now named) ≡ 4) ⌝ }
     requires { ⌜ Remembers (statements p) (now keys) (now rows) ⌝ }
-    ensures { λ r. ⌜ ((earlier : List MarkOf) → NamedIn (now (named .entry)) earlier → Judged (statements p) earlier m r) × Remembers (statements p) (now (keys .exit)) (now (rows .exit)) ⌝ }
+    ensures { λ r. ⌜ ((earlier : List MarkOf) → NamedIn (length (statements p)) (now (named .entry)) earlier → Judged (statements p) earlier m r) × Remembers (statements p) (now (keys .exit)) (now (rows .exit)) ⌝ }
 {
-    let n = rewriting::statement_of(m);
-    if n < 1 {
+    let missing = !is_inside(p.count, m);
+    let repeated = has(named, m);
+    if missing {
         return Verdict::Missing;
     }
-    let place = (n - 1) as usize;
-    if p.count <= place {
-        return Verdict::Missing;
-    }
-    if bits::contains(named, place) {
+    if repeated {
         return Verdict::Repeated;
     }
+    let n = rewriting::statement_of(m);
+    let place = (n - 1) as usize;
     let e = p.entries[place];
     let i = e.statement;
     if !rewriting::fits(m, i) {
@@ -159,11 +188,27 @@ fn verdict_of(
     Verdict::Accepted
 }
 
-// Adds the statement that the mark names.
-fn note(m: Mark, named: &mut [u64])
-    requires { ⌜ length (now named) ≡ 4 ⌝ }
-    ensures { λ _. ⌜ ((earlier : List MarkOf) → NamedIn (now (named .entry)) earlier → NamedIn (now (named .exit)) (m ∷ earlier)) ⌝ }
+// Whether the verdict is one of a mark whose statement the program has.
+fn stands(v: Verdict) -> bool
+    ensures { λ r. ⌜ Decides r (Stands v) ⌝ }
 {
+    match v {
+        Verdict::Accepted => true,
+        Verdict::Missing => false,
+        Verdict::Repeated => true,
+        Verdict::Unfit => true,
+        Verdict::Unmet => true,
+    }
+}
+
+// Adds the place that the mark with this verdict names.
+fn note(m: Mark, v: Verdict, named: &mut [u64])
+    requires { ⌜ length (now named) ≡ 4 ⌝ }
+    ensures { λ _. ⌜ ((n : ℕ) (earlier : List MarkOf) → n ≤ statements-most → ((Stands v → ⊥) → Inside n (names m) → ⊥) → NamedIn n (now (named .entry)) earlier → NamedIn n (now (named .exit)) (m ∷ earlier)) ⌝ }
+{
+    if !stands(v) {
+        return;
+    }
     let n = rewriting::statement_of(m);
     if n < 1 {
         return;
@@ -193,7 +238,7 @@ pub fn judge(marks: &[u8], p: Program, flow: Flow, verdicts: &mut [u8])
         };
         let v = verdict_of(m, p, flow, &named, &mut keys, &mut rows);
         verdicts[j] = rewriting::number_of(v);
-        note(m, &mut named);
+        note(m, v, &mut named);
         j += 1;
         at = k;
     }

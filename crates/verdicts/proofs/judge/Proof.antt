@@ -43,7 +43,7 @@ loop-again : tie.Need-loop-again Inv-loop μ-loop
 loop-again c =
     let l = c .before .before .before .before .before .before .before .before .before .before .before .before .before .before .before .loop in
     let v = c .before .before .before .before .before .before .verdict-of in
-    (length-set (l .verdicts) (l .j) (c .before .before .before .number-of .result) ∙ l .inv .0, omega (arith, c .before .note .kept, l .inv .1), (λ ms t. judged-more (l .inv .2 ms t) (c .before .before .before .before .before .before .before .before .before .before .before .m .given .1) (c .before .before .before .before .before .before .before .before .before .before .before .before .before .line .ensures) (v .result) _ (c .before .before .before .number-of .ensures) (v .ensures .0) (c .before .note .ensures) (slice-write-verdicts (c .before .before .before))), v .ensures .1)
+    (length-set (l .verdicts) (l .j) (c .before .before .before .number-of .result) ∙ l .inv .0, omega (arith, c .before .note .kept, l .inv .1), (λ ms t. judged-more (l .inv .2 ms t) (c .before .before .before .before .before .before .before .before .before .before .before .m .given .1) (c .before .before .before .before .before .before .before .before .before .before .before .before .before .line .ensures) (v .result) _ (c .before .before .before .number-of .ensures) (v .ensures .0) (λ earlier f g. c .before .note .ensures _ earlier (c .before .before .before .before .before .before .before .before .before .before .before .before .before .before .before .before .before .before .before .before .before .before .before .before .pre .0 .few) f g) (slice-write-verdicts (c .before .before .before))), v .ensures .1)
 
 same-length-2 : tie.Need-same-length-2 Inv-loop μ-loop
 same-length-2 c = c .before .loop .inv .0
