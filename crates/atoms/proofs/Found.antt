@@ -29,8 +29,8 @@ use Rattle.labelling.specs.Labels.{Labelled}
 use Rattle.labelling.proofs.Labels.{label-skip, label-join}
 use Rattle.condition.specs.Truth.{InOperand, In, Defines, Uses}
 use Rattle.atoms.specs.Codes.{statementCode}
-use Rattle.atoms.specs.Facts.{row-words, used-rows, code-rows, fact-rows, codeWords, FactsBelow, Blank, notedOperand, notedExpression, noted, Marked}
-use Rattle.atoms.proofs.Rows.{label-as}
+use Rattle.atoms.specs.Facts.{row-words, defined-rows, used-rows, code-rows, fact-rows, codeWords, FactsBelow, Blank, notedOperand, notedExpression, noted, Marked}
+use Rattle.atoms.proofs.Rows.{label-same}
 
 -- ---- one place in some rows
 
@@ -70,33 +70,30 @@ marked-both {a} {b} {c} {f} {g} {s} m n = record {
 
 -- ---- which rows a statement's place stands in
 
-operand-low : (a : Operand) (x : ℕ) → x < variables → notedOperand a x ≡ false
-operand-low (Variable y) x l = ne-eqb (used-rows + y) x (omega arith)
+operand-low : (a : Operand) (x : ℕ) → x < variables → notedOperand a (defined-rows + x) ≡ false
+operand-low (Variable y) x l = ne-eqb (used-rows + y) (defined-rows + x) (omega arith)
 operand-low (Constant n) x l = refl
 
-expression-low : (e : Expression) (x : ℕ) → x < variables → notedExpression e x ≡ false
+expression-low : (e : Expression) (x : ℕ) → x < variables → notedExpression e (defined-rows + x) ≡ false
 expression-low (Single a) x l = operand-low a x l
 expression-low (Binary a o b) x l = rw (operand-low a x l) (operand-low b x l)
 
-same-iff : (y x : ℕ) → (eqb y x ≡ true) ↔ (x ≡ y)
-same-iff y x = (λ e. sym (eqb-true y x e), λ d. eq-eqb y x (sym d))
+-- rows of the same kind are of the same variable
+same-iff : (k y x : ℕ) → (eqb (k + y) (k + x) ≡ true) ↔ (x ≡ y)
+same-iff k y x = (λ e. let d : k + y ≡ k + x = eqb-true (k + y) (k + x) e in omega arith, λ d. eq-eqb (k + y) (k + x) (omega arith))
 
-none-iff : (y x : ℕ) → (y ≡ x → ⊥) → (eqb y x ≡ true) ↔ ⊥
-none-iff y x n = (λ e. n (eqb-true y x e), λ d. absurd d)
+none-iff : (r q : ℕ) → (r ≡ q → ⊥) → (eqb r q ≡ true) ↔ ⊥
+none-iff r q n = (λ e. n (eqb-true r q e), λ d. absurd d)
 
-pub noted-defined : (i : Statement) (x : ℕ) → x < variables → (noted i x ≡ true) ↔ Defines i x
-noted-defined (Read y) x l = same-iff y x
-noted-defined (Write y) x l = none-iff (used-rows + y) x (omega arith)
-noted-defined (Assign y e) x l = rw (expression-low e x l, or-false (eqb y x)) (same-iff y x)
-noted-defined (Branch y n m) x l = none-iff (used-rows + y) x (omega arith)
+noted-defined : (i : Statement) (x : ℕ) → x < variables → (noted i (defined-rows + x) ≡ true) ↔ Defines i x
+noted-defined (Read y) x l = same-iff defined-rows y x
+noted-defined (Write y) x l = none-iff (used-rows + y) (defined-rows + x) (omega arith)
+noted-defined (Assign y e) x l = rw (expression-low e x l, or-false (eqb (defined-rows + y) (defined-rows + x))) (same-iff defined-rows y x)
+noted-defined (Branch y n m) x l = none-iff (used-rows + y) (defined-rows + x) (omega arith)
 noted-defined Skip x l = (λ e. clash e refl, λ d. absurd d)
 
-used-iff : (y x : ℕ) → (eqb (used-rows + y) (used-rows + x) ≡ true) ↔ (x ≡ y)
-used-iff y x =
-    (λ e. let d : used-rows + y ≡ used-rows + x = eqb-true (used-rows + y) (used-rows + x) e in omega arith, λ d. eq-eqb (used-rows + y) (used-rows + x) (omega arith))
-
 operand-used : (a : Operand) (x : ℕ) → (notedOperand a (used-rows + x) ≡ true) ↔ InOperand x a
-operand-used (Variable y) x = used-iff y x
+operand-used (Variable y) x = same-iff used-rows y x
 operand-used (Constant n) x = (λ e. clash e refl, λ d. absurd d)
 
 expression-used : (e : Expression) (x : ℕ) → (notedExpression e (used-rows + x) ≡ true) ↔ In x e
@@ -108,11 +105,11 @@ expression-used (Binary a o b) x =
       λ h. ⊎-elim (λ i. or-left p q (operand-used a x .1 i)) (λ i. or-right p q (operand-used b x .1 i)) h,
     )
 
-pub noted-used : (i : Statement) (x : ℕ) → Valid i → (noted i (used-rows + x) ≡ true) ↔ Uses i x
-noted-used (Read y) x v = none-iff y (used-rows + x) (omega arith)
-noted-used (Write y) x v = used-iff y x
-noted-used (Assign y e) x v = let l = v .0 in rw (ne-eqb y (used-rows + x) (omega arith)) (expression-used e x)
-noted-used (Branch y n m) x v = used-iff y x
+noted-used : (i : Statement) (x : ℕ) → Valid i → (noted i (used-rows + x) ≡ true) ↔ Uses i x
+noted-used (Read y) x v = none-iff (defined-rows + y) (used-rows + x) (omega arith)
+noted-used (Write y) x v = same-iff used-rows y x
+noted-used (Assign y e) x v = let l = v .0 in rw (ne-eqb (defined-rows + y) (used-rows + x) (omega arith)) (expression-used e x)
+noted-used (Branch y n m) x v = same-iff used-rows y x
 noted-used Skip x v = (λ e. clash e refl, λ d. absurd d)
 
 -- ---- statement by statement
@@ -135,7 +132,7 @@ blank-rows = record {
 pub facts-none : (P : List Statement) (facts : List (List ℕ)) → Blank facts → FactsBelow P 0 facts
 facts-none P facts b = record {
   many = b .many;
-  defined = λ x l. record { exact = λ s h. absurd (omega arith); beyond = λ s h. b .none x s (omega arith) };
+  defined = λ x l. record { exact = λ s h. absurd (omega arith); beyond = λ s h. b .none (defined-rows + x) s (omega arith) };
   used = λ x l. record { exact = λ s h. absurd (omega arith); beyond = λ s h. b .none (used-rows + x) s (omega arith) };
   coded = λ s h. absurd (omega arith);
 }
@@ -154,13 +151,13 @@ module _ (P : List Statement) (s : ℕ) (low : s < most) (i : Statement) (is : a
       go : (noted i r ≡ true) ⊎ (noted i r ≡ false) → Labelled (s + 1) (member (getD g r [])) X
       go (inl e) = label-join X s (member (getD f r [])) lab (x .0 e) (member (getD g r [])) (to true e)
       go (inr e) =
-          label-as (s + 1) (member (getD f r [])) (member (getD g r [])) X X (λ j. to false e j ∙ or-false _) (λ t b. (λ h. h, λ h. h))
+          label-same (s + 1) (member (getD f r [])) (member (getD g r [])) X (λ j. to false e j ∙ or-false _)
           (label-skip X s (member (getD f r [])) lab (noted i r) x e)
 
   pub facts-more : FactsBelow P (s + 1) next
   facts-more = record {
     many = length-set g (code-rows + s) (codeWords (statementCode i)) ∙ m .same ∙ below .many;
-    defined = λ x l. row-more x (omega arith) (λ t. Defines (at P t) x) (rw is (noted-defined i x l)) (below .defined x l);
+    defined = λ x l. row-more (defined-rows + x) (omega arith) (λ t. Defines (at P t) x) (rw is (noted-defined i x l)) (below .defined x l);
     used = λ x l. row-more (used-rows + x) (omega arith) (λ t. Uses (at P t) x) (rw is (noted-used i x valid)) (below .used x l);
     coded = below-more (λ t. getD next (code-rows + t) [] ≡ codeWords (statementCode (at P t))) s earlier here;
   }

@@ -24,17 +24,20 @@ use Rattle.labelling.specs.Labels.{Labelled}
 use Rattle.condition.specs.Truth.{InOperand, In, Defines, Holds}
 use Rattle.condition.specs.declared.Atom.the-variants.{Entry, Exit}
 use Rattle.atoms.specs.Codes.{statementCode}
-use Rattle.atoms.specs.Facts.{code-rows, codeWords, FactsBelow, FactsOf}
+use Rattle.atoms.specs.Facts.{defined-rows, code-rows, codeWords, FactsBelow, FactsOf}
 use Rattle.atoms.specs.declared.Code.{Code}
 use Rattle.atoms.proofs.Codes.{words-unique}
 use Rattle.atoms.proofs.Truths.{decides-iff}
 
 -- the same places, and what is said of them in other words
-pub label-as : (n : ℕ) (y y′ : ℕ → Bool) (X X′ : ℕ → Type 0) → ((j : ℕ) → y′ j ≡ y j) → ((s : ℕ) → s < n → X s ↔ X′ s) → Labelled n y X → Labelled n y′ X′
+label-as : (n : ℕ) (y y′ : ℕ → Bool) (X X′ : ℕ → Type 0) → ((j : ℕ) → y′ j ≡ y j) → ((s : ℕ) → s < n → X s ↔ X′ s) → Labelled n y X → Labelled n y′ X′
 label-as n y y′ X X′ f x l = record {
   exact = λ s b. Iff·trans (λ e. sym (f s) ∙ e, λ e. f s ∙ e) (Iff·trans (l .exact s b) (x s b));
   beyond = λ s b. f s ∙ l .beyond s b;
 }
+
+pub label-same : (n : ℕ) (y y′ : ℕ → Bool) (X : ℕ → Type 0) → ((j : ℕ) → y′ j ≡ y j) → Labelled n y X → Labelled n y′ X
+label-same n y y′ X f = label-as n y y′ X X f (λ s b. (λ h. h, λ h. h))
 
 module _ (n : ℕ) (y : ℕ → Bool) where
   pub beyond-clear : ((j : ℕ) → y j ≡ ltb j n) → (s : ℕ) → n ≤ s → y s ≡ false
@@ -89,11 +92,11 @@ module _ (P : List Statement) (n : ℕ) (facts : List (List ℕ)) (found : Facts
   Keeps a s = (x : ℕ) → InOperand x a → Defines (at P s) x → ⊥
 
   module _ (all y : ℕ → Bool) (clear : (s : ℕ) → n ≤ s → all s ≡ false) where
-    pub variable-row : (x : ℕ) → x < variables → ((j : ℕ) → y j ≡ (all j && not (member (getD facts x []) j))) → Labelled n y (λ s. So all s × Keeps (Variable x) s)
+    pub variable-row : (x : ℕ) → x < variables → ((j : ℕ) → y j ≡ (all j && not (member (getD facts (defined-rows + x) []) j))) → Labelled n y (λ s. So all s × Keeps (Variable x) s)
     variable-row x l f =
         label-as n y y (λ s. So all s × (Defines (at P s) x → ⊥)) (λ s. So all s × Keeps (Variable x) s) (λ j. refl)
         (λ s b. (λ h. (h .0, λ z e d. h .1 (subst (λ (t : ℕ). Defines (at P s) t) e d)), λ h. (h .0, λ d. h .1 x refl d)))
-        (less-row n y all (member (getD facts x [])) (λ s. Defines (at P s) x) (found .defined x l) f clear)
+        (less-row n y all (member (getD facts (defined-rows + x) [])) (λ s. Defines (at P s) x) (found .defined x l) f clear)
 
     pub constant-row : (k : ℕ) → ((j : ℕ) → y j ≡ all j) → Labelled n y (λ s. So all s × Keeps (Constant k) s)
     constant-row k f = record {

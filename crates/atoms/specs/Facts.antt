@@ -24,10 +24,13 @@ use Rattle.atoms.specs.declared.Code.{Code}
 abbrev pub row-words : ℕ
 row-words = 4
 
--- row x has the places that define variable x, row `used-rows + x` those that use it, and row `code-rows + s` the code of the statement
--- at place s; the code's USED_ROWS, CODE_ROWS and FACTS
+-- row `defined-rows + x` has the places that define variable x, row `used-rows + x` those that use it, and row `code-rows + s` the code of
+-- the statement at place s; the code's DEFINED_ROWS, USED_ROWS, CODE_ROWS and FACTS
+abbrev pub defined-rows : ℕ
+defined-rows = 0
+
 abbrev pub used-rows : ℕ
-used-rows = variables
+used-rows = defined-rows + variables
 
 abbrev pub code-rows : ℕ
 code-rows = used-rows + variables
@@ -41,7 +44,7 @@ codeWords c = c .kind ∷ c .first ∷ c .second ∷ c .third ∷ []
 -- the facts of the first n statements of P
 pub record FactsBelow (P : List Statement) (n : ℕ) (facts : List (List ℕ)) : Type 0 where
   pub many : length facts ≡ fact-rows
-  pub defined : (x : ℕ) → x < variables → Labelled n (member (getD facts x [])) (λ s. Defines (at P s) x)
+  pub defined : (x : ℕ) → x < variables → Labelled n (member (getD facts (defined-rows + x) [])) (λ s. Defines (at P s) x)
   pub used : (x : ℕ) → x < variables → Labelled n (member (getD facts (used-rows + x) [])) (λ s. Uses (at P s) x)
   pub coded : (s : ℕ) → s < n → getD facts (code-rows + s) [] ≡ codeWords (statementCode (at P s))
 
@@ -63,9 +66,9 @@ notedExpression (Single a) r = notedOperand a r
 notedExpression (Binary a o b) r = notedOperand a r || notedOperand b r
 
 abbrev pub noted : Statement → ℕ → Bool
-noted (Read y) r = eqb y r
+noted (Read y) r = eqb (defined-rows + y) r
 noted (Write y) r = eqb (used-rows + y) r
-noted (Assign y e) r = eqb y r || notedExpression e r
+noted (Assign y e) r = eqb (defined-rows + y) r || notedExpression e r
 noted (Branch y n m) r = eqb (used-rows + y) r
 noted Skip r = false
 

@@ -27,6 +27,8 @@ use program::Program;
 pub const WORDS: usize = 4;
 
 // The rows of the places that define a variable come first, then those of the places that use it, then the codes of the statements.
+const DEFINED_ROWS: usize = 0;
+
 const USED_ROWS: usize = 32;
 
 const CODE_ROWS: usize = 64;
@@ -79,10 +81,10 @@ fn note(i: Statement, s: usize, facts: &mut [[u64; WORDS]])
     ensures { λ _. ⌜ Marked (now (facts .entry)) (now (facts .exit)) (noted i) s ⌝ }
 {
     match i {
-        Statement::Read(x) => mark(x as usize, s, facts),
+        Statement::Read(x) => mark(DEFINED_ROWS + (x as usize), s, facts),
         Statement::Write(x) => mark(USED_ROWS + (x as usize), s, facts),
         Statement::Assign(x, e) => {
-            mark(x as usize, s, facts);
+            mark(DEFINED_ROWS + (x as usize), s, facts);
             note_expression(e, s, facts);
         }
         Statement::Branch(x, _, _) => mark(USED_ROWS + (x as usize), s, facts),
@@ -196,7 +198,7 @@ fn keeping(a: Operand, all: &[u64], facts: &[[u64; WORDS]], out: &mut [u64])
 {
     match a {
         Operand::Variable(x) => {
-            let k = x as usize;
+            let k = DEFINED_ROWS + (x as usize);
             bits::difference(all, &facts[k], out);
         }
         Operand::Constant(_) => copy(all, out),
@@ -235,7 +237,7 @@ pub fn row(a: Atom, n: usize, facts: &[[u64; WORDS]], out: &mut [u64])
         Atom::Node(m) => numbered(m as usize, n, out),
         Atom::Stmt(i) => statement_row(i, n, facts, out),
         Atom::Def(x) => {
-            let k = x as usize;
+            let k = DEFINED_ROWS + (x as usize);
             copy(&facts[k], out);
         }
         Atom::Use(x) => {

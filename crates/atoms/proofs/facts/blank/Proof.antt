@@ -1,3 +1,4 @@
+-- `facts::blank` meets its contract: the rows are zeros. Assumes nothing.
 use Rattle.atoms.proofs.Found.{blank-rows}
 use Rattle.atoms.proofs.facts.blank.Statement.{statement}
 use Rattle.atoms.proofs.facts.blank.Tie as tie

@@ -1,5 +1,4 @@
-use Rattle.atoms.specs.Facts.{codeWords}
-use mathlib.Core.Path.{ap}
+-- `facts::code_row` meets its contract. Assumes nothing.
 use borrow.Author.Needs.{needs}
 use Rattle.atoms.proofs.facts.code_row.Statement.{statement}
 use Rattle.atoms.proofs.facts.code_row.Tie as tie

@@ -1,10 +1,11 @@
+-- `facts::copy` meets its contract. The words below k are copied. Assumes nothing.
+use mathlib.Core.Path.{sym}
+use Prim.Native.Nat.{_-_}
+use native.Mathlib.Omega.{arith}
 use borrow.Author.Needs.{needs}
+use lib.ListN.{length, length-set}
 use Rattle.bits.proofs.Rows.{word-member, member-beyond, Filled, filled-none, filled-more, filled-member}
 use Rattle.bits.specs.Row.{member}
-use lib.ListN.{length, length-set}
-use native.Mathlib.Omega.{arith}
-use Prim.Native.Nat.{_-_}
-use mathlib.Core.Path.{sym}
 use Rattle.atoms.proofs.facts.copy.Statement.{statement}
 use Rattle.atoms.proofs.facts.copy.Tie as tie
 
@@ -21,10 +22,14 @@ loop-less : tie.Need-loop-less Inv-loop μ-loop
 loop-less c = simp length-set (omega arith)
 
 loop-again : tie.Need-loop-again Inv-loop μ-loop
-loop-again c = filled-more (member (c .before .before .before .args .from .now)) _ _ _ _ (c .before .before .loop .inv) (omega arith) (λ b l. sym (word-member (c .before .before .before .args .from .now) _ b l))
+loop-again c =
+    let from = c .before .before .before .args .from .now in
+    filled-more (member from) _ _ _ _ (c .before .before .loop .inv) (omega arith) (λ b l. sym (word-member from _ b l))
 
 returns : tie.Need-returns Inv-loop μ-loop
-returns c = filled-member (member (c .before .before .args .from .now)) _ _ _ (c .before .loop .inv) (omega arith) (λ j l. member-beyond (c .before .before .args .from .now) j (omega (arith, c .before .before .pre)))
+returns c =
+    let from = c .before .before .args .from .now in
+    filled-member (member from) _ _ _ (c .before .loop .inv) (omega arith) (λ j l. member-beyond from j (omega (arith, c .before .before .pre)))
 
 pub copy-spec : {M : Type 1} → statement M
 copy-spec =

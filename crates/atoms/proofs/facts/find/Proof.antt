@@ -1,9 +1,10 @@
-use borrow.Author.Needs.{needs}
-use Rattle.atoms.proofs.Found.{facts-none, place-valid, place-more, facts-all}
-use Rattle.atoms.specs.Facts.{FactsBelow}
-use Rattle.program.specs.Reading.{statements}
-use native.Mathlib.Omega.{arith}
+-- `facts::find` meets its contract. The invariant is the contract at place s. Assumes nothing.
 use Prim.Native.Nat.{_≤_, _-_}
+use native.Mathlib.Omega.{arith}
+use borrow.Author.Needs.{needs}
+use Rattle.program.specs.Reading.{statements}
+use Rattle.atoms.specs.Facts.{FactsBelow}
+use Rattle.atoms.proofs.Found.{facts-none, place-valid, place-more, facts-all}
 use Rattle.atoms.proofs.facts.find.Statement.{statement}
 use Rattle.atoms.proofs.facts.find.Tie as tie
 
@@ -23,7 +24,9 @@ element-copy-out-e : tie.Need-element-copy-out-e Inv-loop μ-loop
 element-copy-out-e c = omega (arith, c .before .before .pre .0 .few)
 
 note-requires : tie.Need-note-requires Inv-loop μ-loop
-note-requires c κs = let s = c .before .before .before .before in (place-valid (s .args .t1) (s .pre .0) (s .pre .1 .0) _ (c .before .before .loop-test .taken), omega (arith, s .pre .0 .few), c .before .before .before .loop .inv .1 .many)
+note-requires c κs =
+    let g = c .before .before .before .before in
+    (place-valid (g .args .t1) (g .pre .0) (g .pre .1 .0) _ (c .before .before .loop-test .taken), omega (arith, g .pre .0 .few), c .before .before .before .loop .inv .1 .many)
 
 add-k : tie.Need-add-k Inv-loop μ-loop
 add-k c = omega (arith, c .before .before .before .before .before .before .pre .0 .few)
@@ -32,7 +35,8 @@ mul-words : tie.Need-mul-words Inv-loop μ-loop
 mul-words c = omega (arith, c .before .before .before .before .before .before .before .pre .0 .few)
 
 slice-set-from-words : tie.Need-slice-set-from-words Inv-loop μ-loop
-slice-set-from-words c = omega (arith, c .before .before .before .before .before .before .before .pre .0 .few, c .before .before .note .ensures .same, c .before .before .before .before .before .before .loop .inv .1 .many)
+slice-set-from-words c =
+    omega (arith, c .before .before .before .before .before .before .before .pre .0 .few, c .before .before .note .ensures .same, c .before .before .before .before .before .before .loop .inv .1 .many)
 
 add-s : tie.Need-add-s Inv-loop μ-loop
 add-s c = omega (arith, c .before .before .before .before .before .before .before .pre .0 .few)
@@ -41,10 +45,18 @@ loop-less : tie.Need-loop-less Inv-loop μ-loop
 loop-less c = omega arith
 
 loop-again : tie.Need-loop-again Inv-loop μ-loop
-loop-again c = let s = c .before .before .before .before .before .before .before in (omega arith, place-more (s .args .t1) (s .pre .0) (s .pre .1 .0) (c .before .before .before .before .before .before .loop .s) (c .before .before .before .before .before .loop-test .taken) _ _ (c .before .before .before .before .before .before .loop .inv .1) (c .before .before .note .ensures) _ (c .code-row .ensures))
+loop-again c =
+    let g = c .before .before .before .before .before .before .before in
+    let w = c .before .before .before .before .before .before .loop in (
+      omega arith,
+      place-more (g .args .t1) (g .pre .0) (g .pre .1 .0) (w .s) (c .before .before .before .before .before .loop-test .taken) _ _ (w .inv .1) (c .before .before .note .ensures) _ (c .code-row .ensures),
+    )
 
 returns : tie.Need-returns Inv-loop μ-loop
-returns c = facts-all (c .before .before .args .t1) (c .before .before .pre .0) (c .before .loop .s) _ (c .before .loop .inv .0) (c .loop-test .left) (c .before .loop .inv .1)
+returns c =
+    let g = c .before .before in
+    let w = c .before .loop in
+    facts-all (g .args .t1) (g .pre .0) (w .s) _ (w .inv .0) (c .loop-test .left) (w .inv .1)
 
 pub find-spec : {M : Type 1} → statement M
 find-spec =

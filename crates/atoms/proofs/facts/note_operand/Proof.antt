@@ -1,11 +1,15 @@
-use Rattle.atoms.proofs.Found.{marked-none}
+-- `facts::note_operand` meets its contract. Assumes nothing.
 use native.Mathlib.Omega.{arith}
 use borrow.Author.Needs.{needs}
+use Rattle.atoms.proofs.Found.{marked-none}
 use Rattle.atoms.proofs.facts.note_operand.Statement.{statement}
 use Rattle.atoms.proofs.facts.note_operand.Tie as tie
 
 mark-requires : tie.Need-mark-requires
-mark-requires c κs = let pre = c .before .before .before .before .pre in let low = rw (c .before .before .a .given .1) at (pre .0) in (omega arith, pre .1, pre .2)
+mark-requires c κs =
+    let pre = c .before .before .before .before .pre in
+    let low = rw (c .before .before .a .given .1) at (pre .0) in
+    (omega arith, pre .1, pre .2)
 
 returns : tie.Need-returns
 returns c = rw (c .before .before .before .before .a .given .1) (c .before .mark .ensures)

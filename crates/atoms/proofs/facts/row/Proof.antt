@@ -1,10 +1,6 @@
-use Rattle.bits.specs.Row.{member}
-use lib.ListN.{getD}
-use Prim.Native.Nat.{ℕ, _+_}
-use mathlib.Core.List.{List, []}
-use Rattle.atoms.proofs.Rows.{label-as, whole-row, empty-row, entry-row, exit-row, sized}
-use native.Mathlib.Omega.{arith}
+-- `facts::row` meets its contract, atom by atom. Assumes nothing.
 use borrow.Author.Needs.{needs}
+use Rattle.atoms.proofs.Rows.{label-same, whole-row, empty-row, entry-row, exit-row, sized}
 use Rattle.atoms.proofs.facts.row.Statement.{statement}
 use Rattle.atoms.proofs.facts.row.Tie as tie
 
@@ -12,7 +8,9 @@ statement-row-requires : tie.Need-statement-row-requires
 statement-row-requires c κs = let pre = c .before .before .before .before .before .pre in (pre .1 .0, pre .0 .1, pre .1 .1)
 
 trans-row-requires : tie.Need-trans-row-requires
-trans-row-requires c κs = let pre = c .before .before .before .before .before .pre in ((rw (c .before .before .a5 .given .1) at (pre .0 .0), pre .0 .1), (pre .1 .0, pre .1 .1))
+trans-row-requires c κs =
+    let pre = c .before .before .before .before .before .pre in
+    ((rw (c .before .before .a5 .given .1) at (pre .0 .0), pre .0 .1), (pre .1 .0, pre .1 .1))
 
 returns : tie.Need-returns
 returns c = rw (c .before .before .before .before .enum-told .given .1) (λ P size f. whole-row _ _ (c .before .before .below .ensures))
@@ -33,10 +31,16 @@ returns-6 : tie.Need-returns-6
 returns-6 c = rw (c .before .before .before .before .before .a2 .given .1) (λ P size f. c .before .before .statement-row .ensures P (sized P _ _ size f))
 
 returns-7 : tie.Need-returns-7
-returns-7 c = let low = rw (c .before .before .before .before .before .before .before .a3 .given .1) at (c .before .before .before .before .before .before .before .before .before .before .pre .0 .0) in rw (c .before .before .before .before .before .before .before .a3 .given .1) (λ P size f. label-as _ _ _ _ _ (c .before .before .copy .ensures) (λ s l. (λ h. h, λ h. h)) (sized P _ _ size f .defined (c .before .before .before .before .before .before .before .a3 .given .0 .0) low))
+returns-7 c =
+    let a = c .before .before .before .before .before .before .before .a3 .given in
+    let low = rw (a .1) at (c .before .before .before .before .before .before .before .before .before .before .pre .0 .0) in
+    rw (a .1) (λ P size f. label-same _ _ _ _ (c .before .before .copy .ensures) (sized P _ _ size f .defined (a .0 .0) low))
 
 returns-8 : tie.Need-returns-8
-returns-8 c = let low = rw (c .before .before .before .before .before .before .before .a4 .given .1) at (c .before .before .before .before .before .before .before .before .before .before .pre .0 .0) in rw (c .before .before .before .before .before .before .before .a4 .given .1) (λ P size f. label-as _ _ _ _ _ (c .before .before .copy2 .ensures) (λ s l. (λ h. h, λ h. h)) (sized P _ _ size f .used (c .before .before .before .before .before .before .before .a4 .given .0 .0) low))
+returns-8 c =
+    let a = c .before .before .before .before .before .before .before .a4 .given in
+    let low = rw (a .1) at (c .before .before .before .before .before .before .before .before .before .before .pre .0 .0) in
+    rw (a .1) (λ P size f. label-same _ _ _ _ (c .before .before .copy2 .ensures) (sized P _ _ size f .used (a .0 .0) low))
 
 returns-9 : tie.Need-returns-9
 returns-9 c = rw (c .before .before .before .before .before .a5 .given .1) (λ P size f. c .before .before .trans-row .ensures P (sized P _ _ size f))
@@ -58,6 +62,7 @@ row-spec =
     (λ c κs. search needs)
     (λ c. search needs)
     statement-row-requires
+    (λ c. search needs)
     (λ c. search needs)
     (λ c. search needs)
     (λ c. search needs)

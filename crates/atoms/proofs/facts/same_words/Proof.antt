@@ -1,9 +1,10 @@
-use Rattle.atoms.proofs.Codes.{decides-words}
-use lib.ListN.{getD}
-use Prim.Native.Nat.{ℕ}
-use mathlib.Core.List.{List}
+-- `facts::same_words` meets its contract: four words are compared, and there are no more. Assumes nothing.
 use mathlib.Core.Path.{ap}
+use mathlib.Core.List.{List}
+use Prim.Native.Nat.{ℕ}
 use borrow.Author.Needs.{needs}
+use lib.ListN.{getD}
+use Rattle.atoms.proofs.Codes.{decides-words}
 use Rattle.atoms.proofs.facts.same_words.Statement.{statement}
 use Rattle.atoms.proofs.facts.same_words.Tie as tie
 
@@ -17,7 +18,9 @@ returns-3 : tie.Need-returns-3
 returns-3 c = λ e. c .if3 .taken (ap (λ (l : List ℕ). getD l 2 0) e)
 
 returns-4 : tie.Need-returns-4
-returns-4 c = decides-words (c .before .before .before .before .before .before .before .before .before .before .before .args .c) (c .before .before .before .before .before .before .before .before .before .before .before .args .words .now) (c .before .before .before .before .before .before .before .before .before .before .before .pre) (c .before .before .before .before .before .if2 .left) (c .before .before .before .before .before .before .before .before .if1 .left) (c .before .before .if3 .left)
+returns-4 c =
+    let g = c .before .before .before .before .before .before .before .before .before .before .before in
+    decides-words (g .args .c) (g .args .words .now) (g .pre) (c .before .before .before .before .before .if2 .left) (c .before .before .before .before .before .before .before .before .if1 .left) (c .before .before .if3 .left)
 
 pub same-words-spec : {M : Type 1} → statement M
 same-words-spec =
