@@ -29,11 +29,11 @@ pub const WORDS: usize = 4;
 // The rows of the places that define a variable come first, then those of the places that use it, then the codes of the statements.
 const DEFINED_ROWS: usize = 0;
 
-const USED_ROWS: usize = 32;
+const USED_ROWS: usize = DEFINED_ROWS + (language::VARIABLES as usize);
 
-const CODE_ROWS: usize = 64;
+const CODE_ROWS: usize = USED_ROWS + (language::VARIABLES as usize);
 
-pub const FACTS: usize = 320;
+pub const FACTS: usize = CODE_ROWS + program::MOST;
 
 // Rows to be filled.
 pub fn blank() -> [[u64; WORDS]; FACTS]
