@@ -1,7 +1,7 @@
 -- What decides the atoms. Assumes nothing.
-use mathlib.Core.Path.{_≡_, refl, sym, _∙_}
+use mathlib.Core.Path.{_≡_, refl}
 use mathlib.Core.Bool.{Bool, true, false, not}
-use mathlib.Core.Logic.{_↔_, _⊎_, inl, inr, ⊎-elim}
+use mathlib.Core.Logic.{_↔_, _⊎_, inr, ⊎-elim}
 use Prim.Native.Nat.{ℕ}
 use Rattle.bits.proofs.Tests.{clash}
 use Rattle.program.specs.Reading.{Decides}
