@@ -3,19 +3,14 @@ use mathlib.Core.Path.{_≡_, refl, sym, ap, ap₂, _∙_}
 use mathlib.Core.List.{List}
 use mathlib.Core.Bool.{Bool, false, _||_, _&&_, or-comm, or-false}
 use Prim.Native.Nat.{ℕ, zero, suc, _+_, _-_, _≤_, _<_}
-use native.Mathlib.Nat.{min-le-right}
 use native.Mathlib.Numerals.{add-one}
 use native.Mathlib.Decide.{decLt, ℕ-discrete}
 use native.Mathlib.Omega.{arith}
-use lib.ListN.{length, getD, set, take, length-set, length-take}
+use lib.ListN.{length, getD, set, take, length-set}
 use lib.Seq.{getD-set-same, getD-set-other, take-suc, take-suc-set}
 use lib.Dec.{eqb}
 use borrow.Author.Tests.{eq-eqb, ne-eqb}
 use Rattle.graph.specs.Lists.{leads, listed, step, Lists, Blank}
-
--- the first n entries are n where there are as many
-pub take-room : (n : ℕ) (l : List ℕ) → length (take n l) ≡ n → n ≤ length l
-take-room n l e = omega (arith, sym e ∙ length-take n l, min-le-right n (length l))
 
 -- one entry more of a copy
 pub copy-more : (xs ys : List ℕ) (i : ℕ) → take i ys ≡ take i xs → i < length ys → i < length xs → take (i + 1) (set ys i (getD xs i 0)) ≡ take (i + 1) xs
