@@ -1,10 +1,12 @@
 -- A statement is taken back from its code, so equal codes are those of equal statements. Assumes nothing.
 use mathlib.Core.Path.{_≡_, refl, ap, ap₂, sym, _∙_}
 use mathlib.Core.Bool.{Bool, true, false}
+use mathlib.Core.List.{List, [], _∷_}
 use Prim.Native.Nat.{ℕ, zero, suc, _+_, _*_, _/_, _%_}
 use native.Mathlib.Omega.{arith}
 use lib.Dec.{eqb}
-use borrow.Author.Tests.{eq-eqb, ne-eqb}
+use lib.ListN.{length, getD}
+use borrow.Author.Tests.{eq-eqb, ne-eqb, eqb-true, eqb-false}
 use Rattle.language.specs.declared.Operand.{Operand}
 use Rattle.language.specs.declared.Operand.the-variants.{Variable, Constant}
 use Rattle.language.specs.declared.Operator.{Operator}
@@ -14,6 +16,9 @@ use Rattle.language.specs.declared.Expression.the-variants.{Single, Binary}
 use Rattle.language.specs.declared.Statement.{Statement}
 use Rattle.language.specs.declared.Statement.the-variants.{Read, Write, Assign, Branch, Skip}
 use Rattle.atoms.specs.Codes.{operandCode, operatorCode, assignCode, statementCode}
+use Rattle.program.specs.Reading.{Decides}
+use Rattle.program.proofs.Decides.{decides}
+use Rattle.atoms.specs.Facts.{row-words, codeWords}
 use Rattle.atoms.specs.declared.Code.{Code}
 
 abbrev operandBy : Bool → ℕ → Operand
@@ -70,3 +75,27 @@ code-unique s t e = sym (statement-back s) ∙ ap statementOf e ∙ statement-ba
 pub assign-first : (x : ℕ) (e : Expression) → x ≡ assignCode x e .first
 assign-first x (Single a) = refl
 assign-first x (Binary a o b) = refl
+
+-- ---- codes as rows
+
+-- the code at the front of a row
+abbrev codeAt : List ℕ → Code
+codeAt l = record { kind = getD l 0 0; first = getD l 1 0; second = getD l 2 0; third = getD l 3 0 }
+
+pub words-unique : (s t : Statement) → codeWords (statementCode s) ≡ codeWords (statementCode t) → s ≡ t
+words-unique s t e = code-unique s t (ap codeAt e)
+
+four-words : (l : List ℕ) → length l ≡ row-words → l ≡ getD l 0 0 ∷ getD l 1 0 ∷ getD l 2 0 ∷ getD l 3 0 ∷ []
+four-words [] e = absurd (omega arith)
+four-words (a ∷ []) e = absurd (omega arith)
+four-words (a ∷ b ∷ []) e = absurd (omega arith)
+four-words (a ∷ b ∷ c ∷ []) e = absurd (omega arith)
+four-words (a ∷ b ∷ c ∷ d ∷ []) e = refl
+four-words (a ∷ b ∷ c ∷ d ∷ x ∷ l) e = absurd (omega arith)
+
+pub decides-words : (c : Code) (l : List ℕ) → length l ≡ row-words → getD l 0 0 ≡ c .kind → getD l 1 0 ≡ c .first → getD l 2 0 ≡ c .second
+    → Decides (eqb (getD l 3 0) (c .third)) (l ≡ codeWords c)
+decides-words c l size k f s =
+    decides (eqb (getD l 3 0) (c .third))
+    (λ e. four-words l size ∙ rw (k, f, s, eqb-true (getD l 3 0) (c .third) e))
+    (λ e h. eqb-false (getD l 3 0) (c .third) e (ap (λ (x : List ℕ). getD x 3 0) h))

@@ -1,2 +1,4 @@
 pub mod Codes
 pub mod Truths
+pub mod Rows
+pub mod Found

@@ -1,10 +1,10 @@
-// Atoms of conditions: whether one holds at a statement of a program.
+// Atoms of conditions: what decides them at a statement. `facts` has the places of a program at which one holds.
+pub mod facts;
+
 ghost use mathlib.Core.Path.{_≡_};
-ghost use Prim.Native.Nat.{ℕ, _<_};
 ghost use Rattle.program.specs.Reading.{Decides};
-ghost use Rattle.condition.specs.Truth.{InOperand, In, Defines, Shows, Uses, HoldsAt};
+ghost use Rattle.condition.specs.Truth.{InOperand, In, Shows};
 ghost use Rattle.atoms.specs.Codes.{operandCode, operatorCode, assignCode, statementCode};
-use condition::Atom;
 use language::Expression;
 use language::Operand;
 use language::Operator;
@@ -151,18 +151,6 @@ pub fn in_expression(x: u8, e: Expression) -> bool
     }
 }
 
-pub fn defines(s: Statement, x: u8) -> bool
-    ensures { λ r. ⌜ Decides r (Defines s x) ⌝ }
-{
-    match s {
-        Statement::Read(y) => x == y,
-        Statement::Write(_) => false,
-        Statement::Assign(y, _) => x == y,
-        Statement::Branch(_, _, _) => false,
-        Statement::Skip => false,
-    }
-}
-
 // Whether the text of the statement shows the variable as used.
 pub fn shows(s: Statement, x: u8) -> bool
     ensures { λ r. ⌜ Decides r (Shows s x) ⌝ }
@@ -173,43 +161,5 @@ pub fn shows(s: Statement, x: u8) -> bool
         Statement::Assign(_, e) => in_expression(x, e),
         Statement::Branch(y, _, _) => x == y,
         Statement::Skip => false,
-    }
-}
-
-// Whether the statement uses the variable.
-pub fn uses(s: Statement, x: u8) -> bool
-    ensures { λ r. ⌜ Decides r (Uses s x) ⌝ }
-{
-    shows(s, x)
-}
-
-// Whether the statement defines no variable of the expression.
-fn keeps(s: Statement, e: Expression) -> bool
-    ensures { λ r. ⌜ Decides r ((x : ℕ) → In x e → Defines s x → ⊥) ⌝ }
-{
-    match s {
-        Statement::Read(y) => !in_expression(y, e),
-        Statement::Write(_) => true,
-        Statement::Assign(y, _) => !in_expression(y, e),
-        Statement::Branch(_, _, _) => true,
-        Statement::Skip => true,
-    }
-}
-
-// Whether the atom holds at place s of n, where the statement i stands.
-pub fn holds(a: Atom, n: usize, i: Statement, s: usize) -> bool
-    requires { ⌜ s < n ⌝ }
-    ensures { λ r. ⌜ Decides r (HoldsAt n i s a) ⌝ }
-{
-    match a {
-        Atom::True => true,
-        Atom::False => false,
-        Atom::Entry => s == 0,
-        Atom::Exit => s + 1 == n,
-        Atom::Node(m) => s + 1 == m as usize,
-        Atom::Stmt(j) => same_statement(i, j),
-        Atom::Def(x) => defines(i, x),
-        Atom::Use(x) => uses(i, x),
-        Atom::Trans(e) => keeps(i, e),
     }
 }

@@ -1,0 +1,43 @@
+use Rattle.atoms.proofs.Rows.{beyond-clear, single-kept, binary-kept}
+use Rattle.bits.specs.Row.{member}
+use mathlib.Core.Path.{_∙_}
+use borrow.Author.Needs.{needs}
+use Rattle.atoms.proofs.facts.trans_row.Statement.{statement}
+use Rattle.atoms.proofs.facts.trans_row.Tie as tie
+
+keeping-requires : tie.Need-keeping-requires
+keeping-requires c κs = let pre = c .before .before .before .before .before .before .before .before .before .before .pre in ((rw (c .before .before .before .e .given .1) at (pre .0 .0), pre .0 .1), (c .before .before .before .before .before .before .below .kept .1 .0 ∙ c .before .before .before .before .before .before .before .before .blank-row .ensures, pre .1 .1))
+
+keeping-requires-2 : tie.Need-keeping-requires-2
+keeping-requires-2 c κs = let pre = c .before .before .before .before .before .before .before .before .before .before .before .pre in (((rw (c .before .before .before .before .e2 .given .1) at (pre .0 .0)) .0, pre .0 .1), (c .before .before .before .before .before .before .before .below .kept .1 .0 ∙ c .before .before .before .before .before .before .before .before .before .blank-row .ensures, c .before .before .blank-row2 .ensures))
+
+keeping-requires-3 : tie.Need-keeping-requires-3
+keeping-requires-3 c κs = let pre = c .before .before .before .before .before .before .before .before .before .before .before .before .before .before .before .pre in (((rw (c .before .before .before .before .before .before .before .before .e2 .given .1) at (pre .0 .0)) .1, pre .0 .1), (c .before .before .before .keeping2 .kept .1 .1 .1 .0 ∙ c .before .before .before .before .before .before .blank-row2 .ensures, pre .1 .1))
+
+returns : tie.Need-returns
+returns c = rw (c .before .before .before .before .before .before .e .given .1) (λ P f. let whole = c .before .before .before .before .before .before .before .before .before .below .ensures in single-kept P (c .before .before .before .before .before .before .before .before .before .before .before .before .before .args .n) (c .before .before .before .before .before .before .before .before .before .before .before .before .before .args .facts .now) f _ _ whole (c .before .before .before .before .before .before .e .given .0 .0) (c .before .before .keeping .ensures P (c .before .before .before .before .before .before .before .before .before .before .before .before .before .args .n) f (beyond-clear (c .before .before .before .before .before .before .before .before .before .before .before .before .before .args .n) _ whole)))
+
+returns-2 : tie.Need-returns-2
+returns-2 c = rw (c .before .before .before .before .before .before .before .before .before .before .before .e2 .given .1) (λ P f. let whole = c .before .before .before .before .before .before .before .before .before .before .before .before .before .before .below .ensures in let first = c .before .before .before .before .before .before .keeping2 .ensures P (c .before .before .before .before .before .before .before .before .before .before .before .before .before .before .before .before .before .before .args .n) f (beyond-clear (c .before .before .before .before .before .before .before .before .before .before .before .before .before .before .before .before .before .before .args .n) _ whole) in binary-kept P (c .before .before .before .before .before .before .before .before .before .before .before .before .before .before .before .before .before .before .args .n) (c .before .before .before .before .before .before .before .before .before .before .before .before .before .before .before .before .before .before .args .facts .now) f _ _ whole _ (c .before .before .before .before .before .before .before .before .before .before .before .e2 .given .0 .0) (c .before .before .before .before .before .before .before .before .before .before .before .e2 .given .0 .1 .1 .0) (c .before .before .before .before .before .before .before .before .before .before .before .e2 .given .0 .1 .0) first (c .before .before .keeping3 .ensures P (c .before .before .before .before .before .before .before .before .before .before .before .before .before .before .before .before .before .before .args .n) f (first .beyond)))
+
+pub trans-row-spec : {M : Type 1} → statement M
+trans-row-spec =
+    tie.close
+    (tie.spec
+    (λ c κs. search needs)
+    (λ c. search needs)
+    (λ c κs. search needs)
+    (λ c. search needs)
+    (λ c. search needs)
+    keeping-requires
+    (λ c. search needs)
+    (λ c κs. search needs)
+    (λ c. search needs)
+    (λ c. search needs)
+    keeping-requires-2
+    (λ c. search needs)
+    keeping-requires-3
+    (λ c. search needs)
+    returns
+    (λ c. search needs)
+    returns-2)
