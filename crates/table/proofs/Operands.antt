@@ -13,8 +13,7 @@ use Rattle.ctl.proofs.Paths.{paths-same}
 use Rattle.labelling.proofs.Labels.{said-iff}
 use Rattle.labelling.specs.declared.Operator.{Operator}
 use Rattle.flow.specs.Flow.{Direction, forward, backward, steps}
-use Rattle.flow.specs.FlowOf.{FlowOf}
-use Rattle.flow.specs.declared.Flow.{Flow}
+use Rattle.flow.specs.FlowOf.{Flow, FlowOf}
 use Rattle.condition.specs.Condition.{next, finally, globally, until, weak, Unary, negation, Binary, conjunction, disjunction, Condition, atom, unary, binary}
 use Rattle.condition.specs.Reading.{unaryCode, binaryCode}
 use Rattle.condition.specs.Truth.{Sat}
