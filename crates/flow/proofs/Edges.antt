@@ -16,7 +16,7 @@ use Rattle.graph.proofs.Lists.{listed-end, listed-step, blank-lists, blank-step
 use Rattle.graph.proofs.Graphs.{heads-size, heads-at}
 use Rattle.flow.specs.Flow.{some}
 use Rattle.flow.specs.FlowOf.{flow-entries}
-use Rattle.flow.specs.Edges.{goes, Inside, Space, Holds, turn, edge, withEdge, stepsBelow, withSelf, stepsBack, Drawn, BothDrawn}
+use Rattle.flow.specs.Edges.{goes, Inside, Holds, turn, edge, withEdge, stepsBelow, withSelf, stepsBack, Drawn, BothDrawn}
 use Rattle.flow.proofs.Some.{some-none, some-same, some-here}
 
 -- what holds below k, and at k, is what holds below k + 1

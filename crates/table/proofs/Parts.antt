@@ -1,9 +1,9 @@
 -- A part that was filled is right. Assumes nothing.
-use mathlib.Core.Path.{_≡_, refl, sym, ap, _∙_, subst}
+use mathlib.Core.Path.{_≡_, refl, sym, subst}
 use mathlib.Core.Bool.{false}
 use mathlib.Core.List.{List}
 use mathlib.Core.Logic.{_↔_, Iff·trans}
-use Prim.Native.Nat.{ℕ, _+_, _-_, _*_, _/_, _%_, _≤_, _<_}
+use Prim.Native.Nat.{ℕ, _-_, _/_, _%_, _≤_, _<_}
 use native.Mathlib.Omega.{arith}
 use lib.ListN.{length, take, drop, length-drop}
 use lib.Seq.{length-take-le, take-all}
@@ -11,7 +11,6 @@ use Rattle.language.specs.declared.Statement.{Statement}
 use Rattle.language.specs.Parsing.{found}
 use Rattle.bits.specs.Row.{member}
 use Rattle.ctl.specs.Paths.{So}
-use Rattle.labelling.specs.Labels.{Labelled}
 use Rattle.graph.specs.Graphs.{entries, DirectionsAt}
 use Rattle.flow.specs.FlowOf.{flow-entries, flowAt}
 use Rattle.atoms.specs.Facts.{FactsOf}
@@ -19,7 +18,7 @@ use Rattle.condition.specs.Condition.{Condition, atom, unary, binary}
 use Rattle.condition.specs.Parsing.{parseAtom}
 use Rattle.condition.specs.Truth.{Holds, Sat}
 use Rattle.condition.specs.declared.Atom.{Atom}
-use Rattle.table.specs.Table.{part-words, row, partAt, Written}
+use Rattle.table.specs.Table.{row, partAt, Written}
 use Rattle.table.specs.Rules.{Operation, codeOf, ruleOf, SatRule, flowSteps, BothWays}
 use Rattle.table.specs.Known.{Known}
 use Rattle.table.specs.Fill.{leftOf, Tells, PartReady}

@@ -1,10 +1,10 @@
 -- The table, part after part. Assumes nothing.
-use mathlib.Core.Path.{_≡_, refl, sym, ap, _∙_, subst}
+use mathlib.Core.Path.{_≡_, sym, _∙_, subst}
 use mathlib.Core.List.{List}
 use Prim.Native.Nat.{ℕ, _+_, _-_, _*_, _/_, _%_, _≤_, _<_}
 use native.Mathlib.Omega.{arith}
 use borrow.Author.Count.{below-more}
-use lib.ListN.{length, getD, take, drop}
+use lib.ListN.{length, getD, drop}
 use lib.Seq.{ext-getD, getD-take, getD-drop}
 use Rattle.language.specs.declared.Statement.{Statement}
 use Rattle.bits.specs.Row.{member}
@@ -12,7 +12,7 @@ use Rattle.labelling.specs.Labels.{Labelled}
 use Rattle.condition.specs.Condition.{Condition, atom, unary, binary, parts}
 use Rattle.condition.specs.Reading.{most-parts}
 use Rattle.condition.specs.Truth.{Sat}
-use Rattle.condition.proofs.Words.{operatorCode, Describes, Operands, held-describes}
+use Rattle.condition.proofs.Words.{operatorCode, Operands, held-describes}
 use Rattle.table.specs.Table.{part-words, row, partAt, Kept, Written}
 use Rattle.table.specs.Known.{Known, SomeKnown}
 use Rattle.table.specs.Fill.{Tells, RowsRight, PartReady, HeldOf, SomeHeld, TableOf}

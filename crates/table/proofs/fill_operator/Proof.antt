@@ -1,10 +1,10 @@
 -- `fill_operator` meets its contract: the part that is lent becomes the operator's row, and all else is kept. Assumes nothing.
-use mathlib.Core.Path.{_≡_, refl, sym, ap, _∙_}
+use mathlib.Core.Path.{_≡_, sym, ap, _∙_}
 use mathlib.Core.List.{List}
-use Prim.Native.Nat.{ℕ, _+_, _*_, _-_, _≤_}
+use Prim.Native.Nat.{ℕ, _-_}
 use native.Mathlib.Omega.{arith}
 use borrow.Author.Needs.{needs}
-use lib.ListN.{length, length-take, length-drop}
+use lib.ListN.{length}
 use Rattle.bits.specs.Row.{member}
 use Rattle.table.specs.Table.{part-words}
 use Rattle.table.proofs.Lent.{part-length, row-length, part-written}
