@@ -1,21 +1,22 @@
 -- Laws of the lists of edges as they are filled: an edge, the steps of one place more, a step of a place to itself. Assumes nothing.
 use mathlib.Core.Path.{_≡_, refl, sym, ap, ap₂, _∙_}
-use mathlib.Core.List.{List, _++_}
+use mathlib.Core.List.{List, _++_, append-nil}
 use mathlib.Core.Bool.{Bool, true, false, _||_, _&&_, not, and-true, and-false, and-comm, or-false, or-self, or-assoc, and-or-distrib-left}
 use Prim.Native.Nat.{ℕ, _+_, _-_, _*_, _≤_, _<_}
 use native.Mathlib.Decide.{decLt, ℕ-discrete}
 use native.Mathlib.Omega.{arith}
-use lib.ListN.{length, getD, take}
-use lib.Seq.{length-take-le, take-at}
+use lib.ListN.{length, getD, take, drop, length-append, length-drop, drop-of-length-le}
+use lib.Seq.{length-take-le, take-take, take-at, drop-at}
 use lib.Dec.{eqb, ltb}
 use borrow.Author.Tests.{eq-eqb, ne-eqb, lt-ltb, le-ltb}
 use Rattle.bits.proofs.Tests.{or-left}
-use Rattle.graph.specs.Lists.{step, listed, Lists, Blank, Room, Added}
-use Rattle.graph.specs.Graphs.{places, Sized}
-use Rattle.graph.specs.declared.Edges.{Edges}
+use Rattle.graph.specs.Lists.{listed, Blank}
+use Rattle.graph.specs.Graphs.{places, entries, edgesAt, headOf, stepOf, ListsAt, Room, Added}
 use Rattle.graph.proofs.Lists.{listed-end, listed-step, blank-lists, blank-step}
+use Rattle.graph.proofs.Graphs.{heads-size, heads-at}
 use Rattle.flow.specs.Flow.{some}
-use Rattle.flow.specs.Edges.{goes, Inside, Space, Holds, turn, edge, withEdge, stepsBelow, withSelf, Drawn}
+use Rattle.flow.specs.FlowOf.{flow-entries}
+use Rattle.flow.specs.Edges.{goes, Inside, Holds, turn, edge, withEdge, stepsBelow, withSelf, stepsBack, Drawn, BothDrawn}
 use Rattle.flow.proofs.Some.{some-none, some-same, some-here}
 
 -- what holds below k, and at k, is what holds below k + 1
@@ -27,41 +28,27 @@ below-and f k x = go (decLt x k) (ℕ-discrete k x)
     go (no l) (yes e) = rw (le-ltb x k (omega arith), lt-ltb x (k + 1) (omega arith), eq-eqb k x e) (ap f e)
     go (no l) (no e) = rw (le-ltb x k (omega arith), le-ltb x (k + 1) (omega arith), ne-eqb k x e)
 
--- ---- lists that a loop fills
+-- ---- the numbers
 
--- they are as long as those at the start, and hold the steps f
-pub record Filled (head₀ link₀ to₀ head link to : List ℕ) (count most : ℕ) (f : ℕ → ℕ → Bool) : Type 0 where
-  pub head-size : length head ≡ length head₀
-  pub link-size : length link ≡ length link₀
-  pub to-size : length to ≡ length to₀
-  pub holds : Holds head link to count most f
+-- there is room for two edges of each of n places, and one more of those that have none
+pub space-room : {n : ℕ} {ws : List ℕ} → n ≤ places → length ws ≡ entries → (count s t : ℕ) → count < 3 * n → s < n → t < n → Room ws count s t
+space-room few e count s t c ls lt = record { size = e; more = omega arith; source = omega arith; target = omega arith }
 
-module _ {head₀ link₀ to₀ head link to : List ℕ} {count most : ℕ} {f : ℕ → ℕ → Bool} (w : Filled head₀ link₀ to₀ head link to count most f) where
-  pub filled-room : (n : ℕ) → length head₀ ≡ n → Space n link₀ to₀ → (s t : ℕ) → count < 3 * n → s < n → t < n → Room head link to count s t
-  filled-room n e p s t c ls lt = record {
-    link-room = omega (arith, p .link-room);
-    to-room = omega (arith, p .to-room);
-    small = omega (arith, p .few);
-    source = omega arith;
-    target = omega arith;
-    places = omega (arith, p .few);
-  }
-
-  pub filled-next : (head′ link′ to′ : List ℕ) (r most′ : ℕ) (g : ℕ → ℕ → Bool) → length head′ ≡ length head → length link′ ≡ length link → length to′ ≡ length to → Holds head′ link′ to′ r most′ g
-      → Filled head₀ link₀ to₀ head′ link′ to′ r most′ g
-  filled-next head′ link′ to′ r most′ g eh el et h = record { head-size = eh ∙ w .head-size; link-size = el ∙ w .link-size; to-size = et ∙ w .to-size; holds = h }
+-- the first n numbers are cleared
+pub cleared-heads : (n : ℕ) (blank ws : List ℕ) → n ≤ places → length blank ≡ n → headOf n (edgesAt (blank ++ drop n ws)) ≡ blank
+cleared-heads n blank ws few e = take-take n places (blank ++ drop n ws) few ∙ take-at blank (drop n ws) n e
 
 -- ---- one edge
 
-module _ (head link to head′ link′ to′ : List ℕ) (count s t r : ℕ) (turned : Bool) where
-  pub added-straight : turned ≡ false → Added head link to head′ link′ to′ count s t r → Holds head′ link′ to′ r (count + 1) (withEdge (step head link to) turned s t)
+module _ (n : ℕ) (ws ws′ : List ℕ) (count s t r : ℕ) (turned : Bool) where
+  pub added-straight : turned ≡ false → Added n ws ws′ count s t r → Holds n ws′ r (count + 1) (withEdge (stepOf n (edgesAt ws)) turned s t)
   added-straight e a = rw e (record { lists = a .lists; few = omega (arith, a .more); steps = a .steps })
 
-  pub added-turned : turned ≡ true → Added head link to head′ link′ to′ count t s r → Holds head′ link′ to′ r (count + 1) (withEdge (step head link to) turned s t)
+  pub added-turned : turned ≡ true → Added n ws ws′ count t s r → Holds n ws′ r (count + 1) (withEdge (stepOf n (edgesAt ws)) turned s t)
   added-turned e a = rw e (record {
     lists = a .lists;
     few = omega (arith, a .more);
-    steps = λ x y. a .steps x y ∙ ap (λ (b : Bool). step head link to x y || b) (and-comm (eqb t x) (eqb s y));
+    steps = λ x y. a .steps x y ∙ ap (λ (b : Bool). stepOf n (edgesAt ws) x y || b) (and-comm (eqb t x) (eqb s y));
   })
 
 -- ---- the steps of the first k places, in either direction
@@ -74,16 +61,16 @@ turn-same : (turned : Bool) (f g : ℕ → ℕ → Bool) → ((a b : ℕ) → f 
 turn-same true f g e x y = e y x
 turn-same false f g e x y = e x y
 
-module _ (first second : List ℕ) (turned : Bool) where
+module _ (first second : List ℕ) (turned : Bool) (n : ℕ) where
   -- the first k places' steps are in the lists
-  abbrev pub Connected : List ℕ → List ℕ → List ℕ → ℕ → ℕ → Type 0
-  Connected head link to count k = Holds head link to count (2 * k) (turn turned (stepsBelow first second k))
+  abbrev pub Connected : List ℕ → ℕ → ℕ → Type 0
+  Connected ws count k = Holds n ws count (2 * k) (turn turned (stepsBelow first second k))
 
-  pub connected-none : (head link to : List ℕ) → Blank head → Connected head link to 0 0
-  connected-none head link to b = record {
-    lists = blank-lists head link to b;
+  pub connected-none : (ws : List ℕ) → Blank (headOf n (edgesAt ws)) → Connected ws 0 0
+  connected-none ws b = record {
+    lists = blank-lists (headOf n (edgesAt ws)) (edgesAt ws .link) (edgesAt ws .to) b;
     few = omega arith;
-    steps = λ x y. blank-step head link to b x y ∙ none turned x y;
+    steps = λ x y. blank-step (headOf n (edgesAt ws)) (edgesAt ws .link) (edgesAt ws .to) b x y ∙ none turned x y;
   }
     where
       below : (x y : ℕ) → false ≡ stepsBelow first second 0 x y
@@ -100,14 +87,14 @@ module _ (first second : List ℕ) (turned : Bool) where
       (ap (λ (c : Bool). stepsBelow first second k x y || c) (sym (and-or-distrib-left (eqb k x) (eqb (getD first k 0) y) (eqb (getD second k 0) y)))
       ∙ below-and (λ z. goes first second z y) k x)
 
-  module _ (k a b : ℕ) (ea : a ≡ getD first k 0) (eb : b ≡ getD second k 0) (head link to : List ℕ) (count : ℕ) (h : Connected head link to count k)
-      (head₁ link₁ to₁ : List ℕ) (r₁ : ℕ) (p : Holds head₁ link₁ to₁ r₁ (count + 1) (withEdge (step head link to) turned k a)) where
+  module _ (k a b : ℕ) (ea : a ≡ getD first k 0) (eb : b ≡ getD second k 0) (ws : List ℕ) (count : ℕ) (h : Connected ws count k)
+      (ws₁ : List ℕ) (r₁ : ℕ) (p : Holds n ws₁ r₁ (count + 1) (withEdge (stepOf n (edgesAt ws)) turned k a)) where
     -- the steps with the first edge
-    once : (x y : ℕ) → step head₁ link₁ to₁ x y ≡ turn turned (λ u v. stepsBelow first second k u v || edge k a u v) x y
+    once : (x y : ℕ) → stepOf n (edgesAt ws₁) x y ≡ turn turned (λ u v. stepsBelow first second k u v || edge k a u v) x y
     once x y = p .steps x y ∙ ap (λ (c : Bool). c || turn turned (edge k a) x y) (h .steps x y) ∙ turn-or turned (stepsBelow first second k) (edge k a) x y
 
     -- the successors are one place
-    pub connected-one : a ≡ b → Connected head₁ link₁ to₁ r₁ (k + 1)
+    pub connected-one : a ≡ b → Connected ws₁ r₁ (k + 1)
     connected-one e = record {
       lists = p .lists;
       few = omega (arith, p .few, h .few);
@@ -118,8 +105,8 @@ module _ (first second : List ℕ) (turned : Bool) where
         one x y = ap (λ (c : Bool). stepsBelow first second k x y || c) (sym (or-self (edge k a x y))) ∙ fork k a a ea (e ∙ eb) x y
 
     -- and two
-    pub connected-two : (head₂ link₂ to₂ : List ℕ) (r₂ : ℕ) → Holds head₂ link₂ to₂ r₂ (r₁ + 1) (withEdge (step head₁ link₁ to₁) turned k b) → Connected head₂ link₂ to₂ r₂ (k + 1)
-    connected-two head₂ link₂ to₂ r₂ q = record {
+    pub connected-two : (ws₂ : List ℕ) (r₂ : ℕ) → Holds n ws₂ r₂ (r₁ + 1) (withEdge (stepOf n (edgesAt ws₁)) turned k b) → Connected ws₂ r₂ (k + 1)
+    connected-two ws₂ r₂ q = record {
       lists = q .lists;
       few = omega (arith, q .few, p .few, h .few);
       steps = λ x y.
@@ -129,8 +116,8 @@ module _ (first second : List ℕ) (turned : Bool) where
         two : (x y : ℕ) → ((stepsBelow first second k x y || edge k a x y) || edge k b x y) ≡ stepsBelow first second (k + 1) x y
         two x y = or-assoc (stepsBelow first second k x y) (edge k a x y) (edge k b x y) ∙ fork k a b ea eb x y
 
-  pub connected-all : (head link to : List ℕ) (count k n : ℕ) → k ≡ n → Connected head link to count k → Connected head link to count n
-  connected-all head link to count k n e h = rw e at h
+  pub connected-all : (ws : List ℕ) (count k m : ℕ) → k ≡ m → Connected ws count k → Connected ws count m
+  connected-all ws count k m e h = rw e at h
 
 -- ---- steps to itself
 
@@ -139,22 +126,34 @@ withSelf-same n f g e k x y = ap₂ (λ (u v : Bool). u || (ltb x k && (eqb x y 
 
 module _ (n : ℕ) (f : ℕ → ℕ → Bool) where
   -- the lists hold the steps f, and of the first k places those without any step to themselves
-  abbrev pub SelfStepped : List ℕ → List ℕ → List ℕ → ℕ → ℕ → Type 0
-  SelfStepped head link to count k = Holds head link to count (2 * n + k) (withSelf n f k)
+  abbrev pub SelfStepped : List ℕ → ℕ → ℕ → Type 0
+  SelfStepped ws count k = Holds n ws count (2 * n + k) (withSelf n f k)
 
-  pub self-none : (head link to : List ℕ) (count : ℕ) → Lists head link to count → count ≤ 2 * n → ((a b : ℕ) → step head link to a b ≡ f a b) → SelfStepped head link to count 0
-  self-none head link to count g l e = record {
+  pub self-none : (ws : List ℕ) (count : ℕ) → ListsAt n ws count → count ≤ 2 * n → ((a b : ℕ) → stepOf n (edgesAt ws) a b ≡ f a b) → SelfStepped ws count 0
+  self-none ws count g l e = record {
     lists = g;
     few = omega arith;
     steps = λ a b. e a b ∙ sym (ap (λ (z : Bool). f a b || (z && (eqb a b && not (some n (f a))))) (le-ltb a 0 (omega arith)) ∙ or-false (f a b));
   }
 
-  module _ (head link to : List ℕ) (count k : ℕ) (l : k < n) (size : length head ≡ n) (h : SelfStepped head link to count k) where
+  module _ (ws : List ℕ) (count k : ℕ) (l : k < n) (few : n ≤ places) (room : length ws ≡ entries) (h : SelfStepped ws count k) where
+    abbrev head : List ℕ
+    head = headOf n (edgesAt ws)
+
+    abbrev link : List ℕ
+    link = edgesAt ws .link
+
+    abbrev to : List ℕ
+    to = edgesAt ws .to
+
+    size : length head ≡ n
+    size = heads-size ws room n few
+
     -- at k nothing was added yet
-    here : (t : ℕ) → step head link to k t ≡ f k t
+    here : (t : ℕ) → stepOf n (edgesAt ws) k t ≡ f k t
     here t = h .steps k t ∙ ap (λ (z : Bool). f k t || (z && (eqb k t && not (some n (f k))))) (le-ltb k k (omega arith)) ∙ or-false (f k t)
 
-    pub self-skip : (getD head k 0 ≡ 0 → ⊥) → SelfStepped head link to count (k + 1)
+    pub self-skip : (getD ws k 0 ≡ 0 → ⊥) → SelfStepped ws count (k + 1)
     self-skip z = record {
       lists = h .lists;
       few = omega (arith, h .few);
@@ -167,19 +166,22 @@ module _ (n : ℕ) (f : ℕ → ℕ → Bool) where
         e : ℕ
         e = getD head k 0 - 1
 
+        some-edge : 0 < getD head k 0
+        some-edge = rw (heads-at ws room n k few l) (omega (arith, z))
+
         first-step : f k (getD to e 0) ≡ true
         first-step =
             let b = h .lists .heads k in
-            sym (here (getD to e 0)) ∙ listed-step link to count (h .lists .edges .links) (getD to e 0) (getD head k 0) (omega arith) b ∙ or-left (eqb (getD to e 0) (getD to e 0)) _ (eq-eqb (getD to e 0) (getD to e 0) refl)
+            sym (here (getD to e 0)) ∙ listed-step link to count (h .lists .edges .links) (getD to e 0) (getD head k 0) some-edge b ∙ or-left (eqb (getD to e 0) (getD to e 0)) _ (eq-eqb (getD to e 0) (getD to e 0) refl)
 
         off : (x y : ℕ) → (eqb k x && (eqb k y && not (some n (f k)))) ≡ false
         off x y =
             let b = h .lists .heads k in
-            let t = h .lists .edges .targets e (omega arith) in
-            ap (λ (z : Bool). eqb k x && (eqb k y && not z)) (some-here n (f k) (getD to e 0) (omega arith) first-step) ∙ ap (λ (z : Bool). eqb k x && z) (and-false (eqb k y)) ∙ and-false (eqb k x)
+            let t = h .lists .edges .targets e (omega (arith, some-edge)) in
+            ap (λ (z : Bool). eqb k x && (eqb k y && not z)) (some-here n (f k) (getD to e 0) (omega (arith, size)) first-step) ∙ ap (λ (z : Bool). eqb k x && z) (and-false (eqb k y)) ∙ and-false (eqb k x)
 
-    pub self-more : getD head k 0 ≡ 0 → (head′ link′ to′ : List ℕ) (r : ℕ) → Added head link to head′ link′ to′ count k k r → SelfStepped head′ link′ to′ r (k + 1)
-    self-more z head′ link′ to′ r a = record {
+    pub self-more : getD ws k 0 ≡ 0 → (ws′ : List ℕ) (r : ℕ) → Added n ws ws′ count k k r → SelfStepped ws′ r (k + 1)
+    self-more z ws′ r a = record {
       lists = a .lists;
       few = omega (arith, a .more, h .few);
       steps = λ x y.
@@ -188,20 +190,19 @@ module _ (n : ℕ) (f : ℕ → ℕ → Bool) where
     }
       where
         none : some n (f k) ≡ false
-        none = some-none n (f k) (λ t b. sym (here t) ∙ ap (λ (j : ℕ). listed link to j t) z ∙ listed-end link to t)
+        none = some-none n (f k) (λ t b. sym (here t) ∙ ap (λ (j : ℕ). listed link to j t) (heads-at ws room n k few l ∙ z) ∙ listed-end link to t)
 
         on : (y : ℕ) → eqb k y ≡ (eqb k y && not (some n (f k)))
         on y = sym (ap (λ (b : Bool). eqb k y && not b) none ∙ and-true (eqb k y))
 
-  pub self-all : (head link to : List ℕ) (count k : ℕ) → k ≡ n → SelfStepped head link to count k → Holds head link to count (3 * n) (withSelf n f n)
-  self-all head link to count k e h = record { lists = h .lists; few = omega (arith, h .few); steps = λ x y. h .steps x y ∙ ap (λ (j : ℕ). withSelf n f j x y) e }
+  pub self-all : (ws : List ℕ) (count k : ℕ) → k ≡ n → SelfStepped ws count k → Holds n ws count (3 * n) (withSelf n f n)
+  self-all ws count k e h = record { lists = h .lists; few = omega (arith, h .few); steps = λ x y. h .steps x y ∙ ap (λ (j : ℕ). withSelf n f j x y) e }
 
--- the same of as many places and the same steps
-pub self-same : (m n : ℕ) (f g : ℕ → ℕ → Bool) → m ≡ n → ((a b : ℕ) → f a b ≡ g a b) → (head link to : List ℕ) (count : ℕ) → Holds head link to count (3 * m) (withSelf m f m)
-    → Holds head link to count (3 * n) (withSelf n g n)
-self-same m n f g d e head link to count h = rw (← d) (record { lists = h .lists; few = h .few; steps = λ x y. h .steps x y ∙ withSelf-same m f g e m x y })
+-- the same of the same steps
+pub self-same : (n : ℕ) (f g : ℕ → ℕ → Bool) → ((a b : ℕ) → f a b ≡ g a b) → (ws : List ℕ) (count : ℕ) → Holds n ws count (3 * n) (withSelf n f n) → Holds n ws count (3 * n) (withSelf n g n)
+self-same n f g e ws count h = record { lists = h .lists; few = h .few; steps = λ x y. h .steps x y ∙ withSelf-same n f g e n x y }
 
--- ---- in the arrays of the code
+-- ---- as a graph
 
 pub inside-fewer : (first second : List ℕ) (k n : ℕ) → k ≤ n → Inside first second n n → Inside first second k n
 inside-fewer first second k n l i = record {
@@ -212,16 +213,34 @@ inside-fewer first second k n l i = record {
   seconds = λ s b. i .seconds s (omega arith);
 }
 
-module _ (n : ℕ) (few : n ≤ places) (e : Edges) (sized : Sized e) where
-  pub head-size : length (take n (e .head)) ≡ n
-  head-size = length-take-le n (e .head) (omega (arith, sized .head-size))
+pub holds-drawn : (n : ℕ) (ws : List ℕ) (count most : ℕ) (f : ℕ → ℕ → Bool) → n ≤ places → length ws ≡ entries → Holds n ws count most f → Drawn n (edgesAt ws) f
+holds-drawn n ws count most f few size h = record { size = heads-size ws size n few; linked = record { count = count; lists = h .lists }; steps = h .steps }
 
-  pub edges-space : Space n (e .link) (e .to)
-  edges-space = record { few = few; link-room = omega (arith, sized .link-size); to-room = omega (arith, sized .to-size) }
+-- both directions, each in its part of the numbers xs
+module _ (n : ℕ) (first second xs ys zs : List ℕ) (few : n ≤ places) (size : length xs ≡ flow-entries) (ahead : length ys ≡ entries) where
+  abbrev half : List ℕ
+  half = ys ++ drop entries xs
 
--- the heads of n places stand before what is left of the array
-pub holds-drawn : (n : ℕ) (head rest link to : List ℕ) (count most : ℕ) (f : ℕ → ℕ → Bool) → length head ≡ n → Holds head link to count most f
-    → Drawn n (record { head = head ++ rest; link = link; to = to }) f
-holds-drawn n head rest link to count most f size h =
-    let front = take-at head rest n size in
-    record { size = rw front size; linked = rw front (record { count = count; lists = h .lists }); steps = rw front (h .steps) }
+  -- the second part's numbers
+  abbrev others : ℕ
+  others = length half - entries
+
+  abbrev new : List ℕ
+  new = take entries half ++ (zs ++ drop others (drop entries half))
+
+  half-size : length half ≡ flow-entries
+  half-size = simp (length-append, length-drop) (omega arith)
+
+  front : take entries new ≡ ys
+  front = take-at (take entries half) _ entries (length-take-le entries half (omega (arith, half-size))) ∙ take-at ys _ entries ahead
+
+  back : drop entries new ≡ zs
+  back =
+      drop-at (take entries half) _ entries (length-take-le entries half (omega (arith, half-size)))
+      ∙ ap (λ (l : List ℕ). zs ++ l) (drop-of-length-le (drop entries half) {i = others} (rw (length-drop entries half) (omega arith))) ∙ append-nil zs
+
+  pub both-drawn : length zs ≡ length (take others (drop entries half)) → (c most d least : ℕ) → Holds n ys c most (stepsBelow first second n) → Holds n zs d least (stepsBack first second n)
+      → BothDrawn n first second new
+  both-drawn e c most d least f b =
+      let behind : length zs ≡ entries = e ∙ length-take-le others (drop entries half) (rw (length-drop entries half) (omega arith)) ∙ (omega (arith, half-size)) in
+      record { ahead = rw front (holds-drawn n ys c most _ few ahead f); behind = rw back (holds-drawn n zs d least _ few behind b) }

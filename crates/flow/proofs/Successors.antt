@@ -16,6 +16,7 @@ use Rattle.program.specs.declared.Program.{Program}
 use Rattle.program.specs.Program.{at, WellFormed}
 use Rattle.program.specs.Reading.{statementIn, statements, Held}
 use Rattle.program.proofs.Held.{held, at-held, length-held}
+use Rattle.graph.specs.Graphs.{places}
 use Rattle.flow.specs.Edges.{Follow, goes, Successors, Inside}
 use Rattle.flow.proofs.Model.{forward-inside}
 
@@ -41,10 +42,19 @@ pub record Listed (es : List Entry) (n : ℕ) (first₀ second₀ first second :
   pub second-size : length second ≡ length second₀
   pub follow : (j : ℕ) → j < s → Follow (at (map statementIn (take n es)) j) j (getD first j 0) (getD second j 0)
 
-module _ (es : List Entry) (n : ℕ) (fits : n ≤ length es) (first₀ second₀ : List ℕ) (first-room : n ≤ length first₀) (second-room : n ≤ length second₀)
-    (first second : List ℕ) (s : ℕ) (l : Listed es n first₀ second₀ first second s) where
+module _ (p : Program) (h : Held p) (first₀ second₀ : List ℕ) (first-room : length first₀ ≡ places) (second-room : length second₀ ≡ places)
+    (first second : List ℕ) (s : ℕ) (l : Listed (p .entries) (p .count) first₀ second₀ first second s) where
+  abbrev es : List Entry
+  es = p .entries
+
+  abbrev n : ℕ
+  n = p .count
+
+  fits : n ≤ length es
+  fits = count-fits p h
+
   pub listed-more : (a b : ℕ) → s < n → Follow (held es s) s a b → Listed es n first₀ second₀ (set first s a) (set second s b) (s + 1)
-  listed-more a b h f = record {
+  listed-more a b low f = record {
     first-size = length-set first s a ∙ l .first-size;
     second-size = length-set second s b ∙ l .second-size;
     follow = below-more _ s earlier here;
@@ -56,16 +66,16 @@ module _ (es : List Entry) (n : ℕ) (fits : n ≤ length es) (first₀ second�
       here : Follow (at (map statementIn (take n es)) s) s (getD (set first s a) s 0) (getD (set second s b) s 0)
       here =
           rw (
-            getD-set-same first s a 0 (omega (arith, l .first-size)),
-            getD-set-same second s b 0 (omega (arith, l .second-size)),
-            at-held es n s (rw (length-held es n fits) h),
+            getD-set-same first s a 0 (omega (arith, l .first-size, h .few)),
+            getD-set-same second s b 0 (omega (arith, l .second-size, h .few)),
+            at-held es n s (rw (length-held es n fits) low),
           )
           f
 
-  pub listed-all : n ≤ s → Successors (map statementIn (take n es)) first second
-  listed-all h = record {
-    first-room = rw (length-held es n fits) (omega (arith, l .first-size));
-    second-room = rw (length-held es n fits) (omega (arith, l .second-size));
+  pub listed-all : n ≤ s → Successors (statements p) first second
+  listed-all past = record {
+    first-room = rw (length-held es n fits) (omega (arith, l .first-size, h .few));
+    second-room = rw (length-held es n fits) (omega (arith, l .second-size, h .few));
     exact = λ j t k. l .follow j (omega (arith, length-held es n fits)) t;
   }
 

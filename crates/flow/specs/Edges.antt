@@ -3,13 +3,13 @@
 use mathlib.Core.Path.{_≡_}
 use mathlib.Core.List.{List}
 use mathlib.Core.Bool.{Bool, true, false, not, _&&_, _||_}
-use Prim.Native.Nat.{ℕ, _-_, _*_, _≤_, _<_}
+use Prim.Native.Nat.{ℕ, _-_, _≤_, _<_}
 use lib.ListN.{length, getD}
 use lib.Dec.{eqb, ltb}
 use Rattle.language.specs.declared.Statement.{Statement}
-use Rattle.graph.specs.Lists.{step, Lists, Linked}
-use Rattle.graph.specs.Graphs.{places, headOf, stepOf}
-use Rattle.graph.specs.declared.Edges.{Edges}
+use Rattle.graph.specs.Lists.{Linked}
+use Rattle.graph.specs.Graphs.{places, Edges, entries, edgesAt, headOf, stepOf, ListsAt}
+use Rattle.flow.specs.FlowOf.{flowAt}
 use Rattle.flow.specs.Flow.{leads, isWrite, stepsForward, some}
 
 -- a and b are where the statement x at place s steps forward to, the same place twice where there is one
@@ -34,17 +34,16 @@ pub record Inside (first second : List ℕ) (k n : ℕ) : Type 0 where
   pub firsts : (s : ℕ) → s < k → getD first s 0 < n
   pub seconds : (s : ℕ) → s < k → getD second s 0 < n
 
--- there is room for the edges of n places: two for each, and one more of those that have none
-pub record Space (n : ℕ) (link to : List ℕ) : Type 0 where
+-- the numbers have room for the edges of n places
+pub record Space (n : ℕ) (ws : List ℕ) : Type 0 where
   pub few : n ≤ places
-  pub link-room : 3 * n ≤ length link
-  pub to-room : 3 * n ≤ length to
+  pub size : length ws ≡ entries
 
--- at most `most` edges, with the steps f
-pub record Holds (head link to : List ℕ) (count most : ℕ) (f : ℕ → ℕ → Bool) : Type 0 where
-  pub lists : Lists head link to count
+-- at most `most` edges of n places, with the steps f
+pub record Holds (n : ℕ) (ws : List ℕ) (count most : ℕ) (f : ℕ → ℕ → Bool) : Type 0 where
+  pub lists : ListsAt n ws count
   pub few : count ≤ most
-  pub steps : (s t : ℕ) → step head link to s t ≡ f s t
+  pub steps : (s t : ℕ) → stepOf n (edgesAt ws) s t ≡ f s t
 
 -- the steps f, or those turned around
 abbrev pub turn : Bool → (ℕ → ℕ → Bool) → ℕ → ℕ → Bool
@@ -76,3 +75,8 @@ pub record Drawn (n : ℕ) (e : Edges) (f : ℕ → ℕ → Bool) : Type 0 where
   pub size : length (headOf n e) ≡ n
   pub linked : Linked (headOf n e) (e .link) (e .to)
   pub steps : (s t : ℕ) → stepOf n e s t ≡ f s t
+
+-- both directions of n places
+pub record BothDrawn (n : ℕ) (first second ws : List ℕ) : Type 0 where
+  pub ahead : Drawn n (flowAt ws .forward) (stepsBelow first second n)
+  pub behind : Drawn n (flowAt ws .backward) (stepsBack first second n)

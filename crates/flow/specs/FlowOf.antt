@@ -1,12 +1,23 @@
--- What it means that the code's value of a control-flow graph is that of a program.
+-- Where a control-flow graph stands in lent numbers, and what it means that it is that of a program.
 use mathlib.Core.Path.{_≡_}
 use mathlib.Core.List.{List}
-use Prim.Native.Nat.{ℕ, _<_}
-use lib.ListN.{length}
+use Prim.Native.Nat.{ℕ, _+_, _<_}
+use lib.ListN.{length, take, drop}
 use Rattle.language.specs.declared.Statement.{Statement}
-use Rattle.graph.specs.Graphs.{stepOf, Directions}
+use Rattle.graph.specs.Graphs.{Edges, entries, edgesAt, stepOf, Directions}
 use Rattle.flow.specs.Flow as model
-use Rattle.flow.specs.declared.Flow.{Flow}
+
+-- the edges in both directions
+pub record Flow : Type 0 where
+  pub forward : Edges
+  pub backward : Edges
+
+-- both directions' numbers, forward first; the code's ENTRIES
+abbrev pub flow-entries : ℕ
+flow-entries = entries + entries
+
+abbrev pub flowAt : List ℕ → Flow
+flowAt ws = record { forward = edgesAt (take entries ws); backward = edgesAt (drop entries ws) }
 
 -- the edges in each direction are the model's steps; they make a graph ("All paths are thus infinite"), and the other direction's turn it
 -- around

@@ -1,22 +1,24 @@
 // The control-flow graph of a program: its steps forward and backward as lists of edges.
 ghost use mathlib.Core.Path.{_≡_};
-ghost use Prim.Native.Nat.{_+_, _-_, _*_, _≤_, _<_};
+ghost use Prim.Native.Nat.{ℕ, _+_, _-_, _*_, _≤_, _<_};
 ghost use lib.ListN.{length};
 ghost use Rattle.program.specs.Program.{most, Targets, WellFormed};
 ghost use Rattle.program.specs.Reading.{statements, Held};
-ghost use Rattle.graph.specs.Lists.{step, Lists, Room};
-ghost use Rattle.graph.specs.Graphs.{places};
-ghost use Rattle.flow.specs.FlowOf.{FlowOf};
-ghost use Rattle.flow.specs.Edges.{Follow, Successors, Inside, Space, Holds, turn, withEdge, stepsBelow, withSelf, stepsBack, Drawn};
-use graph::Edges;
+ghost use Rattle.graph.specs.Graphs.{places, edgesAt, stepOf, ListsAt, Room};
+ghost use Rattle.flow.specs.FlowOf.{flow-entries, flowAt, FlowOf};
+ghost use Rattle.flow.specs.Edges.{Follow, Inside, Space, Holds, turn, withEdge, stepsBelow, withSelf, stepsBack, BothDrawn};
 use graph::PLACES;
 use language::Statement;
 use program::Program;
 
-// The steps of a program's statements, in both directions.
-pub struct Flow {
-    pub forward: Edges,
-    pub backward: Edges,
+// The numbers of both directions, forward first.
+pub const ENTRIES: usize = graph::ENTRIES + graph::ENTRIES;
+
+// Room for a control-flow graph.
+pub fn blank() -> [u16; ENTRIES]
+    ensures { λ r. ⌜ length r ≡ flow-entries ⌝ }
+{
+    [0; ENTRIES]
 }
 
 // The successors of a statement, twice the same where it has one.
@@ -61,70 +63,40 @@ fn successors_of(e: Statement, s: usize) -> Next
     }
 }
 
-// The successors of each statement.
-fn list_successors(p: Program, first: &mut [u16], second: &mut [u16])
-    requires { ⌜ Held p ⌝ }
-    requires { ⌜ WellFormed (statements p) ⌝ }
-    requires { ⌜ (p .count ≤ length (now first)) × (p .count ≤ length (now second)) ⌝ }
-    ensures { λ _. ⌜ Successors (statements p) (now (first .exit)) (now (second .exit)) ⌝ }
-{
-    let entries = p.entries;
-    let n = p.count;
-    let mut s: usize = 0;
-    while s < n {
-        let e = entries[s];
-        let t = e.statement;
-        let r = successors_of(t, s);
-        first[s] = r.first;
-        second[s] = r.second;
-        s += 1;
-    }
-}
-
 // An edge from s to t, or from t to s where `turned` says so. Returns the number of edges.
-fn add(
-    head: &mut [u16],
-    link: &mut [u16],
-    to: &mut [u16],
-    count: usize,
-    turned: bool,
-    s: usize,
-    t: usize,
-) -> usize
-    requires { ⌜ Lists (now head) (now link) (now to) count ⌝ }
-    requires { ⌜ Room (now head) (now link) (now to) count s t ⌝ }
-    ensures { λ r. ⌜ Holds (now (head .exit)) (now (link .exit)) (now (to .exit)) r (count + 1) (withEdge (step (now (head .entry)) (now (link .entry)) (now (to .entry))) turned s t) ⌝ }
+fn add(edges: &mut [u16], count: usize, turned: bool, s: usize, t: usize) -> usize
+    requires { ⌜ Room (now edges) count s t ⌝ }
+    ensures { λ r. ⌜ ((n : ℕ) → n ≤ places → s < n → t < n → ListsAt n (now (edges .entry)) count → Holds n (now (edges .exit)) r (count + 1) (withEdge (stepOf n (edgesAt (now (edges .entry)))) turned s t)) ⌝ }
 {
     if turned {
-        graph::add(head, link, to, count, t, s)
+        graph::add(edges, count, t, s)
     } else {
-        graph::add(head, link, to, count, s, t)
+        graph::add(edges, count, s, t)
     }
 }
 
-// The steps of the first `sources` places, turned around where `turned` says so. Returns the number of edges.
+// The steps of the first `sources` of n places, turned around where `turned` says so. Returns the number of edges.
 fn connect(
+    n: usize,
     first: &[u16],
     second: &[u16],
     sources: usize,
     turned: bool,
-    head: &mut [u16],
-    link: &mut [u16],
-    to: &mut [u16],
+    edges: &mut [u16],
 ) -> usize
-    requires { ⌜ Inside (now first) (now second) sources (length (now head)) ⌝ }
-    requires { ⌜ Space (length (now head)) (now link) (now to) ⌝ }
-    ensures { λ r. ⌜ Holds (now (head .exit)) (now (link .exit)) (now (to .exit)) r (2 * sources) (turn turned (stepsBelow (now (first .entry)) (now (second .entry)) sources)) ⌝ }
+    requires { ⌜ Inside (now first) (now second) sources n ⌝ }
+    requires { ⌜ Space n (now edges) ⌝ }
+    ensures { λ r. ⌜ Holds n (now (edges .exit)) r (2 * sources) (turn turned (stepsBelow (now (first .entry)) (now (second .entry)) sources)) ⌝ }
 {
-    graph::clear(head);
+    graph::clear(&mut edges[..n]);
     let mut count: usize = 0;
     let mut k: usize = 0;
     while k < sources {
         let a = graph::wide(first[k]);
         let b = graph::wide(second[k]);
-        count = add(head, link, to, count, turned, k, a);
+        count = add(edges, count, turned, k, a);
         if a != b {
-            count = add(head, link, to, count, turned, k, b);
+            count = add(edges, count, turned, k, b);
             k += 1;
         } else {
             k += 1;
@@ -133,19 +105,17 @@ fn connect(
     count
 }
 
-// A step to itself for each place that has none. Returns the number of edges.
-fn add_self_steps(head: &mut [u16], link: &mut [u16], to: &mut [u16], start: usize) -> usize
-    requires { ⌜ Lists (now head) (now link) (now to) start ⌝ }
-    requires { ⌜ start ≤ 2 * length (now head) ⌝ }
-    requires { ⌜ Space (length (now head)) (now link) (now to) ⌝ }
-    ensures { λ r. ⌜ Holds (now (head .exit)) (now (link .exit)) (now (to .exit)) r (3 * length (now (head .entry))) (withSelf (length (now (head .entry))) (step (now (head .entry)) (now (link .entry)) (now (to .entry))) (length (now (head .entry)))) ⌝ }
+// A step to itself for each of n places that has none. Returns the number of edges.
+fn add_self_steps(n: usize, edges: &mut [u16], start: usize) -> usize
+    requires { ⌜ ListsAt n (now edges) start × (start ≤ 2 * n) ⌝ }
+    requires { ⌜ Space n (now edges) ⌝ }
+    ensures { λ r. ⌜ Holds n (now (edges .exit)) r (3 * n) (withSelf n (stepOf n (edgesAt (now (edges .entry)))) n) ⌝ }
 {
-    let n = head.len();
     let mut count = start;
     let mut s: usize = 0;
     while s < n {
-        if head[s] == 0 {
-            count = graph::add(head, link, to, count, s, s);
+        if edges[s] == 0 {
+            count = graph::add(edges, count, s, s);
             s += 1;
         } else {
             s += 1;
@@ -154,82 +124,53 @@ fn add_self_steps(head: &mut [u16], link: &mut [u16], to: &mut [u16], start: usi
     count
 }
 
-// From each place to its predecessors, and from a place without any to itself. The last place, `write`, steps forward to itself alone,
-// which does not count. Returns the number of edges.
-fn connect_back(
-    first: &[u16],
-    second: &[u16],
-    head: &mut [u16],
-    link: &mut [u16],
-    to: &mut [u16],
-) -> usize
-    requires { ⌜ (0 < length (now head)) × Inside (now first) (now second) (length (now head)) (length (now head)) ⌝ }
-    requires { ⌜ Space (length (now head)) (now link) (now to) ⌝ }
-    ensures { λ r. ⌜ Holds (now (head .exit)) (now (link .exit)) (now (to .exit)) r (3 * length (now (head .entry))) (stepsBack (now (first .entry)) (now (second .entry)) (length (now (head .entry)))) ⌝ }
+// From each of n places to its predecessors, and from a place without any to itself. The last place, `write`, steps forward to itself
+// alone, which does not count. Returns the number of edges.
+fn connect_back(n: usize, first: &[u16], second: &[u16], edges: &mut [u16]) -> usize
+    requires { ⌜ (0 < n) × Inside (now first) (now second) n n ⌝ }
+    requires { ⌜ Space n (now edges) ⌝ }
+    ensures { λ r. ⌜ Holds n (now (edges .exit)) r (3 * n) (stepsBack (now (first .entry)) (now (second .entry)) n) ⌝ }
 {
-    let n = head.len();
     let last = n - 1;
-    let count = connect(first, second, last, true, head, link, to);
-    add_self_steps(head, link, to, count)
+    let count = connect(n, first, second, last, true, edges);
+    add_self_steps(n, edges, count)
 }
 
-// The steps forward of n places.
-fn forward(n: usize, first: &[u16], second: &[u16]) -> Edges
-    requires { ⌜ n ≤ places ⌝ }
+// The steps of n places with these successors, forward and backward.
+fn draw(n: usize, first: &[u16], second: &[u16], flow: &mut [u16])
+    requires { ⌜ (0 < n) × (n ≤ places) × (length (now flow) ≡ flow-entries) ⌝ }
     requires { ⌜ Inside (now first) (now second) n n ⌝ }
-    ensures { λ r. ⌜ Drawn n r (stepsBelow (now (first .entry)) (now (second .entry)) n) ⌝ }
+    ensures { λ _. ⌜ BothDrawn n (now (first .entry)) (now (second .entry)) (now (flow .exit)) ⌝ }
 {
-    let e = graph::blank();
-    let mut head = e.head;
-    let mut link = e.link;
-    let mut to = e.to;
-    connect(first, second, n, false, &mut head[..n], &mut link, &mut to);
-    Edges {
-        head: head,
-        link: link,
-        to: to,
-    }
+    connect(n, first, second, n, false, &mut flow[..graph::ENTRIES]);
+    connect_back(n, first, second, &mut flow[graph::ENTRIES..]);
 }
 
-// The steps backward of n places.
-fn backward(n: usize, first: &[u16], second: &[u16]) -> Edges
-    requires { ⌜ (0 < n) × (n ≤ places) ⌝ }
-    requires { ⌜ Inside (now first) (now second) n n ⌝ }
-    ensures { λ r. ⌜ Drawn n r (stepsBack (now (first .entry)) (now (second .entry)) n) ⌝ }
-{
-    let e = graph::blank();
-    let mut head = e.head;
-    let mut link = e.link;
-    let mut to = e.to;
-    connect_back(first, second, &mut head[..n], &mut link, &mut to);
-    Edges {
-        head: head,
-        link: link,
-        to: to,
-    }
-}
-
-// An array to be filled.
-fn blank() -> [u16; PLACES]
+// Room for a number for each place.
+fn row() -> [u16; PLACES]
     ensures { λ r. ⌜ length r ≡ places ⌝ }
 {
     [0; PLACES]
 }
 
 // The control-flow graph of the program.
-pub fn of(p: Program) -> Flow
+pub fn of(p: Program, flow: &mut [u16])
     requires { ⌜ Held p ⌝ }
     requires { ⌜ WellFormed (statements p) ⌝ }
-    ensures { λ r. ⌜ FlowOf (statements p) r ⌝ }
+    requires { ⌜ length (now flow) ≡ flow-entries ⌝ }
+    ensures { λ _. ⌜ FlowOf (statements p) (flowAt (now (flow .exit))) ⌝ }
 {
     let n = p.count;
-    let mut first = blank();
-    let mut second = blank();
-    list_successors(p, &mut first, &mut second);
-    let f = forward(n, &first, &second);
-    let b = backward(n, &first, &second);
-    Flow {
-        forward: f,
-        backward: b,
+    let mut first = row();
+    let mut second = row();
+    let mut s: usize = 0;
+    while s < n {
+        let e = p.entries[s];
+        let t = e.statement;
+        let r = successors_of(t, s);
+        first[s] = r.first;
+        second[s] = r.second;
+        s += 1;
     }
+    draw(n, &first, &second, flow);
 }

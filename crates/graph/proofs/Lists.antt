@@ -3,18 +3,18 @@ use mathlib.Core.Path.{_≡_, refl, sym, ap, ap₂, _∙_}
 use mathlib.Core.List.{List}
 use mathlib.Core.Bool.{Bool, false, _||_, _&&_, or-comm, or-false}
 use Prim.Native.Nat.{ℕ, zero, suc, _+_, _-_, _≤_, _<_}
-use native.Mathlib.Nat.{min-le-right}
+use native.Mathlib.Numerals.{add-one}
 use native.Mathlib.Decide.{decLt, ℕ-discrete}
 use native.Mathlib.Omega.{arith}
-use lib.ListN.{length, getD, set, take, length-set, length-take}
-use lib.Seq.{getD-set-same, getD-set-other}
+use lib.ListN.{length, getD, set, take, length-set}
+use lib.Seq.{getD-set-same, getD-set-other, take-suc, take-suc-set}
 use lib.Dec.{eqb}
 use borrow.Author.Tests.{eq-eqb, ne-eqb}
-use Rattle.graph.specs.Lists.{leads, listed, step, Lists, Blank, Room, Added}
+use Rattle.graph.specs.Lists.{leads, listed, step, Lists, Blank}
 
--- the first n entries are n where there are as many
-pub take-room : (n : ℕ) (l : List ℕ) → length (take n l) ≡ n → n ≤ length l
-take-room n l e = omega (arith, sym e ∙ length-take n l, min-le-right n (length l))
+-- one entry more of a copy
+pub copy-more : (xs ys : List ℕ) (i : ℕ) → take i ys ≡ take i xs → i < length ys → i < length xs → take (i + 1) (set ys i (getD xs i 0)) ≡ take (i + 1) xs
+copy-more xs ys i e h l = rw (add-one, take-suc-set ys i (getD xs i 0) h, take-suc xs i 0 l, e)
 
 -- ---- along the links
 
@@ -80,7 +80,8 @@ module _ (head link to : List ℕ) (b : Blank head) where
 
 -- ---- one edge more
 
-module _ (head link to : List ℕ) (count s t : ℕ) (g : Lists head link to count) (r : Room head link to count s t) where
+module _ (head link to : List ℕ) (count s t : ℕ) (g : Lists head link to count)
+    (link-room : count < length link) (to-room : count < length to) (source : s < length head) (target : t < length head) where
   abbrev head′ : List ℕ
   head′ = set head s (count + 1)
 
@@ -94,10 +95,10 @@ module _ (head link to : List ℕ) (count s t : ℕ) (g : Lists head link to cou
   kept e l = (getD-set-other link count e _ 0 (omega arith), getD-set-other to count e t 0 (omega arith))
 
   link-new : getD link′ count 0 ≡ getD head s 0
-  link-new = getD-set-same link count (getD head s 0) 0 (r .link-room)
+  link-new = getD-set-same link count (getD head s 0) 0 link-room
 
   to-new : getD to′ count 0 ≡ t
-  to-new = getD-set-same to count t 0 (r .to-room)
+  to-new = getD-set-same to count t 0 to-room
 
   falling : Falling link′ (count + 1)
   falling e l = go (decLt e count)
@@ -111,10 +112,10 @@ module _ (head link to : List ℕ) (count s t : ℕ) (g : Lists head link to cou
     where
       go : Dec (e < count) → getD to′ e 0 < length head
       go (yes h) = rw (kept e h .1) (g .edges .targets e h)
-      go (no h) = let d : e ≡ count = omega arith in rw (d, to-new) (r .target)
+      go (no h) = let d : e ≡ count = omega arith in rw (d, to-new) target
 
   head-at : (a : ℕ) → Dec (a ≡ s) → getD head′ a 0 ≤ count + 1
-  head-at a (yes e) = rw (e, getD-set-same head s (count + 1) 0 (r .source)) (omega arith)
+  head-at a (yes e) = rw (e, getD-set-same head s (count + 1) 0 source) (omega arith)
   head-at a (no e) = rw (getD-set-other head s a (count + 1) 0 e) (omega (arith, g .heads a))
 
   -- the lists as they were
@@ -124,7 +125,7 @@ module _ (head link to : List ℕ) (count s t : ℕ) (g : Lists head link to cou
   step-at : (a b : ℕ) → Dec (a ≡ s) → step head′ link′ to′ a b ≡ (step head link to a b || (eqb s a && eqb t b))
   step-at a b (yes e) =
       let last : count + 1 - 1 ≡ count = omega arith in
-      ap (λ (x : ℕ). step head′ link′ to′ x b) e ∙ ap (λ (k : ℕ). listed link′ to′ k b) (getD-set-same head s (count + 1) 0 (r .source))
+      ap (λ (x : ℕ). step head′ link′ to′ x b) e ∙ ap (λ (k : ℕ). listed link′ to′ k b) (getD-set-same head s (count + 1) 0 source)
       ∙ listed-step link′ to′ (count + 1) falling b (count + 1) (omega arith) (omega arith)
       ∙ ap (λ (k : ℕ). eqb (getD to′ k 0) b || listed link′ to′ (getD link′ k 0) b) last
       ∙ ap₂ _||_ (ap (λ (x : ℕ). eqb x b) to-new) (ap (λ (k : ℕ). listed link′ to′ k b) link-new ∙ same (getD head s 0) b (g .heads s))
@@ -134,17 +135,16 @@ module _ (head link to : List ℕ) (count s t : ℕ) (g : Lists head link to cou
       ap (λ (k : ℕ). listed link′ to′ k b) (getD-set-other head s a (count + 1) 0 e) ∙ same (getD head a 0) b (g .heads a)
       ∙ sym (ap (λ (y : Bool). step head link to a b || (y && eqb t b)) (ne-eqb s a (λ d. e (sym d))) ∙ or-false _)
 
-  pub lists-add : Added head link to head′ link′ to′ count s t (count + 1)
-  lists-add = record {
-    more = refl;
-    lists = record {
-      heads = λ a. head-at a (ℕ-discrete a s);
-      edges = record {
-        links = falling;
-        targets = λ e l. simp length-set (target-at e l);
-        link-room = simp length-set (omega (arith, r .link-room));
-        to-room = simp length-set (omega (arith, r .to-room));
-      };
+  pub lists-more : Lists head′ link′ to′ (count + 1)
+  lists-more = record {
+    heads = λ a. head-at a (ℕ-discrete a s);
+    edges = record {
+      links = falling;
+      targets = λ e l. simp length-set (target-at e l);
+      link-room = simp length-set (omega (arith, link-room));
+      to-room = simp length-set (omega (arith, to-room));
     };
-    steps = λ a b. step-at a b (ℕ-discrete a s);
   }
+
+  pub step-more : (a b : ℕ) → step head′ link′ to′ a b ≡ (step head link to a b || (eqb s a && eqb t b))
+  step-more a b = step-at a b (ℕ-discrete a s)

@@ -1,12 +1,12 @@
--- The steps of a graph in one direction and in the other, as lists and as two `Edges` of the code.
+-- The steps of a graph in one direction and in the other, as lists, and where these stand in a lent slice.
 use mathlib.Core.Path.{_≡_}
 use mathlib.Core.List.{List}
-use mathlib.Core.Bool.{Bool}
-use Prim.Native.Nat.{ℕ, _*_, _≤_, _<_}
-use lib.ListN.{length, take}
+use mathlib.Core.Bool.{Bool, _||_, _&&_}
+use Prim.Native.Nat.{ℕ, _+_, _*_, _≤_, _<_}
+use lib.ListN.{length, take, drop}
+use lib.Dec.{eqb}
 use Rattle.ctl.specs.Paths.{Graph}
-use Rattle.graph.specs.Lists.{step, Linked}
-use Rattle.graph.specs.declared.Edges.{Edges}
+use Rattle.graph.specs.Lists.{step, Lists, Linked}
 
 -- the most places of a graph, the code's PLACES: "N is their count, 2 to 256"
 abbrev pub places : ℕ
@@ -32,6 +32,20 @@ pub record Turned (n : ℕ) (head link to entry chain from : List ℕ) : Type 0 
   pub graph : Graph n (step head link to)
   pub opposite : Opposite n (step head link to) (step entry chain from)
 
+-- the lists of one direction
+pub record Edges : Type 0 where
+  pub head : List ℕ
+  pub link : List ℕ
+  pub to : List ℕ
+
+-- one direction's numbers: the heads, the links, then the targets; the code's ENTRIES
+abbrev pub entries : ℕ
+entries = places + (edges + edges)
+
+-- the lists that stand in the numbers ws
+abbrev pub edgesAt : List ℕ → Edges
+edgesAt ws = record { head = take places ws; link = take edges (drop places ws); to = take edges (drop (places + edges) ws) }
+
 -- the heads of the first n places
 abbrev pub headOf : ℕ → Edges → List ℕ
 headOf n e = take n (e .head)
@@ -44,8 +58,25 @@ stepOf n e = step (headOf n e) (e .link) (e .to)
 abbrev pub Directions : ℕ → Edges → Edges → Type 0
 Directions n steps opposite = Turned n (headOf n steps) (steps .link) (steps .to) (headOf n opposite) (opposite .link) (opposite .to)
 
--- every entry has its room
-pub record Sized (e : Edges) : Type 0 where
-  pub head-size : length (e .head) ≡ places
-  pub link-size : length (e .link) ≡ edges
-  pub to-size : length (e .to) ≡ edges
+-- the same in lent numbers
+pub record DirectionsAt (n : ℕ) (steps opposite : List ℕ) : Type 0 where
+  pub steps-size : length steps ≡ entries
+  pub opposite-size : length opposite ≡ entries
+  pub directions : Directions n (edgesAt steps) (edgesAt opposite)
+
+-- `count` edges of the first n places
+abbrev pub ListsAt : ℕ → List ℕ → ℕ → Type 0
+ListsAt n ws count = Lists (headOf n (edgesAt ws)) (edgesAt ws .link) (edgesAt ws .to) count
+
+-- there is room for one more edge, from s to t
+pub record Room (ws : List ℕ) (count s t : ℕ) : Type 0 where
+  pub size : length ws ≡ entries
+  pub more : count < edges
+  pub source : s < places
+  pub target : t < places
+
+-- `new` has the edges of `old`, and one more from s to t
+pub record Added (n : ℕ) (old new : List ℕ) (count s t r : ℕ) : Type 0 where
+  pub more : r ≡ count + 1
+  pub lists : ListsAt n new r
+  pub steps : (a b : ℕ) → stepOf n (edgesAt new) a b ≡ (stepOf n (edgesAt old) a b || (eqb s a && eqb t b))

@@ -3,8 +3,8 @@
 -- the place that the edge leads to.
 use mathlib.Core.Path.{_≡_}
 use mathlib.Core.List.{List}
-use mathlib.Core.Bool.{Bool, false, _||_, _&&_}
-use Prim.Native.Nat.{ℕ, zero, suc, _+_, _≤_, _<_}
+use mathlib.Core.Bool.{Bool, false, _||_}
+use Prim.Native.Nat.{ℕ, zero, suc, _≤_, _<_}
 use lib.ListN.{length, getD}
 use lib.Dec.{eqb}
 
@@ -49,18 +49,3 @@ pub record From (link to : List ℕ) (n k : ℕ) : Type 0 where
 -- no place has an edge
 pub record Blank (head : List ℕ) : Type 0 where
   pub blank : (s : ℕ) → getD head s 0 ≡ 0
-
--- there is room for one more edge, from s to t, in 16-bit entries
-pub record Room (head link to : List ℕ) (count s t : ℕ) : Type 0 where
-  pub link-room : count < length link
-  pub to-room : count < length to
-  pub small : count < 65535
-  pub source : s < length head
-  pub target : t < length head
-  pub places : length head ≤ 65536
-
--- the lists with the primes are those without, and one edge from s to t more
-pub record Added (head link to head′ link′ to′ : List ℕ) (count s t r : ℕ) : Type 0 where
-  pub more : r ≡ count + 1
-  pub lists : Lists head′ link′ to′ r
-  pub steps : (a b : ℕ) → step head′ link′ to′ a b ≡ (step head link to a b || (eqb s a && eqb t b))

@@ -1,5 +1,5 @@
-// Graphs as lists of edges, and whether the steps of a place lead into a set. The lists stand in lent slices, with one entry of
-// `head` for each place; `Edges` holds those of one direction by value.
+// Graphs as lists of edges, and whether the steps of a place lead into a set. The lists stand in lent slices, those of one direction
+// in one slice of ENTRIES numbers, with one of the heads for each place.
 ghost use mathlib.Core.Path.{_≡_};
 ghost use mathlib.Core.Bool.{true};
 ghost use mathlib.Core.Logic.{_↔_};
@@ -8,31 +8,16 @@ ghost use lib.ListN.{length};
 ghost use Rattle.bits.specs.Row.{member};
 ghost use Rattle.ctl.specs.Paths.{quant, So};
 ghost use Rattle.ctl.specs.Tables.{Onto};
-ghost use Rattle.graph.specs.Lists.{step, Lists, Linked, Blank, Room, Added};
-ghost use Rattle.graph.specs.Graphs.{Sized};
+ghost use Rattle.graph.specs.Lists.{step, Linked, Blank};
+ghost use Rattle.graph.specs.Graphs.{places, ListsAt, Room, Added};
 
 // The most places of a graph, and their edges.
 pub const PLACES: usize = 256;
 
 pub const EDGES: usize = 3 * PLACES;
 
-// The steps of up to PLACES places in one direction.
-pub struct Edges {
-    pub head: [u16; PLACES],
-    pub link: [u16; EDGES],
-    pub to: [u16; EDGES],
-}
-
-// Room for the edges of PLACES places.
-pub fn blank() -> Edges
-    ensures { λ r. ⌜ Sized r ⌝ }
-{
-    Edges {
-        head: [0; PLACES],
-        link: [0; EDGES],
-        to: [0; EDGES],
-    }
-}
+// The numbers of one direction: the heads, the links, then the targets.
+pub const ENTRIES: usize = PLACES + (EDGES + EDGES);
 
 // An entry as a number to index by.
 pub fn wide(x: u16) -> usize
@@ -52,22 +37,27 @@ pub fn clear(head: &mut [u16])
     }
 }
 
-// One edge more, from s to t. Returns the number of edges.
-pub fn add(
-    head: &mut [u16],
-    link: &mut [u16],
-    to: &mut [u16],
-    count: usize,
-    s: usize,
-    t: usize,
-) -> usize
-    requires { ⌜ Lists (now head) (now link) (now to) count ⌝ }
-    requires { ⌜ Room (now head) (now link) (now to) count s t ⌝ }
-    ensures { λ r. ⌜ Added (now (head .entry)) (now (link .entry)) (now (to .entry)) (now (head .exit)) (now (link .exit)) (now (to .exit)) count s t r ⌝ }
+// A slice's entries, copied.
+pub fn copy(from: &[u16], to: &mut [u16])
+    requires { ⌜ length (now to) ≡ length (now from) ⌝ }
+    ensures { λ _. ⌜ now (to .exit) ≡ now (from .entry) ⌝ }
 {
-    link[count] = head[s];
-    to[count] = t as u16;
-    head[s] = (count + 1) as u16;
+    let n = from.len();
+    let mut k: usize = 0;
+    while k < n {
+        to[k] = from[k];
+        k += 1;
+    }
+}
+
+// One edge more, from s to t. Returns the number of edges.
+pub fn add(edges: &mut [u16], count: usize, s: usize, t: usize) -> usize
+    requires { ⌜ Room (now edges) count s t ⌝ }
+    ensures { λ r. ⌜ ((n : ℕ) → n ≤ places → s < n → t < n → ListsAt n (now (edges .entry)) count → Added n (now (edges .entry)) (now (edges .exit)) count s t r) ⌝ }
+{
+    edges[PLACES + count] = edges[s];
+    edges[PLACES + EDGES + count] = t as u16;
+    edges[s] = (count + 1) as u16;
     count + 1
 }
 

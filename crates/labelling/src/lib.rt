@@ -8,10 +8,11 @@ ghost use Rattle.bits.specs.Row.{member};
 ghost use Rattle.ctl.specs.Paths.{Paths, quant, So};
 ghost use Rattle.ctl.specs.Tables.{Onto, Grown};
 ghost use Rattle.graph.specs.Lists.{step, Linked};
-ghost use Rattle.graph.specs.Graphs.{places, headOf, stepOf, Directions};
+ghost use Rattle.graph.specs.Graphs.{places, entries, edgesAt, headOf, stepOf, DirectionsAt};
 ghost use Rattle.labelling.specs.Labels.{Said, Labelled, Rows};
 ghost use Rattle.labelling.specs.Worklist.{Spare};
-use graph::Edges;
+use graph::EDGES;
+use graph::ENTRIES;
 use graph::PLACES;
 
 // What is said of one path: X p, F p, G p, p U q, p W q.
@@ -43,18 +44,19 @@ fn preimage(all: bool, head: &[u16], link: &[u16], to: &[u16], p: &[u64], out: &
 }
 
 // The places of E[X p], or of A[X p].
-fn next(all: bool, n: usize, steps: Edges, p: &[u64], out: &mut [u64])
-    requires { ⌜ (length (headOf n steps) ≡ n) × Linked (headOf n steps) (steps .link) (steps .to) ⌝ }
+fn next(all: bool, n: usize, steps: &[u16], p: &[u64], out: &mut [u64])
+    requires { ⌜ (length (now steps) ≡ entries) × (n ≤ places) ⌝ }
+    requires { ⌜ Linked (headOf n (edgesAt (now steps))) (edgesAt (now steps) .link) (edgesAt (now steps) .to) ⌝ }
     requires { ⌜ (n ≤ length (now p) * 64) × (n ≤ length (now out) * 64) ⌝ }
-    ensures { λ _. ⌜ Labelled n (member (now (out .exit))) (Onto (quant all) (stepOf n steps) (So (member (now (p .entry))))) ⌝ }
+    ensures { λ _. ⌜ Labelled n (member (now (out .exit))) (Onto (quant all) (stepOf n (edgesAt (now (steps .entry)))) (So (member (now (p .entry))))) ⌝ }
 {
-    let head = steps.head;
-    let link = steps.link;
-    let to = steps.to;
-    preimage(all, &head[..n], &link, &to, p, out);
+    let head = &steps[..PLACES];
+    let link = &steps[PLACES..PLACES + EDGES];
+    let to = &steps[PLACES + EDGES..ENTRIES];
+    preimage(all, &head[..n], link, to, p, out);
 }
 
-// Room for a stack of places.
+// Room for a number for each place.
 fn blank() -> [u16; PLACES]
     ensures { λ r. ⌜ length r ≡ places ⌝ }
 {
@@ -62,27 +64,28 @@ fn blank() -> [u16; PLACES]
 }
 
 // `set` holds q, and comes back with the places of E[p U q], or of A[p U q].
-fn until(all: bool, n: usize, steps: Edges, opposite: Edges, p: &[u64], set: &mut [u64])
-    requires { ⌜ Directions n steps opposite ⌝ }
+fn until(all: bool, n: usize, steps: &[u16], opposite: &[u16], p: &[u64], set: &mut [u64])
+    requires { ⌜ DirectionsAt n (now steps) (now opposite) ⌝ }
     requires { ⌜ (n ≤ length (now p) * 64) × (n ≤ length (now set) * 64) ⌝ }
-    ensures { λ _. ⌜ Grown (quant all) n (stepOf n steps) (member (now (p .entry))) (member (now (set .entry))) (member (now (set .exit))) ⌝ }
+    ensures { λ _. ⌜ Grown (quant all) n (stepOf n (edgesAt (now (steps .entry)))) (member (now (p .entry))) (member (now (set .entry))) (member (now (set .exit))) ⌝ }
 {
-    let head = steps.head;
-    let link = steps.link;
-    let to = steps.to;
-    let entry = opposite.head;
-    let chain = opposite.link;
-    let from = opposite.to;
-    let mut rest = steps.head;
+    let head = &steps[..PLACES];
+    let link = &steps[PLACES..PLACES + EDGES];
+    let to = &steps[PLACES + EDGES..ENTRIES];
+    let entry = &opposite[..PLACES];
+    let chain = &opposite[PLACES..PLACES + EDGES];
+    let from = &opposite[PLACES + EDGES..ENTRIES];
+    let mut rest = blank();
     let mut stack = blank();
+    graph::copy(&head[..n], &mut rest[..n]);
     worklist::close(
         all,
         &head[..n],
-        &link,
-        &to,
+        link,
+        to,
         &entry[..n],
-        &chain,
-        &from,
+        chain,
+        from,
         p,
         set,
         &mut rest[..n],
@@ -96,18 +99,18 @@ fn apply(
     op: Operator,
     all: bool,
     n: usize,
-    steps: Edges,
-    opposite: Edges,
+    steps: &[u16],
+    opposite: &[u16],
     places: &[u64],
     p: &[u64],
     q: &[u64],
     through: &mut [u64],
     out: &mut [u64],
 )
-    requires { ⌜ Directions n steps opposite ⌝ }
+    requires { ⌜ DirectionsAt n (now steps) (now opposite) ⌝ }
     requires { ⌜ Rows n (now p) (now q) (now out) ⌝ }
     requires { ⌜ Spare n (now places) (now through) (now out) ⌝ }
-    ensures { λ _. ⌜ Labelled n (member (now (out .exit))) (λ s. Paths (quant all) (stepOf n steps) s (Said op (So (member (now (p .entry)))) (So (member (now (q .entry)))))) ⌝ }
+    ensures { λ _. ⌜ Labelled n (member (now (out .exit))) (λ s. Paths (quant all) (stepOf n (edgesAt (now (steps .entry)))) s (Said op (So (member (now (p .entry)))) (So (member (now (q .entry)))))) ⌝ }
 {
     match op {
         Operator::Next => next(all, n, steps, p, out),
@@ -138,15 +141,15 @@ pub fn label(
     op: Operator,
     all: bool,
     n: usize,
-    steps: Edges,
-    opposite: Edges,
+    steps: &[u16],
+    opposite: &[u16],
     p: &[u64],
     q: &[u64],
     out: &mut [u64],
 )
-    requires { ⌜ Directions n steps opposite ⌝ }
+    requires { ⌜ DirectionsAt n (now steps) (now opposite) ⌝ }
     requires { ⌜ Rows n (now p) (now q) (now out) ⌝ }
-    ensures { λ _. ⌜ Labelled n (member (now (out .exit))) (λ s. Paths (quant all) (stepOf n steps) s (Said op (So (member (now (p .entry)))) (So (member (now (q .entry)))))) ⌝ }
+    ensures { λ _. ⌜ Labelled n (member (now (out .exit))) (λ s. Paths (quant all) (stepOf n (edgesAt (now (steps .entry)))) s (Said op (So (member (now (p .entry)))) (So (member (now (q .entry)))))) ⌝ }
 {
     let w = out.len();
     let mut places = bits::blank();

@@ -1,12 +1,12 @@
 -- What is left of filling one part. Assumes nothing.
-use mathlib.Core.Path.{_≡_, refl, sym, ap, _∙_}
+use mathlib.Core.Path.{_≡_}
 use mathlib.Core.List.{List, _++_}
 use Prim.Native.Nat.{ℕ, _+_, _*_, _-_, _≤_}
 use native.Mathlib.Omega.{arith}
 use lib.ListN.{length, take, drop, length-take, length-drop}
 use Rattle.language.specs.Parsing.{Parsed, found, misspelled}
 use Rattle.bits.specs.Row.{member}
-use Rattle.labelling.specs.Labels.{Labelled, Rows}
+use Rattle.labelling.specs.Labels.{Labelled}
 use Rattle.table.specs.Table.{part-words, row, Written}
 use Rattle.table.proofs.Splice.{splice-part, splice-kept}
 

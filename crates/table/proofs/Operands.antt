@@ -1,25 +1,23 @@
 -- From the rows of the operands to the truth of the part. Assumes nothing.
-use mathlib.Core.Path.{_≡_, refl, sym, ap, _∙_, subst}
-use mathlib.Core.Bool.{Bool, true, false}
+use mathlib.Core.Path.{_≡_, sym}
+use mathlib.Core.Bool.{true, false}
 use mathlib.Core.List.{List}
 use mathlib.Core.Logic.{_↔_, Iff·trans, ⊎-elim, inl, inr}
-use Prim.Native.Nat.{ℕ, _+_, _-_, _*_, _/_, _%_, _≤_, _<_}
+use Prim.Native.Nat.{ℕ, _-_, _/_, _%_, _≤_, _<_}
 use native.Mathlib.Omega.{arith}
 use lib.ListN.{length}
 use borrow.Author.Tests.{lt-ltb, le-ltb}
 use Rattle.language.specs.declared.Statement.{Statement}
-use Rattle.ctl.specs.Paths.{Quant, E, A, Graph, quant}
+use Rattle.ctl.specs.Paths.{E, A, quant}
 use Rattle.ctl.proofs.Paths.{paths-same}
 use Rattle.labelling.proofs.Labels.{said-iff}
-use Rattle.labelling.specs.declared.Operator.{Operator}
-use Rattle.flow.specs.Flow.{Direction, forward, backward, steps}
-use Rattle.flow.specs.FlowOf.{FlowOf}
-use Rattle.flow.specs.declared.Flow.{Flow}
+use Rattle.flow.specs.Flow.{forward, backward, steps}
+use Rattle.flow.specs.FlowOf.{Flow, FlowOf}
 use Rattle.condition.specs.Condition.{next, finally, globally, until, weak, Unary, negation, Binary, conjunction, disjunction, Condition, atom, unary, binary}
 use Rattle.condition.specs.Reading.{unaryCode, binaryCode}
 use Rattle.condition.specs.Truth.{Sat}
 use Rattle.table.specs.Table.{partAt}
-use Rattle.table.specs.Rules.{Operation, one, two, codeOf, ruleOf, direction, SatRule, flowSteps}
+use Rattle.table.specs.Rules.{Operation, one, two, codeOf, ruleOf, SatRule, flowSteps}
 use Rattle.table.specs.Fill.{leftOf, Tells}
 use Rattle.table.specs.declared.Rule.{Rule}
 use Rattle.table.specs.declared.Rule.the-variants as rule

@@ -1,27 +1,26 @@
 -- A part that was filled is right. Assumes nothing.
-use mathlib.Core.Path.{_≡_, refl, sym, ap, _∙_, subst}
+use mathlib.Core.Path.{_≡_, refl, sym, subst}
 use mathlib.Core.Bool.{false}
 use mathlib.Core.List.{List}
 use mathlib.Core.Logic.{_↔_, Iff·trans}
-use Prim.Native.Nat.{ℕ, _+_, _-_, _*_, _/_, _%_, _≤_, _<_}
+use Prim.Native.Nat.{ℕ, _-_, _/_, _%_, _≤_, _<_}
 use native.Mathlib.Omega.{arith}
-use lib.ListN.{length, drop}
+use lib.ListN.{length, take, drop, length-drop}
+use lib.Seq.{length-take-le, take-all}
 use Rattle.language.specs.declared.Statement.{Statement}
 use Rattle.language.specs.Parsing.{found}
 use Rattle.bits.specs.Row.{member}
 use Rattle.ctl.specs.Paths.{So}
-use Rattle.labelling.specs.Labels.{Labelled}
-use Rattle.flow.specs.FlowOf.{FlowOf}
-use Rattle.flow.specs.declared.Flow.{Flow}
+use Rattle.graph.specs.Graphs.{entries, DirectionsAt}
+use Rattle.flow.specs.FlowOf.{flow-entries, flowAt}
+use Rattle.atoms.specs.Facts.{FactsOf}
 use Rattle.condition.specs.Condition.{Condition, atom, unary, binary}
 use Rattle.condition.specs.Parsing.{parseAtom}
 use Rattle.condition.specs.Truth.{Holds, Sat}
 use Rattle.condition.specs.declared.Atom.{Atom}
-use Rattle.program.specs.Reading.{statements, Held}
-use Rattle.program.specs.declared.Program.{Program}
-use Rattle.program.proofs.Held.{length-held}
-use Rattle.table.specs.Table.{part-words, row, partAt, Written}
+use Rattle.table.specs.Table.{row, partAt, Written}
 use Rattle.table.specs.Rules.{Operation, codeOf, ruleOf, SatRule, flowSteps, BothWays}
+use Rattle.table.specs.Known.{Known}
 use Rattle.table.specs.Fill.{leftOf, Tells, PartReady}
 use Rattle.table.proofs.Operands.{rule-sat, Operands, operands, unary-above, binary-above}
 
@@ -32,7 +31,10 @@ written-map X Y f w =
       labelled = record { exact = λ s l. Iff·trans (w .labelled .exact s l) (f s l); beyond = w .labelled .beyond };
     }
 
-module _ (P : List Statement) (f : Flow) (t : List ℕ) (c : Condition) (w : ℕ) (old : List ℕ) (k : ℕ) (r : PartReady P f t c w old k) where
+module _ {P : List Statement} {n : ℕ} {facts : List (List ℕ)} {flow t : List ℕ} {c : Condition} {w : ℕ} {old : List ℕ} {k : ℕ} (r : PartReady P n facts flow t c w old k) where
+  abbrev size : n ≡ length P
+  size = sym (r .known .size)
+
   -- a part with an operator's code
   module _ (code : w % 256 ≡ 0 → ⊥) where
     abbrev ops : Operands P c k w
@@ -47,36 +49,50 @@ module _ (P : List Statement) (f : Flow) (t : List ℕ) (c : Condition) (w : ℕ
     pub before-clear : (s : ℕ) → length P ≤ s → member (row old (k - 1)) s ≡ false
     before-clear s l = let i = ops .inside in r .rows (k - 1) (omega arith) .beyond s l
 
-    pub operator-written : (new : List ℕ) (n left : ℕ) → n ≡ length P → left ≡ leftOf w k
-        → ((x : Operation) → codeOf x ≡ w % 256 → Written old new k n (SatRule (flowSteps n f) (ruleOf x) (So (member (row old left))) (So (member (row old (k - 1))))))
+    pub operator-written : (new : List ℕ) (left : ℕ) → left ≡ leftOf w k
+        → ((x : Operation) → codeOf x ≡ w % 256 → Written old new k n (SatRule (flowSteps n (flowAt flow)) (ruleOf x) (So (member (row old left))) (So (member (row old (k - 1))))))
         → Written old new k (length P) (Sat P (partAt c k))
-    operator-written new n left size is h =
+    operator-written new left is h =
         let i = ops .inside in
         let g =
-        subst (λ (j : ℕ). Written old new k (length P) (SatRule (flowSteps (length P) f) (ruleOf (ops .operation)) (So (member (row old j))) (So (member (row old (k - 1)))))) is
-        (subst (λ (m : ℕ). Written old new k m (SatRule (flowSteps m f) (ruleOf (ops .operation)) (So (member (row old left))) (So (member (row old (k - 1)))))) size
+        subst (λ (j : ℕ). Written old new k (length P) (SatRule (flowSteps (length P) (flowAt flow)) (ruleOf (ops .operation)) (So (member (row old j))) (So (member (row old (k - 1)))))) is
+        (subst (λ (m : ℕ). Written old new k m (SatRule (flowSteps m (flowAt flow)) (ruleOf (ops .operation)) (So (member (row old left))) (So (member (row old (k - 1)))))) size
         (h (ops .operation) (ops .coded))) in
         written-map _ (Sat P (partAt c k))
         (λ s l. Iff·trans
-        (rule-sat P f (r .flows) _ _ (Sat P (partAt c (leftOf w k))) (Sat P (partAt c (k - 1))) (λ u b. r .rows (leftOf w k) i .exact u b) (λ u b. r .rows (k - 1) (omega arith) .exact u b) (ruleOf (ops .operation)) s l)
+        (rule-sat P (flowAt flow) (r .known .flows) _ _ (Sat P (partAt c (leftOf w k))) (Sat P (partAt c (k - 1))) (λ u b. r .rows (leftOf w k) i .exact u b) (λ u b. r .rows (k - 1) (omega arith) .exact u b) (ruleOf (ops .operation)) s l)
         (ops .sat s))
         g
 
   -- a part with an atom's
-  pub atom-written : (new : List ℕ) (n : ℕ) → n ≡ length P → w % 256 ≡ 0
-      → ((a : Atom) (rest : List ℕ) → parseAtom (drop (w / 16777216) t) ≡ found a rest → Written old new k n (Holds P a))
+  pub atom-written : (new : List ℕ) → w % 256 ≡ 0
+      → ((Q : List Statement) (a : Atom) (rest : List ℕ) → length Q ≡ n → FactsOf Q facts → parseAtom (drop (w / 16777216) t) ≡ found a rest → Written old new k n (Holds Q a))
       → Written old new k (length P) (Sat P (partAt c k))
   unfolding Sat
-  atom-written new n size code h = go (partAt c k) refl (r .tells)
+  atom-written new code h = go (partAt c k) refl (r .tells)
     where
       go : (q : Condition) → partAt c k ≡ q → Tells t c k w q → Written old new k (length P) (Sat P (partAt c k))
-      go (atom a) e d = rw e (subst (λ (m : ℕ). Written old new k m (Holds P a)) size (h a (d .1) (d .2)))
+      go (atom a) e d = rw e (subst (λ (m : ℕ). Written old new k m (Holds P a)) size (h P a (d .1) (r .known .size) (r .known .found) (d .2)))
       go (unary o p) e d = let b = unary-above o in absurd (omega arith)
       go (binary o p q) e d = let b = binary-above o in absurd (omega arith)
 
--- the code's count of a program's statements
-pub count-size : (p : Program) → Held p → p .count ≡ length (statements p)
-count-size p h = sym (length-held (p .entries) (p .count) (omega (arith, h .room, h .few)))
+pub both-ways : {P : List Statement} {n : ℕ} {facts : List (List ℕ)} {flow : List ℕ} → Known P n facts flow → BothWays n flow
+both-ways x = rw (← x .size) (record { size = x .flow-size; ahead = x .flows .forward; behind = x .flows .backward })
 
-pub both-ways : (P : List Statement) (f : Flow) (n : ℕ) → n ≡ length P → FlowOf P f → BothWays n f
-both-ways P f n size x = subst (λ (m : ℕ). BothWays m f) (sym size) (record { ahead = x .forward; behind = x .backward })
+-- the parts of the numbers that are lent on
+module _ (flow : List ℕ) (size : length flow ≡ flow-entries) where
+  pub forward-size : length (take entries flow) ≡ entries
+  forward-size = length-take-le entries flow (omega arith)
+
+  backward-size : length (drop entries flow) ≡ entries
+  backward-size = rw (length-drop entries flow) (omega arith)
+
+  pub backward-part : take (length flow - entries) (drop entries flow) ≡ drop entries flow
+  backward-part = take-all (length flow - entries) (drop entries flow) (omega (arith, backward-size))
+
+module _ (n : ℕ) (flow : List ℕ) (b : BothWays n flow) where
+  pub lent-ahead : DirectionsAt n (take entries flow) (take (length flow - entries) (drop entries flow))
+  lent-ahead = rw (backward-part flow (b .size)) (record { steps-size = forward-size flow (b .size); opposite-size = backward-size flow (b .size); directions = b .ahead })
+
+  pub lent-behind : DirectionsAt n (take (length flow - entries) (drop entries flow)) (take entries flow)
+  lent-behind = rw (backward-part flow (b .size)) (record { steps-size = backward-size flow (b .size); opposite-size = forward-size flow (b .size); directions = b .behind })

@@ -1,20 +1,14 @@
 -- The rows of the operators that look at one place only. Assumes nothing.
 use mathlib.Core.Path.{_≡_, refl, sym, ap, ap₂, _∙_}
 use mathlib.Core.Bool.{Bool, true, false, not, _&&_, _||_}
-use mathlib.Core.Logic.{_↔_, _⊎_, inl, inr, ⊎-elim}
-use Prim.Native.Nat.{ℕ, _≤_, _<_}
+use mathlib.Core.Logic.{_↔_, _⊎_, ⊎-elim}
+use Prim.Native.Nat.{ℕ, _≤_}
 use lib.Dec.{ltb}
 use borrow.Author.Tests.{lt-ltb, le-ltb}
 use Rattle.bits.proofs.Tests.{split, clash, and-left, and-right, and-both, or-case, or-left, or-right, not-of-false, false-of-not}
 use Rattle.ctl.specs.Paths.{So}
 use Rattle.labelling.specs.Labels.{Labelled}
-use native.Mathlib.Omega.{arith}
-use lib.ListN.{length}
-use Rattle.program.specs.Reading.{Decides, statements, Held}
-use Rattle.program.specs.declared.Program.{Program}
-use Rattle.program.proofs.Held.{held, length-held, at-held}
-use Rattle.condition.specs.Truth.{HoldsAt, Holds}
-use Rattle.condition.specs.declared.Atom.{Atom}
+use Rattle.program.specs.Reading.{Decides}
 
 -- a test that decides a claim is true exactly where the claim is
 pub decides-iff : {X : Type 0} (b : Bool) → Decides b X → (b ≡ true) ↔ X
@@ -48,12 +42,3 @@ module _ (n : ℕ) (y : ℕ → Bool) where
 
   pub empty-row : ((j : ℕ) → y j ≡ false) → Labelled n y (λ s. ⊥)
   empty-row f = record { exact = λ s l. (λ e. clash e (f s), λ x. absurd x); beyond = λ s l. f s }
-
--- a test of the statement in the code's entry is one of the program's statement
-pub atom-iff : (p : Program) → Held p → (a : Atom) (s : ℕ) → s < p .count → (b : Bool) → Decides b (HoldsAt (p .count) (held (p .entries) s) s a)
-    → (b ≡ true) ↔ Holds (statements p) a s
-atom-iff p h a s l b d =
-    let fits : p .count ≤ length (p .entries) = omega (arith, h .room, h .few) in
-    let n : length (statements p) ≡ p .count = length-held (p .entries) (p .count) fits in
-    let inside : s < length (statements p) = omega arith in
-    decides-iff b (rw (n, at-held (p .entries) (p .count) s inside) d)

@@ -1,11 +1,11 @@
 -- A list of which a part in the middle was replaced, and one that is copied from the front. Assumes nothing.
-use mathlib.Core.Path.{_≡_, refl, sym, ap, ap₂, _∙_}
+use mathlib.Core.Path.{_≡_, sym, ap, ap₂, _∙_}
 use mathlib.Core.List.{List, _++_}
-use Prim.Native.Nat.{ℕ, suc, _+_, _-_, _≤_, _<_}
-use native.Mathlib.Numerals.{add-one}
+use Prim.Native.Nat.{ℕ, _+_, _-_, _≤_, _<_}
 use native.Mathlib.Omega.{arith}
 use lib.ListN.{length, getD, set, take, drop, length-append, length-take, length-drop, List·getD-append}
-use lib.Seq.{take-at, drop-at, getD-take, getD-drop, getD-append-add, take-suc, take-suc-set}
+use lib.Seq.{take-at, drop-at, getD-take, getD-drop, getD-append-add}
+use Rattle.graph.proofs.Lists.{copy-more as entry-copied}
 use Rattle.table.specs.Table.{Kept}
 
 module _ (xs ys : List ℕ) (a d n : ℕ) (e : d ≡ n) (fits : a + n ≤ length xs) (l : length ys ≡ n) where
@@ -36,6 +36,4 @@ module _ (xs ys : List ℕ) (a d n : ℕ) (e : d ≡ n) (fits : a + n ≤ length
 -- one word more of a copy
 pub copy-more : (xs ys : List ℕ) (a i : ℕ) → take i ys ≡ take i (drop a xs) → i < length ys → a + i < length xs
     → take (i + 1) (set ys i (getD xs (a + i) 0)) ≡ take (i + 1) (drop a xs)
-copy-more xs ys a i e h l =
-    let k : i < length (drop a xs) = rw (length-drop a xs) (omega arith) in
-    rw (add-one, take-suc-set ys i (getD xs (a + i) 0) h, take-suc (drop a xs) i 0 k, e, getD-drop a xs i 0)
+copy-more xs ys a i e h l = rw (← getD-drop a xs i 0) (entry-copied (drop a xs) ys i e h (rw (length-drop a xs) (omega arith)))

@@ -1,10 +1,10 @@
 -- The table, part after part. Assumes nothing.
-use mathlib.Core.Path.{_≡_, refl, sym, ap, _∙_, subst}
+use mathlib.Core.Path.{_≡_, sym, _∙_, subst}
 use mathlib.Core.List.{List}
 use Prim.Native.Nat.{ℕ, _+_, _-_, _*_, _/_, _%_, _≤_, _<_}
 use native.Mathlib.Omega.{arith}
 use borrow.Author.Count.{below-more}
-use lib.ListN.{length, getD, take, drop}
+use lib.ListN.{length, getD, drop}
 use lib.Seq.{ext-getD, getD-take, getD-drop}
 use Rattle.language.specs.declared.Statement.{Statement}
 use Rattle.bits.specs.Row.{member}
@@ -12,10 +12,9 @@ use Rattle.labelling.specs.Labels.{Labelled}
 use Rattle.condition.specs.Condition.{Condition, atom, unary, binary, parts}
 use Rattle.condition.specs.Reading.{most-parts}
 use Rattle.condition.specs.Truth.{Sat}
-use Rattle.flow.specs.FlowOf.{FlowOf}
-use Rattle.flow.specs.declared.Flow.{Flow}
-use Rattle.condition.proofs.Words.{operatorCode, Describes, Operands, held-describes}
+use Rattle.condition.proofs.Words.{operatorCode, Operands, held-describes}
 use Rattle.table.specs.Table.{part-words, row, partAt, Kept, Written}
+use Rattle.table.specs.Known.{Known, SomeKnown}
 use Rattle.table.specs.Fill.{Tells, RowsRight, PartReady, HeldOf, SomeHeld, TableOf}
 use Rattle.table.proofs.Lent.{row-length}
 
@@ -48,33 +47,35 @@ module _ (old new : List ℕ) (k : ℕ) (kept : Kept old new (part-words * k) pa
       (λ j h. subst (λ (w : List ℕ). Labelled (length P) (member w) (Sat P (partAt c j))) (sym (row-kept j h)) (r j h)) l
 
 -- the parts before k are filled, and the words from there on are kept
-pub record SoFar (P : List Statement) (t : List ℕ) (m : ℕ) (ws old table : List ℕ) (k : ℕ) : Type 0 where
+pub record SoFar (n : ℕ) (facts : List (List ℕ)) (flow t : List ℕ) (m : ℕ) (ws old table : List ℕ) (k : ℕ) : Type 0 where
   pub within : k ≤ m
   pub room : part-words * m ≤ length old
   pub same : length table ≡ length old
-  pub rows : (c : Condition) → HeldOf t c m ws → RowsRight P c table k
+  pub rows : (P : List Statement) (c : Condition) → Known P n facts flow → HeldOf t c m ws → RowsRight P c table k
   pub past : (j : ℕ) → part-words * k ≤ j → getD table j 0 ≡ getD old j 0
 
-module _ {P : List Statement} {t : List ℕ} {m : ℕ} {ws old table : List ℕ} {k : ℕ} (i : SoFar P t m ws old table k) (l : k < m) where
-  pub part-ready : (f : Flow) → FlowOf P f → length P ≤ part-words * 64 → (c : Condition) → HeldOf t c m ws → PartReady P f t c (getD ws k 0) table k
-  part-ready f x few c h = record { flows = x; few = few; room = omega arith; tells = word-tells h k l; rows = i .rows c h }
+module _ {n : ℕ} {facts : List (List ℕ)} {flow t : List ℕ} {m : ℕ} {ws old table : List ℕ} {k : ℕ} (i : SoFar n facts flow t m ws old table k) where
+  module _ (l : k < m) where
+    pub part-ready : (P : List Statement) (c : Condition) → Known P n facts flow → HeldOf t c m ws → PartReady P n facts flow t c (getD ws k 0) table k
+    part-ready P c x h = record { known = x; room = omega (arith, i .same, i .room); tells = word-tells h k l; rows = i .rows P c x h }
 
-  pub so-far-more : (some : SomeHeld t m ws) (new : List ℕ) → ((c : Condition) → HeldOf t c m ws → Written table new k (length P) (Sat P (partAt c k))) → SoFar P t m ws old new (k + 1)
-  so-far-more some new w =
-      let kept = w (some .c) (some .held) .kept in
-      record {
-        within = omega arith;
-        room = i .room;
-        same = kept .same ∙ i .same;
-        rows = λ c h. rows-more table new k (w c h .kept) (omega arith) P c (i .rows c h) (w c h .labelled);
-        past = λ j b. kept .past j (omega arith) ∙ i .past j (omega arith);
-      }
+    pub so-far-more : SomeKnown n facts flow → SomeHeld t m ws → (new : List ℕ)
+        → ((P : List Statement) (c : Condition) → Known P n facts flow → HeldOf t c m ws → Written table new k (length P) (Sat P (partAt c k))) → SoFar n facts flow t m ws old new (k + 1)
+    so-far-more one some new w =
+        let kept = w (one .P) (some .c) (one .known) (some .held) .kept in
+        record {
+          within = omega arith;
+          room = i .room;
+          same = kept .same ∙ i .same;
+          rows = λ P c x h. rows-more table new k (w P c x h .kept) (omega (arith, i .same, i .room)) P c (i .rows P c x h) (w P c x h .labelled);
+          past = λ j b. kept .past j (omega arith) ∙ i .past j (omega arith);
+        }
 
-pub filled : {P : List Statement} {t : List ℕ} {m : ℕ} {ws old table : List ℕ} {k : ℕ} → SoFar P t m ws old table k → m ≤ k → (c : Condition) → HeldOf t c m ws → TableOf P c old table
-filled i l c h =
-    let n = h .held .counted in
-    let b = i .within in
-    record { same = i .same; rows = λ j d. i .rows c h j (omega arith); past = λ j d. i .past j (omega arith) }
+  pub filled : m ≤ k → (P : List Statement) (c : Condition) → Known P n facts flow → HeldOf t c m ws → TableOf P c old table
+  filled l P c x h =
+      let counted = h .held .counted in
+      let b = i .within in
+      record { same = i .same; rows = λ j d. i .rows P c x h j (omega arith); past = λ j d. i .past j (omega arith) }
 
 -- there are at most as many parts as words
 pub parts-held : {t : List ℕ} {m : ℕ} {ws : List ℕ} → SomeHeld t m ws → m ≤ most-parts

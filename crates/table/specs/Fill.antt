@@ -9,13 +9,12 @@ use Rattle.language.specs.declared.Statement.{Statement}
 use Rattle.language.specs.Parsing.{found}
 use Rattle.bits.specs.Row.{member}
 use Rattle.labelling.specs.Labels.{Labelled}
-use Rattle.flow.specs.FlowOf.{FlowOf}
-use Rattle.flow.specs.declared.Flow.{Flow}
 use Rattle.condition.specs.Condition.{Condition, atom, unary, binary, parts}
 use Rattle.condition.specs.Reading.{unaryCode, binaryCode, Taken, Held}
 use Rattle.condition.specs.Parsing.{parseAtom}
 use Rattle.condition.specs.Truth.{Sat}
 use Rattle.table.specs.Table.{part-words, row, partAt}
+use Rattle.table.specs.Known.{Known}
 
 abbrev pub pick : Bool → ℕ → ℕ → ℕ
 pick true a b = a
@@ -36,17 +35,17 @@ abbrev pub RowsRight : List Statement → Condition → List ℕ → ℕ → Typ
 RowsRight P c table k = (j : ℕ) → j < k → Labelled (length P) (member (row table j)) (Sat P (partAt c j))
 
 -- part k can be filled
-pub record PartReady (P : List Statement) (f : Flow) (t : List ℕ) (c : Condition) (w : ℕ) (table : List ℕ) (k : ℕ) : Type 0 where
-  pub flows : FlowOf P f
-  pub few : length P ≤ part-words * 64
+pub record PartReady (P : List Statement) (n : ℕ) (facts : List (List ℕ)) (flow t : List ℕ) (c : Condition) (w : ℕ) (table : List ℕ) (k : ℕ) : Type 0 where
+  pub known : Known P n facts flow
   pub room : part-words * k + part-words ≤ length table
   pub tells : Tells t c k w (partAt c k)
   pub rows : RowsRight P c table k
 
--- the same of some condition
-pub record SomeReady (P : List Statement) (f : Flow) (t : List ℕ) (w : ℕ) (table : List ℕ) (k : ℕ) : Type 0 where
+-- the same of some program and condition
+pub record SomeReady (n : ℕ) (facts : List (List ℕ)) (flow t : List ℕ) (w : ℕ) (table : List ℕ) (k : ℕ) : Type 0 where
+  pub P : List Statement
   pub c : Condition
-  pub ready : PartReady P f t c w table k
+  pub ready : PartReady P n facts flow t c w table k
 
 -- the text is taken as the condition c, and the first m of the words are those of its parts
 pub record HeldOf (t : List ℕ) (c : Condition) (m : ℕ) (ws : List ℕ) : Type 0 where

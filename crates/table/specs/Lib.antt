@@ -1,4 +1,5 @@
 pub mod Rules
 pub mod Table
+pub mod Known
 pub mod Fill
 pub mod Summary

@@ -1,11 +1,14 @@
 -- The code's rule for each operator, and what it says of the operands.
+use mathlib.Core.Path.{_≡_}
+use mathlib.Core.List.{List}
 use mathlib.Core.Bool.{Bool, true, false}
 use mathlib.Core.Logic.{_⊎_}
 use Prim.Native.Nat.{ℕ}
 use Rattle.ctl.specs.Paths.{Quant, E, A, Paths, quant}
+use lib.ListN.{length}
 use Rattle.graph.specs.Graphs.{stepOf, Directions}
 use Rattle.flow.specs.Flow.{Direction, forward, backward}
-use Rattle.flow.specs.declared.Flow.{Flow}
+use Rattle.flow.specs.FlowOf.{Flow, flow-entries, flowAt}
 use Rattle.condition.specs.Condition.{PathUnary, next, finally, globally, PathBinary, until, weak, Unary, negation, Binary, conjunction, disjunction}
 use Rattle.condition.specs.Reading.{unaryCode, binaryCode}
 use Rattle.labelling.specs.Labels.{Said}
@@ -59,12 +62,13 @@ SatRule step rule.Disjunction X Y s = X s ⊎ Y s
 SatRule step (rule.Path o all back) X Y s = Paths (quant all) (step (direction back)) s (Said o X Y)
 SatRule step rule.Nothing X Y s = ⊥
 
--- the steps of the first n places that the code's graphs hold
+-- the steps of the first n places that the graphs hold
 abbrev pub flowSteps : ℕ → Flow → Direction → ℕ → ℕ → Bool
 flowSteps n f forward = stepOf n (f .forward)
 flowSteps n f backward = stepOf n (f .backward)
 
--- both graphs have n places, and each is the other's opposite
-pub record BothWays (n : ℕ) (f : Flow) : Type 0 where
-  pub ahead : Directions n (f .forward) (f .backward)
-  pub behind : Directions n (f .backward) (f .forward)
+-- both graphs of the lent numbers have n places, and each is the other's opposite
+pub record BothWays (n : ℕ) (flow : List ℕ) : Type 0 where
+  pub size : length flow ≡ flow-entries
+  pub ahead : Directions n (flowAt flow .forward) (flowAt flow .backward)
+  pub behind : Directions n (flowAt flow .backward) (flowAt flow .forward)

@@ -1,14 +1,11 @@
 -- The table of a condition's parts: document 01, "Conditions", last paragraph.
 use mathlib.Core.Path.{_≡_}
 use mathlib.Core.List.{List}
-use Prim.Native.Nat.{ℕ, _+_, _-_, _*_, _/_, _%_, _≤_, _<_}
+use Prim.Native.Nat.{ℕ, _+_, _-_, _*_, _≤_, _<_}
 use lib.ListN.{length, getD, take, drop}
-use Rattle.language.specs.Parsing.{found}
 use Rattle.bits.specs.Row.{member}
 use Rattle.labelling.specs.Labels.{Labelled}
-use Rattle.condition.specs.Condition.{Condition, atom, unary, binary, parts}
-use Rattle.condition.specs.Reading.{unaryCode, binaryCode}
-use Rattle.condition.specs.Parsing.{parseAtom}
+use Rattle.condition.specs.Condition.{Condition, atom, parts}
 use Rattle.condition.specs.declared.Atom.the-variants.{True}
 
 -- "Part k, counted from 0, fills 64-bit words 4k to 4k+3 of the lent table"

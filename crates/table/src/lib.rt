@@ -5,26 +5,25 @@ ghost use mathlib.Core.List.{List};
 ghost use Prim.Native.Nat.{ℕ, _+_, _-_, _*_, _≤_, _<_};
 ghost use lib.ListN.{length, drop};
 ghost use Rattle.language.specs.Parsing.{found};
+ghost use Rattle.language.specs.declared.Statement.{Statement as StatementOf};
 ghost use Rattle.condition.specs.Parsing.{parseAtom};
 ghost use Rattle.condition.specs.declared.Atom.{Atom as AtomOf};
 ghost use Rattle.table.specs.Table.{part-words, row, Written, partAt};
 ghost use Rattle.table.specs.Summary.{Counts};
+ghost use Rattle.table.specs.Known.{Known, SomeKnown};
 ghost use Rattle.table.specs.Fill.{leftOf, PartReady, SomeReady, HeldOf, SomeHeld, TableOf};
 ghost use Rattle.program.specs.Program.{most};
-ghost use Rattle.flow.specs.FlowOf.{FlowOf};
+ghost use Rattle.flow.specs.FlowOf.{flowAt};
+ghost use Rattle.atoms.specs.Facts.{fact-rows, FactsOf};
 ghost use Rattle.condition.specs.Condition.{Condition};
 ghost use Rattle.bits.specs.Row.{member};
 ghost use Rattle.ctl.specs.Paths.{So};
 ghost use Rattle.labelling.specs.Labels.{Labelled, Rows};
-ghost use Rattle.program.specs.Reading.{statements, Held};
 ghost use Rattle.condition.specs.Truth.{Holds, Sat};
 ghost use Rattle.table.specs.Rules.{Operation, codeOf, ruleOf, SatRule, flowSteps, BothWays};
-use condition::Atom;
 use condition::MOST_PARTS;
 use condition::read::AtomRead;
-use flow::Flow;
 use labelling::Operator;
-use program::Program;
 
 // The words of a part: one bit for each statement.
 pub const WORDS: usize = 4;
@@ -76,17 +75,17 @@ fn path_row(
     all: bool,
     back: bool,
     n: usize,
-    flow: Flow,
+    flow: &[u16],
     p: &[u64],
     q: &[u64],
     out: &mut [u64],
 )
-    requires { ⌜ BothWays n flow ⌝ }
+    requires { ⌜ BothWays n (now flow) ⌝ }
     requires { ⌜ Rows n (now p) (now q) (now out) ⌝ }
-    ensures { λ _. ⌜ Labelled n (member (now (out .exit))) (SatRule (flowSteps n flow) (Rule.Path op all back) (So (member (now (p .entry)))) (So (member (now (q .entry))))) ⌝ }
+    ensures { λ _. ⌜ Labelled n (member (now (out .exit))) (SatRule (flowSteps n (flowAt (now (flow .entry)))) (Rule.Path op all back) (So (member (now (p .entry)))) (So (member (now (q .entry))))) ⌝ }
 {
-    let forward = flow.forward;
-    let backward = flow.backward;
+    let forward = &flow[..graph::ENTRIES];
+    let backward = &flow[graph::ENTRIES..];
     if back {
         labelling::label(op, all, n, backward, forward, p, q, out);
     } else {
@@ -102,11 +101,11 @@ fn blank() -> [u64; WORDS]
 }
 
 // The row of the operator that the rule is of, from the rows of its operands.
-fn operator_row(rule: Rule, n: usize, flow: Flow, p: &[u64], q: &[u64], out: &mut [u64])
-    requires { ⌜ BothWays n flow ⌝ }
+fn operator_row(rule: Rule, n: usize, flow: &[u16], p: &[u64], q: &[u64], out: &mut [u64])
+    requires { ⌜ BothWays n (now flow) ⌝ }
     requires { ⌜ Rows n (now p) (now q) (now out) × (length (now out) ≡ 4) ⌝ }
     requires { ⌜ ((s : ℕ) → n ≤ s → member (now p) s ≡ false) × ((s : ℕ) → n ≤ s → member (now q) s ≡ false) ⌝ }
-    ensures { λ _. ⌜ Labelled n (member (now (out .exit))) (SatRule (flowSteps n flow) rule (So (member (now (p .entry)))) (So (member (now (q .entry))))) ⌝ }
+    ensures { λ _. ⌜ Labelled n (member (now (out .exit))) (SatRule (flowSteps n (flowAt (now (flow .entry)))) rule (So (member (now (p .entry)))) (So (member (now (q .entry))))) ⌝ }
 {
     match rule {
         Rule::Negation => {
@@ -118,27 +117,6 @@ fn operator_row(rule: Rule, n: usize, flow: Flow, p: &[u64], q: &[u64], out: &mu
         Rule::Disjunction => bits::union(p, q, out),
         Rule::Path(op, all, back) => path_row(op, all, back, n, flow, p, q, out),
         Rule::Nothing => bits::clear(out),
-    }
-}
-
-// The row of an atom.
-fn atom_row(a: Atom, p: Program, out: &mut [u64])
-    requires { ⌜ Held p ⌝ }
-    requires { ⌜ p .count ≤ length (now out) * 64 ⌝ }
-    ensures { λ _. ⌜ Labelled (p .count) (member (now (out .exit))) (Holds (statements p) a) ⌝ }
-{
-    bits::clear(out);
-    let n = p.count;
-    let mut s: usize = 0;
-    while s < n {
-        let e = p.entries[s];
-        let i = e.statement;
-        if atoms::holds(a, n, i, s) {
-            bits::insert(out, s);
-            s += 1;
-        } else {
-            s += 1;
-        }
     }
 }
 
@@ -158,11 +136,11 @@ pub fn row_of(table: &[u64], k: usize) -> [u64; WORDS]
 }
 
 // Part k becomes the row of an operator, from those of its left operand's part and of the part before it.
-fn fill_operator(code: u64, left: usize, n: usize, flow: Flow, table: &mut [u64], k: usize)
-    requires { ⌜ BothWays n flow × (n ≤ part-words * 64) ⌝ }
+fn fill_operator(code: u64, left: usize, n: usize, flow: &[u16], table: &mut [u64], k: usize)
+    requires { ⌜ BothWays n (now flow) × (n ≤ part-words * 64) ⌝ }
     requires { ⌜ (left < k) × (part-words * k + part-words ≤ length (now table)) ⌝ }
     requires { ⌜ ((s : ℕ) → n ≤ s → member (row (now table) left) s ≡ false) × ((s : ℕ) → n ≤ s → member (row (now table) (k - 1)) s ≡ false) ⌝ }
-    ensures { λ _. ⌜ ((x : Operation) → codeOf x ≡ code → Written (now (table .entry)) (now (table .exit)) k n (SatRule (flowSteps n flow) (ruleOf x) (So (member (row (now (table .entry)) left))) (So (member (row (now (table .entry)) (k - 1)))))) ⌝ }
+    ensures { λ _. ⌜ ((x : Operation) → codeOf x ≡ code → Written (now (table .entry)) (now (table .exit)) k n (SatRule (flowSteps n (flowAt (now (flow .entry)))) (ruleOf x) (So (member (row (now (table .entry)) left))) (So (member (row (now (table .entry)) (k - 1)))))) ⌝ }
 {
     let p = row_of(&*table, left);
     let q = row_of(&*table, k - 1);
@@ -173,17 +151,24 @@ fn fill_operator(code: u64, left: usize, n: usize, flow: Flow, table: &mut [u64]
 }
 
 // Part k becomes the row of the atom whose text begins at `start`.
-fn fill_atom(text: &[u8], start: usize, p: Program, table: &mut [u64], k: usize)
-    requires { ⌜ Held p × (p .count ≤ part-words * 64) ⌝ }
+fn fill_atom(
+    text: &[u8],
+    start: usize,
+    n: usize,
+    facts: &[[u64; WORDS]],
+    table: &mut [u64],
+    k: usize,
+)
+    requires { ⌜ (n ≤ most) × (length (now facts) ≡ fact-rows) ⌝ }
     requires { ⌜ part-words * k + part-words ≤ length (now table) ⌝ }
-    ensures { λ _. ⌜ ((a : AtomOf) (rest : List ℕ) → parseAtom (drop start (now (text .entry))) ≡ found a rest → Written (now (table .entry)) (now (table .exit)) k (p .count) (Holds (statements p) a)) ⌝ }
+    ensures { λ _. ⌜ ((P : List StatementOf) (a : AtomOf) (rest : List ℕ) → length P ≡ n → FactsOf P (now (facts .entry)) → parseAtom (drop start (now (text .entry))) ≡ found a rest → Written (now (table .entry)) (now (table .exit)) k n (Holds P a)) ⌝ }
 {
     let AtomRead::Found(a, _) = condition::read::atom(text, start) else {
         return;
     };
     let at = WORDS * k;
     let end = at + WORDS;
-    atom_row(a, p, &mut table[at..end]);
+    atoms::facts::row(a, n, facts, &mut table[at..end]);
 }
 
 // The part of the left operand of part k's operator; of a unary operator it is the part before.
@@ -199,41 +184,48 @@ fn left_of(w: u64, k: usize) -> usize
 }
 
 // Part k becomes its row: w is its word.
-fn fill_part(text: &[u8], w: u64, p: Program, flow: Flow, table: &mut [u64], k: usize)
-    requires { ⌜ Held p ⌝ }
-    requires { ⌜ SomeReady (statements p) flow (now text) w (now table) k ⌝ }
-    ensures { λ _. ⌜ ((c : Condition) → PartReady (statements p) flow (now (text .entry)) c w (now (table .entry)) k → Written (now (table .entry)) (now (table .exit)) k (length (statements p)) (Sat (statements p) (partAt c k))) ⌝ }
+fn fill_part(
+    text: &[u8],
+    w: u64,
+    n: usize,
+    facts: &[[u64; WORDS]],
+    flow: &[u16],
+    table: &mut [u64],
+    k: usize,
+)
+    requires { ⌜ SomeReady n (now facts) (now flow) (now text) w (now table) k ⌝ }
+    ensures { λ _. ⌜ ((P : List StatementOf) (c : Condition) → PartReady P n (now (facts .entry)) (now (flow .entry)) (now (text .entry)) c w (now (table .entry)) k → Written (now (table .entry)) (now (table .exit)) k (length P) (Sat P (partAt c k))) ⌝ }
 {
     let code = w % 256;
     if code == 0 {
         let start = (w / 16777216) as usize;
-        fill_atom(text, start, p, table, k);
+        fill_atom(text, start, n, facts, table, k);
     } else {
         let left = left_of(w, k);
-        let n = p.count;
         fill_operator(code, left, n, flow, table, k);
     }
 }
 
-// Fills the table with the row of each part of the condition whose text and words these are.
+// Fills the table with the row of each part of the condition whose text and words these are, at the n statements of the program that
+// the facts and the control-flow graph are of.
 pub fn fill(
     text: &[u8],
     words: [u64; MOST_PARTS],
     parts: usize,
-    p: Program,
-    flow: Flow,
+    n: usize,
+    facts: &[[u64; WORDS]],
+    flow: &[u16],
     table: &mut [u64],
 )
-    requires { ⌜ Held p × (length (statements p) ≤ most) ⌝ }
-    requires { ⌜ FlowOf (statements p) flow ⌝ }
+    requires { ⌜ SomeKnown n (now facts) (now flow) ⌝ }
     requires { ⌜ SomeHeld (now text) parts words ⌝ }
     requires { ⌜ part-words * parts ≤ length (now table) ⌝ }
-    ensures { λ _. ⌜ ((c : Condition) → HeldOf (now (text .entry)) c parts words → TableOf (statements p) c (now (table .entry)) (now (table .exit))) ⌝ }
+    ensures { λ _. ⌜ ((P : List StatementOf) (c : Condition) → Known P n (now (facts .entry)) (now (flow .entry)) → HeldOf (now (text .entry)) c parts words → TableOf P c (now (table .entry)) (now (table .exit))) ⌝ }
 {
     let mut k: usize = 0;
     while k < parts {
         let w = words[k];
-        fill_part(text, w, p, flow, table, k);
+        fill_part(text, w, n, facts, flow, table, k);
         k += 1;
     }
 }

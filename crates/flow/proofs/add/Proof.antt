@@ -6,22 +6,11 @@ use Rattle.flow.proofs.add.Statement.{statement}
 use Rattle.flow.proofs.add.Tie as tie
 
 returns : tie.Need-returns
-returns c = added-turned _ _ _ _ _ _ _ _ _ _ _ (c .before .before .before .before .before .before .before .before .before .before .if1 .taken) (c .before .before .before .before .before .before .add .ensures)
+returns c = λ n few ls lt g. added-turned n _ _ _ _ _ _ _ (c .before .before .before .before .if1 .taken) (c .before .before .add .ensures n few lt ls g)
 
 returns-2 : tie.Need-returns-2
-returns-2 c = added-straight _ _ _ _ _ _ _ _ _ _ _ (c .before .before .before .before .before .before .before .before .before .before .if1 .left) (c .before .before .before .before .before .before .add2 .ensures)
+returns-2 c = λ n few ls lt g. added-straight n _ _ _ _ _ _ _ (c .before .before .before .before .if1 .left) (c .before .before .add2 .ensures n few ls lt g)
 
 pub add-spec : {M : Type 1} → statement M
 add-spec =
-    tie.close
-    (tie.spec
-    (λ c κs. search needs)
-    (λ c κs. search needs)
-    (λ c. search needs)
-    (λ c. search needs)
-    (λ c. search needs)
-    returns
-    (λ c. search needs)
-    (λ c. search needs)
-    (λ c. search needs)
-    returns-2)
+    tie.close (tie.spec (λ c κs. search needs) (λ c κs. search needs) (λ c. search needs) returns (λ c. search needs) returns-2)

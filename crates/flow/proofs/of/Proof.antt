@@ -1,48 +1,92 @@
--- `flow::of` meets its contract: the lists of edges hold the steps of the successors, and these are the model's (`flow-of`).
--- Assumes nothing.
-use mathlib.Core.Path.{sym}
+-- `flow::of` meets its contract. The invariant is `Listed`: the successors of the statements before place s are there. The lists of edges
+-- hold the steps of the successors, and these are the model's (`flow-of`). Assumes nothing.
+use mathlib.Core.Path.{refl, sym, _∙_}
+use Prim.Native.Nat.{_≤_, _-_}
 use native.Mathlib.Omega.{arith}
+use borrow.Author.Count.{below-none}
 use borrow.Author.Needs.{needs}
+use Rattle.program.proofs.Held.{held-targets}
 use Rattle.program.specs.Reading.{statements}
-use Rattle.flow.proofs.Successors.{statements-size, successors-inside}
+use Rattle.flow.proofs.Successors.{statements-size, successors-inside, Listed, listed-more, listed-all}
 use Rattle.flow.proofs.Graphs.{flow-of}
 use Rattle.flow.proofs.of.Statement.{statement}
 use Rattle.flow.proofs.of.Tie as tie
 
-list-successors-requires : tie.Need-list-successors-requires
-list-successors-requires c κs =
-    let s = c .before .before .before .before in
-    (s .pre .0, (s .pre .1, (omega (arith, c .before .before .before .blank .ensures, s .pre .0 .few), omega (arith, c .before .before .blank2 .ensures, s .pre .0 .few))))
+abbrev Inv-loop : tie.InvT-loop
+Inv-loop flow p n first₀ second₀ s₀ first second s = (s ≤ n) × Listed (p .entries) n first₀ second₀ first second s
 
-forward-requires : tie.Need-forward-requires
-forward-requires c κs =
-    let s = c .before .before .before .before .before .before .before .before .before in
-    (s .pre .0 .few, rw (statements-size (s .args .p) (s .pre .0)) at (successors-inside _ _ _ (s .pre .1) (c .before .before .before .before .list-successors .ensures)))
+abbrev μ-loop : tie.MeasureT-loop
+μ-loop flow p n first₀ second₀ s₀ first second s = n - s
 
-backward-requires : tie.Need-backward-requires
-backward-requires c κs =
-    let s = c .before .before .before .before .before .before .before .before .before .before .before .before in
-    let size = statements-size (s .args .p) (s .pre .0) in
-    ((omega (arith, size, s .pre .1 .counted .0), s .pre .0 .few), rw size at (successors-inside _ _ _ (s .pre .1) (c .before .before .before .before .before .before .before .list-successors .ensures)))
+loop-holds : tie.Need-loop-holds Inv-loop μ-loop
+loop-holds c = (omega arith, record { first-size = refl; second-size = refl; follow = below-none _ })
 
-returns : tie.Need-returns
+mul-e : tie.Need-mul-e Inv-loop μ-loop
+mul-e c = omega (arith, c .before .before .before .before .before .pre .0 .few)
+
+element-copy-out-e : tie.Need-element-copy-out-e Inv-loop μ-loop
+element-copy-out-e c = omega (arith, c .before .before .before .before .before .pre .0 .few)
+
+successors-of-requires : tie.Need-successors-of-requires Inv-loop μ-loop
+successors-of-requires c κs =
+    let p = c .before .before .before .before .before .before .args .t1 in
+    let pre = c .before .before .before .before .before .before .pre in
+    (omega (arith, pre .0 .few), held-targets (p .entries) (p .count) (c .before .before .loop .s) (rw (statements-size p (pre .0)) (c .before .loop-test .taken)) (pre .1 .0))
+
+array-write-first : tie.Need-array-write-first Inv-loop μ-loop
+array-write-first c = let few = c .before .before .before .before .before .before .before .pre .0 .few in omega (arith, c .before .before .before .loop .inv .1 .first-size, c .before .before .before .before .before .row .ensures)
+
+array-write-second : tie.Need-array-write-second Inv-loop μ-loop
+array-write-second c = let few = c .before .before .before .before .before .before .before .pre .0 .few in omega (arith, c .before .before .before .loop .inv .1 .second-size, c .before .before .before .before .row2 .ensures)
+
+loop-again : tie.Need-loop-again Inv-loop μ-loop
+loop-again c =
+    let p = c .before .before .before .before .before .before .before .args .t1 in
+    let pre = c .before .before .before .before .before .before .before .pre in
+    let w = c .before .before .before .loop in
+    (omega arith, listed-more p (pre .0) _ _ (c .before .before .before .before .before .row .ensures) (c .before .before .before .before .row2 .ensures) _ _ (w .s) (w .inv .1) _ _ (c .before .before .loop-test .taken) (c .successors-of .ensures))
+
+slice-aggregate-draw : tie.Need-slice-aggregate-draw Inv-loop μ-loop
+slice-aggregate-draw c = sym (c .before .before .loop .inv .1 .first-size ∙ c .before .before .before .before .row .ensures)
+
+slice-aggregate-draw-2 : tie.Need-slice-aggregate-draw-2 Inv-loop μ-loop
+slice-aggregate-draw-2 c = sym (c .before .before .before .loop .inv .1 .second-size ∙ c .before .before .before .before .row2 .ensures)
+
+draw-requires : tie.Need-draw-requires Inv-loop μ-loop
+draw-requires c κs =
+    let p = c .before .before .before .before .before .before .before .before .args .t1 in
+    let pre = c .before .before .before .before .before .before .before .before .pre in
+    let size = statements-size p (pre .0) in
+    ((omega (arith, size, pre .1 .0 .counted .0), pre .0 .few, pre .1 .1), rw size at (successors-inside _ _ _ (pre .1 .0) (listed-all p (pre .0) _ _ (c .before .before .before .before .before .before .row .ensures) (c .before .before .before .before .before .row2 .ensures) _ _ (c .before .before .before .before .loop .s) (c .before .before .before .before .loop .inv .1) (c .before .before .before .loop-test .left))))
+
+returns : tie.Need-returns Inv-loop μ-loop
 returns c =
-    let s = c .before .before .before .before .before .before .before .before .before .before .before .before .before in
-    flow-of (statements (s .args .p)) (s .pre .1) _ _ (c .before .before .before .before .before .before .before .before .list-successors .ensures) _ (sym (statements-size (s .args .p) (s .pre .0))) _ _ (c .before .before .before .forward .ensures) (c .backward .ensures)
+    let p = c .before .before .before .before .before .before .before .before .before .before .before .args .t1 in
+    let pre = c .before .before .before .before .before .before .before .before .before .before .before .pre in
+    let d = c .before .before .draw .ensures in
+    flow-of (statements p) (pre .1 .0) _ _ (listed-all p (pre .0) _ _ (c .before .before .before .before .before .before .before .before .before .row .ensures) (c .before .before .before .before .before .before .before .before .row2 .ensures) _ _ (c .before .before .before .before .before .before .before .loop .s) (c .before .before .before .before .before .before .before .loop .inv .1) (c .before .before .before .before .before .before .loop-test .left)) _ (sym (statements-size p (pre .0))) _ _ (d .ahead) (d .behind)
 
 pub of-spec : {M : Type 1} → statement M
 of-spec =
     tie.close
     (tie.spec
+    Inv-loop
+    μ-loop
     (λ c κs. search needs)
     (λ c κs. search needs)
+    loop-holds
+    mul-e
+    element-copy-out-e
+    successors-of-requires
+    (λ c. search needs)
+    array-write-first
+    (λ c. search needs)
+    array-write-second
     (λ c. search needs)
     (λ c. search needs)
-    list-successors-requires
+    loop-again
+    slice-aggregate-draw
+    slice-aggregate-draw-2
+    draw-requires
     (λ c. search needs)
-    (λ c. search needs)
-    forward-requires
-    (λ c. search needs)
-    (λ c. search needs)
-    backward-requires
     returns)

@@ -1,57 +1,87 @@
 -- `labelling::until` meets its contract: the lists of the first n places are lent, with room for the worklist.
 -- Assumes nothing.
-use mathlib.Core.Path.{refl, sym}
+use mathlib.Core.Path.{sym, _∙_}
 use native.Mathlib.Omega.{arith}
 use borrow.Author.Needs.{needs}
-use lib.Seq.{length-take-le}
-use Rattle.graph.proofs.Lists.{take-room}
+use lib.ListN.{drop}
+use lib.Seq.{length-take-le, length-front, take-at}
+use Rattle.graph.proofs.Graphs.{head-size}
 use Rattle.labelling.proofs.until.Statement.{statement}
 use Rattle.labelling.proofs.until.Tie as tie
 
-array-share-prefix-head : tie.Need-array-share-prefix-head
-array-share-prefix-head c = take-room _ _ (c .before .before .before .before .before .before .before .before .before .before .pre .0 .head-size)
+slice-aggregate-head : tie.Need-slice-aggregate-head
+slice-aggregate-head c = sym (head-size (c .before .before .before .before .before .args .steps .now) (c .before .before .before .before .before .pre .0 .steps-size))
 
-array-share-prefix-entry : tie.Need-array-share-prefix-entry
-array-share-prefix-entry c = take-room _ _ (c .before .before .before .before .before .before .before .before .before .before .before .before .before .pre .0 .entry-size)
+slice-aggregate-entry : tie.Need-slice-aggregate-entry
+slice-aggregate-entry c = sym (head-size (c .before .before .before .before .before .before .before .before .args .opposite .now) (c .before .before .before .before .before .before .before .before .pre .0 .opposite-size))
 
-array-borrow-prefix-rest : tie.Need-array-borrow-prefix-rest
-array-borrow-prefix-rest c = take-room _ _ (c .before .before .before .before .before .before .before .before .before .before .before .before .before .before .before .before .before .pre .0 .head-size)
+slice-aggregate-copy-2 : tie.Need-slice-aggregate-copy-2
+slice-aggregate-copy-2 c = sym (length-take-le _ _ (omega (arith, c .before .before .before .before .before .before .before .before .before .before .before .before .before .before .pre .0 .directions .few, c .before .before .before .blank .ensures)))
 
-slice-aggregate-close-8 : tie.Need-slice-aggregate-close-8
-slice-aggregate-close-8 c = sym (length-take-le _ _ (omega (arith, c .before .before .before .before .before .before .before .before .before .before .before .before .before .before .before .before .before .before .before .pre .0 .few, c .before .before .before .before .before .before .before .before .before .blank .ensures)))
+copy-requires : tie.Need-copy-requires
+copy-requires c κs = sym (slice-aggregate-copy-2 c) ∙ sym (c .before .before .before .before .before .before .before .before .before .before .before .before .before .before .pre .0 .directions .head-size)
+
+array-borrow-prefix-rest-2 : tie.Need-array-borrow-prefix-rest-2
+array-borrow-prefix-rest-2 c = rw (length-front _ _ _ (c .before .before .before .before .copy .kept .1 .0)) (omega (arith, c .before .before .before .before .before .before .before .before .before .before .before .before .before .before .before .before .before .before .before .pre .0 .directions .few, c .before .before .before .before .before .before .before .before .blank .ensures))
+
+slice-aggregate-close-3 : tie.Need-slice-aggregate-close-3
+slice-aggregate-close-3 c = sym (length-take-le _ _ (array-borrow-prefix-rest-2 (c .before)))
+
+slice-aggregate-close-4 : tie.Need-slice-aggregate-close-4
+slice-aggregate-close-4 c = sym (length-take-le _ _ (omega (arith, c .before .before .before .before .before .before .before .before .before .before .before .before .before .before .before .before .before .before .before .before .before .pre .0 .directions .few, c .before .before .before .before .before .before .before .before .before .blank2 .ensures)))
 
 close-requires : tie.Need-close-requires
 close-requires c κs =
-    let a = c .before .before .before .before .before .before .before .before .before .before .before .before .before .before .before .before .before .before .before in
-    let e = a .pre .0 .head-size in
-    let few = a .pre .0 .few in (
-      rw e (a .pre .0),
+    let a = c .before .before .before .before .before .before .before .before .before .before .before .before .before .before .before .before .before .before .before .before .before in
+    let d = a .pre .0 .directions in
+    let few = d .few in
+    let copied = take-at (c .before .before .before .before .before .before .copy .last .1 .0) (drop (a .args .n) (c .before .before .before .before .before .before .before .before .before .before .blank .result)) (a .args .n) (c .before .before .before .before .before .before .copy .kept .1 .0 ∙ sym (slice-aggregate-copy-2 (c .before .before .before .before .before .before .before))) in (
+      rw (d .head-size) d,
       (
-        rw e (record { p-room = a .pre .1 .0; set-room = a .pre .1 .1; stack-room = omega (arith, slice-aggregate-close-8 c); small = omega arith }),
-        refl,
+        rw (d .head-size) (record { p-room = a .pre .1 .0; set-room = a .pre .1 .1; stack-room = omega (arith, slice-aggregate-close-4 c); small = omega arith }),
+        copied ∙ c .before .before .before .before .before .before .copy .ensures,
       ),
     )
 
 returns : tie.Need-returns
-returns c = rw (c .before .before .before .before .before .before .before .before .before .before .before .before .before .before .before .before .before .before .before .before .before .before .before .before .pre .0 .head-size) at (c .before .before .before .before .close .ensures)
+returns c = rw (c .before .before .before .before .before .before .before .before .before .before .before .before .before .before .before .before .before .before .before .before .before .before .before .before .before .before .pre .0 .directions .head-size) at (c .before .before .before .before .close .ensures)
 
 pub until-spec : {M : Type 1} → statement M
 until-spec =
     tie.close
     (tie.spec
+    slice-aggregate-head
+    (λ c. search needs)
+    (λ c. search needs)
+    (λ c. search needs)
+    (λ c. search needs)
+    (λ c. search needs)
+    (λ c. search needs)
+    (λ c. search needs)
+    (λ c. search needs)
+    (λ c. search needs)
+    slice-aggregate-entry
+    (λ c. search needs)
+    (λ c. search needs)
+    (λ c. search needs)
+    (λ c. search needs)
+    (λ c. search needs)
+    (λ c. search needs)
+    (λ c. search needs)
+    (λ c. search needs)
+    (λ c. search needs)
     (λ c κs. search needs)
-    array-share-prefix-head
+    (λ c κs. search needs)
     (λ c. search needs)
     (λ c. search needs)
-    (λ c. search needs)
-    array-share-prefix-entry
-    (λ c. search needs)
-    (λ c. search needs)
-    (λ c. search needs)
-    array-borrow-prefix-rest
+    slice-aggregate-copy-2
+    copy-requires
     (λ c. search needs)
     (λ c. search needs)
-    slice-aggregate-close-8
+    array-borrow-prefix-rest-2
+    slice-aggregate-close-3
+    (λ c. search needs)
+    slice-aggregate-close-4
     close-requires
     (λ c. search needs)
     returns)

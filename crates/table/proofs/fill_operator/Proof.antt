@@ -1,10 +1,10 @@
 -- `fill_operator` meets its contract: the part that is lent becomes the operator's row, and all else is kept. Assumes nothing.
-use mathlib.Core.Path.{_≡_, refl, sym, ap, _∙_}
+use mathlib.Core.Path.{_≡_, sym, ap, _∙_}
 use mathlib.Core.List.{List}
-use Prim.Native.Nat.{ℕ, _+_, _*_, _-_, _≤_}
+use Prim.Native.Nat.{ℕ, _-_}
 use native.Mathlib.Omega.{arith}
 use borrow.Author.Needs.{needs}
-use lib.ListN.{length, length-take, length-drop}
+use lib.ListN.{length}
 use Rattle.bits.specs.Row.{member}
 use Rattle.table.specs.Table.{part-words}
 use Rattle.table.proofs.Lent.{part-length, row-length, part-written}
@@ -15,11 +15,11 @@ operator-row-requires : tie.Need-operator-row-requires
 operator-row-requires c κs =
     let p = c .before .before .before .before .before .before .row-of .ensures in
     let q = c .before .before .before .before .row-of2 .ensures in
-    let i = c .before .before .before .before .before .before .before .before .before .pre in
-    let t = c .before .before .before .before .before .before .before .before .before .args .table .now in
-    let k = c .before .before .before .before .before .before .before .before .before .args .k in
+    let i = c .before .before .before .before .before .before .before .before .before .before .pre in
+    let t = c .before .before .before .before .before .before .before .before .before .before .args .table .now in
+    let k = c .before .before .before .before .before .before .before .before .before .before .args .k in
     let lo = part-length t k (i .1 .0 .1) in
-    let lp : length (c .before .before .before .before .before .before .row-of .result) ≡ part-words = ap length p ∙ row-length t (c .before .before .before .before .before .before .before .before .before .args .left) (omega arith) in
+    let lp : length (c .before .before .before .before .before .before .row-of .result) ≡ part-words = ap length p ∙ row-length t (c .before .before .before .before .before .before .before .before .before .before .args .left) (omega arith) in
     let lq : length (c .before .before .before .before .row-of2 .result) ≡ part-words = ap length q ∙ row-length t (k - 1) (omega arith) in (
       i .0 .0,
       (
@@ -30,11 +30,11 @@ operator-row-requires c κs =
 
 returns : tie.Need-returns
 returns c = λ x e.
-    let i = c .before .before .before .before .before .before .before .before .before .before .before .before .pre in
+    let i = c .before .before .before .before .before .before .before .before .before .before .before .before .before .pre in
     let o = c .before .before .operator-row in
     let r = c .before .before .before .before .before .before .rule-of .ensures x e in
-    let l = o .kept .1 .1 .1 .1 .1 .0 ∙ part-length (c .before .before .before .before .before .before .before .before .before .before .before .before .args .table .now) (c .before .before .before .before .before .before .before .before .before .before .before .before .args .k) (i .1 .0 .1) in
-    part-written (c .before .before .before .before .before .before .before .before .before .before .before .before .args .table .now) (c .before .before .before .before .before .before .before .before .before .before .before .before .args .k) (i .1 .0 .1) _ _ _ l (rw (r, c .before .before .before .before .before .before .before .before .before .row-of .ensures, c .before .before .before .before .before .before .before .row-of2 .ensures) at (o .ensures))
+    let l = o .kept .1 .1 .1 .1 .1 .0 ∙ part-length (c .before .before .before .before .before .before .before .before .before .before .before .before .before .args .table .now) (c .before .before .before .before .before .before .before .before .before .before .before .before .before .args .k) (i .1 .0 .1) in
+    part-written (c .before .before .before .before .before .before .before .before .before .before .before .before .before .args .table .now) (c .before .before .before .before .before .before .before .before .before .before .before .before .before .args .k) (i .1 .0 .1) _ _ _ l (rw (r, c .before .before .before .before .before .before .before .before .before .row-of .ensures, c .before .before .before .before .before .before .before .row-of2 .ensures) at (o .ensures))
 
 pub fill-operator-spec : {M : Type 1} → statement M
 fill-operator-spec =

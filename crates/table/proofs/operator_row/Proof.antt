@@ -7,10 +7,10 @@ returns : tie.Need-returns
 returns c = rw (c .before .before .before .before .before .before .before .before .before .enum-told .given .1) (negation-row _ _ _ _ (c .before .before .before .before .before .before .below .ensures) (c .before .before .difference .ensures))
 
 returns-2 : tie.Need-returns-2
-returns-2 c = rw (c .before .before .before .before .enum-told2 .given .1) (conjunction-row _ _ _ _ (c .before .before .intersection .ensures) (c .before .before .before .before .before .before .before .before .before .pre .1 .1 .0))
+returns-2 c = rw (c .before .before .before .before .enum-told2 .given .1) (conjunction-row _ _ _ _ (c .before .before .intersection .ensures) (c .before .before .before .before .before .before .before .before .before .before .pre .1 .1 .0))
 
 returns-3 : tie.Need-returns-3
-returns-3 c = rw (c .before .before .before .before .enum-told3 .given .1) (disjunction-row _ _ _ _ (c .before .before .union .ensures) (c .before .before .before .before .before .before .before .before .before .pre .1 .1 .0) (c .before .before .before .before .before .before .before .before .before .pre .1 .1 .1))
+returns-3 c = rw (c .before .before .before .before .enum-told3 .given .1) (disjunction-row _ _ _ _ (c .before .before .union .ensures) (c .before .before .before .before .before .before .before .before .before .before .pre .1 .1 .0) (c .before .before .before .before .before .before .before .before .before .before .pre .1 .1 .1))
 
 returns-4 : tie.Need-returns-4
 returns-4 c = rw (c .before .before .before .before .before .rule .given .1) (c .before .before .path-row .ensures)
