@@ -1,3 +1,4 @@
 pub mod Tabulates
 pub mod Demand
+pub mod Known
 pub mod Judges

@@ -95,8 +95,11 @@ pub fn tabulate(program: &[u8], condition: &[u8], table: &mut [u64]) -> Tabulate
         condition::Answer::Taken(parts) => {
             let words = conditions.words;
             let count = parts as usize;
-            let flow = flow::of(p);
-            table::fill(condition, words, count, p, flow, table);
+            let mut facts = atoms::facts::blank();
+            atoms::facts::find(p, &mut facts);
+            let mut flow = flow::blank();
+            flow::of(p, &mut flow);
+            table::fill(condition, words, count, p.count, &facts, &flow, table);
             let last = count - 1;
             let summary = table::summary_of(&*table, last);
             TabulateAnswer::Filled(parts, summary.satisfied, summary.first)
@@ -135,8 +138,11 @@ pub fn judge(program: &[u8], marks: &[u8], verdicts: &mut [u8], text: &mut [u8])
     match checked {
         marks::Checked::Refused(refusal) => JudgeAnswer::Refused(marks::number_of(refusal)),
         marks::Checked::Taken(count) => {
-            let flow = flow::of(p);
-            verdicts::judge(marks, p, flow, verdicts);
+            let mut facts = atoms::facts::blank();
+            atoms::facts::find(p, &mut facts);
+            let mut flow = flow::blank();
+            flow::of(p, &mut flow);
+            verdicts::judge(marks, p, &facts, &flow, verdicts);
             let rewriting = verdicts::rewrite(marks, p, &*verdicts);
             let made = rewriting.program;
             let bytes = program::write(made, text);

@@ -22,10 +22,10 @@ use Rattle.marks.specs.declared.Mark.{Mark}
 use Rattle.marks.specs.declared.read.MarkRead.{MarkRead}
 use Rattle.marks.specs.declared.read.MarkRead.the-variants as markRead
 use Rattle.marks.proofs.Walk.{Begins, begins-first, line-mark, line-next, line-inside, line-found, text-line, text-done}
-use Rattle.rewriting.specs.Verdicts.{number, Inside, Named, Judged, markAt, Verdicts}
+use Rattle.rewriting.specs.Verdicts.{number, Inside, Named, place, Judged, markAt, Verdicts}
 use Rattle.rewriting.specs.declared.Verdict.{Verdict}
 use Rattle.rewriting.specs.declared.Verdict.the-variants.{Accepted, Missing, Repeated, Unfit, Unmet}
-use Rattle.verdicts.specs.Judging.{NamedIn, Stands, VerdictsOf}
+use Rattle.verdicts.specs.Judging.{NamedIn, Notes, Stands, VerdictsOf}
 
 -- the last of the marks names n, or one before
 named-last : (ms : List Mark) (m : Mark) (n : ℕ) → Named (ms ++ m ∷ []) n ↔ Named (m ∷ ms) n
@@ -40,29 +40,29 @@ pub named-none : {N : ℕ} {row : List ℕ} → ((s : ℕ) → member row s ≡ 
 named-none f = record { exact = λ s l. (λ e. clash e (f s), λ h. absurd h) }
 
 -- the row with one more place
-pub named-more : (row new : List ℕ) (m : Mark) (n : ℕ) → n ≡ names m → 1 ≤ n → ((s : ℕ) → member new s ≡ (member row s || eqb (n - 1) s))
-    → (N : ℕ) (earlier : List Mark) → NamedIn N row earlier → NamedIn N new (m ∷ earlier)
-named-more row new m n is low f N earlier g = record { exact = λ s l. (there s l, back s l) }
+pub named-more : (row new : List ℕ) (m : Mark) (N : ℕ) → 1 ≤ names m → ((s : ℕ) → member new s ≡ (member row s || eqb (place m) s)) → Notes N m row new
+named-more row new m N low f earlier g = record { exact = λ s l. (there s l, back s l) }
   where
     there : (s : ℕ) → s < N → member new s ≡ true → Named (m ∷ earlier) (s + 1)
     there s l e =
-        ⊎-elim (λ a. inr (g .exact s l .0 a)) (λ a. let q = eqb-true (n - 1) s a in inl (omega (arith, is)))
-        (or-case (member row s) (eqb (n - 1) s) (sym (f s) ∙ e))
+        ⊎-elim (λ a. inr (g .exact s l .0 a)) (λ a. let q = eqb-true (place m) s a in inl (omega arith))
+        (or-case (member row s) (eqb (place m) s) (sym (f s) ∙ e))
 
     back : (s : ℕ) → s < N → Named (m ∷ earlier) (s + 1) → member new s ≡ true
     back s l h =
-        f s ∙ ⊎-elim (λ a. or-right (member row s) (eqb (n - 1) s) (eq-eqb (n - 1) s (omega (arith, is)))) (λ a. or-left (member row s) (eqb (n - 1) s) (g .exact s l .1 a)) h
+        f s ∙ ⊎-elim (λ a. or-right (member row s) (eqb (place m) s) (eq-eqb (place m) s (omega arith))) (λ a. or-left (member row s) (eqb (place m) s) (g .exact s l .1 a)) h
 
 -- the row as it was, where the mark names none of the N statements
-pub named-same : {row : List ℕ} (m : Mark) (N : ℕ) → (Inside N (names m) → ⊥) → (earlier : List Mark) → NamedIn N row earlier → NamedIn N row (m ∷ earlier)
-named-same m N f earlier g = record { exact = λ s l. (λ e. inr (g .exact s l .0 e), λ h. ⊎-elim (λ e. absurd (f (omega arith, omega arith))) (g .exact s l .1) h) }
+pub named-same : (row : List ℕ) (m : Mark) (N : ℕ) → (Inside N (names m) → ⊥) → Notes N m row row
+named-same row m N f earlier g = record { exact = λ s l. (λ e. inr (g .exact s l .0 e), λ h. ⊎-elim (λ e. absurd (f (omega arith, omega arith))) (g .exact s l .1) h) }
 
-judged-inside : (P : List Statement) (earlier : List Mark) (m : Mark) (v : Verdict) → Judged P earlier m v → (Stands v → ⊥) → Inside (length P) (names m) → ⊥
-judged-inside P earlier m Accepted j f i = f tt
-judged-inside P earlier m Missing j f i = j i
-judged-inside P earlier m Repeated j f i = f tt
-judged-inside P earlier m Unfit j f i = f tt
-judged-inside P earlier m Unmet j f i = f tt
+-- each verdict but `Missing` is that of a mark whose statement the program has
+judged-stands : (P : List Statement) (earlier : List Mark) (m : Mark) (v : Verdict) → Judged P earlier m v → Stands v ↔ Inside (length P) (names m)
+judged-stands P earlier m Accepted j = (λ _. j .0, λ _. tt)
+judged-stands P earlier m Missing j = (λ h. absurd h, j)
+judged-stands P earlier m Repeated j = (λ _. j .0, λ _. tt)
+judged-stands P earlier m Unfit j = (λ _. j .0, λ _. tt)
+judged-stands P earlier m Unmet j = (λ _. j .0, λ _. tt)
 
 pub record JudgedSoFar (P : List Statement) (t : List ℕ) (ms : List Mark) (old new row : List ℕ) (j at : ℕ) : Type 0 where
   pub begins : Begins t ms j at
@@ -90,11 +90,11 @@ module _ {P : List Statement} {t : List ℕ} {ms : List Mark} {old new row : Lis
     next-take = rw (add-one, mark-is) (take-suc ms j _ (line-inside (s .begins) is l))
 
     pub judged-more : (v : Verdict) (b : ℕ) → b ≡ number v → ((earlier : List Mark) → NamedIn (length P) row earlier → Judged P earlier m v) → {row′ : List ℕ}
-        → ((earlier : List Mark) → ((Stands v → ⊥) → Inside (length P) (names m) → ⊥) → NamedIn (length P) row earlier → NamedIn (length P) row′ (m ∷ earlier)) → j < length new → JudgedSoFar P t ms old (set new j b) row′ (j + 1) k
+        → (Stands v ↔ Inside (length P) (names m) → Notes (length P) m row row′) → j < length new → JudgedSoFar P t ms old (set new j b) row′ (j + 1) k
     judged-more v b e f g h =
         record {
           begins = line-next (s .begins) is l;
-          named = record { exact = λ i u. let q = g (take j ms) (judged-inside P (take j ms) m v (f (take j ms) (s .named))) (s .named) .exact i u in (λ a. rw next-take (named-last (take j ms) m (i + 1) .1 (q .0 a)), λ a. q .1 (named-last (take j ms) m (i + 1) .0 (rw next-take at a))) };
+          named = record { exact = λ i u. let q = g (judged-stands P (take j ms) m v (f (take j ms) (s .named))) (take j ms) (s .named) .exact i u in (λ a. rw next-take (named-last (take j ms) m (i + 1) .1 (q .0 a)), λ a. q .1 (named-last (take j ms) m (i + 1) .0 (rw next-take at a))) };
           judged = below-more (λ i. (w : Verdict) × Judged P (take i ms) (markAt ms i) w × (getD (set new j b) i 0 ≡ number w)) j
               (λ i u. let q = s .judged i u in (q .0, q .1, getD-set-other new j i b 0 (λ z. omega arith) ∙ q .2))
               (v, rw mark-is at (f (take j ms) (s .named)), getD-set-same new j b 0 h ∙ e);

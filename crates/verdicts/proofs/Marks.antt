@@ -11,8 +11,9 @@ use Rattle.language.specs.declared.Statement.{Statement}
 use Rattle.program.specs.Program.{most, at}
 use Rattle.program.specs.Reading.{Decides, statements, Held}
 use Rattle.program.specs.declared.Program.{Program}
-use Rattle.program.proofs.Decides.{decides}
 use Rattle.program.proofs.Held.{held, at-held, length-held}
+use Rattle.table.specs.Known.{Known}
+use Rattle.program.proofs.Decides.{decides}
 use Rattle.bits.specs.Row.{member}
 use Rattle.bits.proofs.Tests.{clash}
 use Rattle.labelling.specs.Labels.{Labelled}
@@ -22,7 +23,7 @@ use Rattle.marks.specs.declared.Mark.{Mark}
 use Rattle.rewriting.specs.Rewriting.{Fits, published}
 use Rattle.rewriting.specs.Verdicts.{Inside, Named, place, Judged}
 use Rattle.rewriting.specs.declared.Verdict.the-variants.{Accepted, Missing, Repeated, Unfit, Unmet}
-use Rattle.verdicts.specs.Judging.{NamedIn}
+use Rattle.verdicts.specs.Judging.{NamedIn, JudgedBy}
 
 pub decides-inside : (k n : ℕ) (m : Mark) → k ≡ names m → 1 ≤ k → Decides (leb k n) (Inside n (names m))
 decides-inside k n m is l =
@@ -30,52 +31,43 @@ decides-inside k n m is l =
     (λ e. let d : k ≤ n = leb-true k n e in (omega (arith, is), omega (arith, is)))
     (λ e i. let d : n < k = leb-false k n e in omega (arith, is, i .1))
 
--- p holds the program
-module _ (p : Program) (h : Held p) (m : Mark) where
-  pub counted : length (statements p) ≡ p .count
-  counted = length-held (p .entries) (p .count) (omega (arith, h .room, h .few))
+-- the statement that the mark names is one of P, and one of 256
+pub inside-of : {P : List Statement} {n : ℕ} {facts : List (List ℕ)} {flow : List ℕ} → Known P n facts flow → (m : Mark) → Inside n (names m)
+    → Inside (length P) (names m) × Inside most (names m)
+inside-of k m i = ((i .0, omega (arith, i .1, k .size)), (i .0, omega (arith, i .1, k .size, k .few)))
 
-  pub judged-lacking : (earlier : List Mark) → (Inside (p .count) (names m) → ⊥) → Judged (statements p) earlier m Missing
-  judged-lacking earlier f i = f (i .0, omega (arith, counted, i .1))
+-- it stands in the entries of the program's value
+pub statement-at : (p : Program) → Held p → (m : Mark) (s : ℕ) → (Inside most (names m) → s ≡ place m) → Inside (length (statements p)) (names m)
+    → at (statements p) (place m) ≡ held (p .entries) s
+statement-at p h m s f i =
+    let n = length-held (p .entries) (p .count) (omega (arith, h .room, h .few)) in
+    rw (f (i .0, omega (arith, i .1, n, h .few))) (at-held (p .entries) (p .count) (place m) (omega (arith, i .0, i .1)))
 
-  -- it has the statement that the mark names
-  module _ (has : Inside (p .count) (names m)) where
-    inside : Inside (length (statements p)) (names m)
-    inside = (has .0, omega (arith, counted, has .1))
+-- the mark names the statement i of P, if one, and the row has what the earlier marks name
+module _ (P : List Statement) (m : Mark) (i : Statement) (row : List ℕ) where
+  pub judged-lacking : (Inside (length P) (names m) → ⊥) → JudgedBy P m i row Missing
+  judged-lacking f earlier e g = f
 
-    low : place m < p .count
-    low = omega (arith, has .0, has .1)
+  module _ (inside : Inside (length P) (names m)) where
+    low : place m < length P
+    low = omega (arith, inside .0, inside .1)
 
-    statement-at : at (statements p) (place m) ≡ held (p .entries) (place m)
-    statement-at = at-held (p .entries) (p .count) (place m) (omega (arith, counted, low))
+    back : place m + 1 ≡ names m
+    back = omega (arith, inside .0)
 
-    at-place : place m < length (statements p)
-    at-place = omega (arith, counted, low)
+    pub judged-repeated : member row (place m) ≡ true → JudgedBy P m i row Repeated
+    judged-repeated t earlier e g = (inside, subst (Named earlier) back (g .exact (place m) low .0 t))
 
-    module _ {row : List ℕ} {earlier : List Mark} (g : NamedIn (length (statements p)) row earlier) where
-      back : place m + 1 ≡ names m
-      back = omega (arith, has .0)
+    module _ (t : member row (place m) ≡ false) where
+      fresh : (earlier : List Mark) → NamedIn (length P) row earlier → Named earlier (names m) → ⊥
+      fresh earlier g k = clash (g .exact (place m) low .1 (subst (Named earlier) (sym back) k)) t
 
-      pub judged-repeated : member row (place m) ≡ true → Judged (statements p) earlier m Repeated
-      judged-repeated e = (inside, subst (Named earlier) back (g .exact (place m) at-place .0 e))
+      pub judged-unfit : (Fits m i → ⊥) → JudgedBy P m i row Unfit
+      judged-unfit f earlier e g = (inside, fresh earlier g, rw (e inside) f)
 
-      module _ (e : member row (place m) ≡ false) where
-        fresh : Named earlier (names m) → ⊥
-        fresh k = clash (g .exact (place m) at-place .1 (subst (Named earlier) (sym back) k)) e
+      module _ (f : Fits m i) {y : ℕ → Bool} (l : Labelled (length P) y (Sat P (published m))) where
+        pub judged-unmet : y (place m) ≡ false → JudgedBy P m i row Unmet
+        judged-unmet d earlier e g = (inside, fresh earlier g, rw (e inside) f, λ x. clash (l .exact (place m) low .1 x) d)
 
-        module _ (n : ℕ) (is : n ≡ names m) where
-          here : place m ≡ n - 1
-          here = ap (λ (k : ℕ). k - 1) (sym is)
-
-          pub judged-unfit : (Fits m (held (p .entries) (n - 1)) → ⊥) → Judged (statements p) earlier m Unfit
-          judged-unfit f = (inside, fresh, rw (statement-at, here) f)
-
-          module _ (f : Fits m (held (p .entries) (n - 1))) {y : ℕ → Bool} (l : Labelled (length (statements p)) y (Sat (statements p) (published m))) where
-            fitting : Fits m (at (statements p) (place m))
-            fitting = rw (statement-at, here) f
-
-            pub judged-unmet : y (n - 1) ≡ false → Judged (statements p) earlier m Unmet
-            judged-unmet d = (inside, fresh, fitting, λ x. clash (l .exact (place m) at-place .1 x) (ap y here ∙ d))
-
-            pub judged-accepted : y (n - 1) ≡ true → Judged (statements p) earlier m Accepted
-            judged-accepted d = (inside, fresh, fitting, l .exact (place m) at-place .0 (ap y here ∙ d))
+        pub judged-accepted : y (place m) ≡ true → JudgedBy P m i row Accepted
+        judged-accepted d earlier e g = (inside, fresh earlier g, rw (e inside) f, l .exact (place m) low .0 d)

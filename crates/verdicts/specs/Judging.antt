@@ -1,29 +1,27 @@
 -- What the contracts of the functions that judge a mark say. No sentence of document 01 stands here.
 use mathlib.Core.Path.{_≡_}
 use mathlib.Core.Bool.{true}
-use mathlib.Core.List.{List, []}
+use mathlib.Core.List.{List, [], _∷_}
 use mathlib.Core.Logic.{_↔_}
 use Prim.Native.Nat.{ℕ, _+_, _*_, _≤_, _<_}
 use lib.ListN.{length, getD}
 use Rattle.language.specs.declared.Operand.the-variants.{Variable, Constant}
 use Rattle.language.specs.declared.Statement.{Statement}
-use Rattle.program.specs.Program.{most}
+use Rattle.program.specs.Program.{at}
 use Rattle.program.specs.Reading.{statements, Held}
-use Rattle.program.specs.declared.Program.{Program}
 use Rattle.bits.specs.Row.{member}
-use Rattle.flow.specs.FlowOf.{FlowOf}
-use Rattle.flow.specs.declared.Flow.{Flow}
 use Rattle.labelling.specs.Labels.{Labelled}
 use Rattle.condition.specs.Condition.{Condition, parts}
 use Rattle.condition.specs.Reading.{Taken}
 use Rattle.condition.specs.Truth.{Sat}
 use Rattle.table.specs.Table.{part-words}
-use Rattle.marks.specs.Marks.{ValidMark}
+use Rattle.table.specs.Known.{Known}
+use Rattle.marks.specs.Marks.{ValidMark, names}
 use Rattle.marks.specs.declared.Mark.{Mark}
 use Rattle.marks.specs.declared.Mark.the-variants.{Rm, Rpl}
 use Rattle.marks.specs.Reading as marks
 use Rattle.rewriting.specs.Rewriting.{published}
-use Rattle.rewriting.specs.Verdicts.{Named, Verdicts, acceptedCount, Rewritten}
+use Rattle.rewriting.specs.Verdicts.{Inside, Named, place, Judged, Verdicts, acceptedCount, Rewritten}
 use Rattle.rewriting.specs.declared.Verdict.{Verdict}
 use Rattle.rewriting.specs.declared.Verdict.the-variants.{Accepted, Missing, Repeated, Unfit, Unmet}
 use Rattle.verdicts.specs.declared.Rewriting.{Rewriting}
@@ -31,12 +29,6 @@ use Rattle.verdicts.specs.declared.Rewriting.{Rewriting}
 -- the words for the parts of a published condition, the code's PUBLISHED_WORDS
 abbrev pub published-words : ℕ
 published-words = 40
-
--- the program's value is whole, and the graph is its control flow
-pub record Ready (p : Program) (f : Flow) : Type 0 where
-  pub held : Held p
-  pub few : length (statements p) ≤ most
-  pub flows : FlowOf (statements p) f
 
 -- the text is taken as a condition of at most ten parts
 pub record SmallTaken (t : List ℕ) : Type 0 where
@@ -69,9 +61,22 @@ pub record Remembers (P : List Statement) (keys : List ℕ) (rows : List (List �
   pub many-rows : length rows ≡ slots
   pub right : (i : ℕ) → i < slots → (m : Mark) → ValidMark m → getD keys i 0 ≡ keyOf m → RowFor P m (getD rows i [])
 
+-- the same of every program that the facts and the graph are of
+abbrev pub Remembering : ℕ → List (List ℕ) → List ℕ → List ℕ → List (List ℕ) → Type 0
+Remembering n facts flow keys rows = (P : List Statement) → Known P n facts flow → Remembers P keys rows
+
 -- the row has the places of the statements that the marks name, of n statements
 pub record NamedIn (n : ℕ) (row : List ℕ) (ms : List Mark) : Type 0 where
   pub exact : (s : ℕ) → s < n → (member row s ≡ true) ↔ Named ms (s + 1)
+
+-- v is the verdict of the mark m, whose statement is i, where the row has the places that the earlier marks name
+abbrev pub JudgedBy : List Statement → Mark → Statement → List ℕ → Verdict → Type 0
+JudgedBy P m i row v =
+    (earlier : List Mark) → (Inside (length P) (names m) → at P (place m) ≡ i) → NamedIn (length P) row earlier → Judged P earlier m v
+
+-- the row has the place of the mark m beside those of the earlier ones
+abbrev pub Notes : ℕ → Mark → List ℕ → List ℕ → Type 0
+Notes n m old new = (earlier : List Mark) → NamedIn n old earlier → NamedIn n new (m ∷ earlier)
 
 -- the verdict is one of a mark whose statement the program has
 abbrev pub Stands : Verdict → Type 0

@@ -1,22 +1,25 @@
 // Marks judged on a program, and the program with the accepted ones made.
 ghost use mathlib.Core.Path.{_≡_};
-ghost use mathlib.Core.List.{List, _∷_};
+ghost use mathlib.Core.List.{List};
+ghost use mathlib.Core.Logic.{_↔_};
 ghost use Prim.Native.Nat.{ℕ, _≤_, _<_};
 ghost use lib.ListN.{length, getD};
+ghost use Rattle.language.specs.declared.Statement.{Statement as StatementOf};
 ghost use Rattle.program.specs.Program.{most as statements-most};
 ghost use Rattle.program.specs.Reading.{Decides, statements, Held};
-ghost use Rattle.bits.specs.Row.{member};
+ghost use Rattle.table.specs.Known.{Known, SomeKnown};
 ghost use Rattle.marks.specs.Reading.{most, Taken};
 ghost use Rattle.marks.specs.Marks.{ValidMark, names};
 ghost use Rattle.marks.specs.declared.Mark.{Mark as MarkOf};
 ghost use Rattle.rewriting.specs.Published.{published-room};
-ghost use Rattle.rewriting.specs.Verdicts.{Inside, place, Judged};
-ghost use Rattle.verdicts.specs.Judging.{Ready, published-words, SmallTaken, RowOf, RowFor, keyOf, slots, Remembers, NamedIn, Stands, SomeTaken, VerdictsOf, SomeJudged, RewritingOf};
-use flow::Flow;
+ghost use Rattle.rewriting.specs.Verdicts.{Inside, place};
+ghost use Rattle.verdicts.specs.Judging.{published-words, SmallTaken, RowOf, RowFor, keyOf, slots, Remembering, JudgedBy, NamedIn, Stands, Notes, SomeTaken, VerdictsOf, SomeJudged, RewritingOf};
 use language::Operand;
+use language::Statement;
 use marks::Mark;
 use marks::read::MarkRead;
 use program::Entry;
+use program::MOST;
 use program::Program;
 use rewriting::PUBLISHED_ROOM;
 use rewriting::Verdict;
@@ -43,11 +46,12 @@ fn blank_row() -> [u64; WORDS]
     [0; WORDS]
 }
 
-// The places at which the condition with this text is true: it is read and tabulated as any other.
-fn row_of(text: &[u8], p: Program, flow: Flow) -> [u64; WORDS]
-    requires { ⌜ Ready p flow ⌝ }
+// The places at which the condition with this text is true, of the n statements that the facts and the graph are of: it is read and
+// tabulated as any other.
+fn row_of(text: &[u8], n: usize, facts: &[[u64; WORDS]], flow: &[u16]) -> [u64; WORDS]
+    requires { ⌜ SomeKnown n (now facts) (now flow) ⌝ }
     requires { ⌜ SmallTaken (now text) ⌝ }
-    ensures { λ r. ⌜ RowOf (statements p) (now (text .entry)) r ⌝ }
+    ensures { λ r. ⌜ ((P : List StatementOf) → Known P n (now (facts .entry)) (now (flow .entry)) → RowOf P (now (text .entry)) r) ⌝ }
 {
     let reading = condition::read::read(text);
     let answer = reading.answer;
@@ -57,20 +61,20 @@ fn row_of(text: &[u8], p: Program, flow: Flow) -> [u64; WORDS]
     let words = reading.words;
     let count = parts as usize;
     let mut rows = blank_rows();
-    table::fill(text, words, count, p, flow, &mut rows);
+    table::fill(text, words, count, n, facts, flow, &mut rows);
     let last = count - 1;
     table::row_of(&rows, last)
 }
 
 // The places at which the mark's published condition is true.
-fn published_row(m: Mark, p: Program, flow: Flow) -> [u64; WORDS]
-    requires { ⌜ Ready p flow ⌝ }
+fn published_row(m: Mark, n: usize, facts: &[[u64; WORDS]], flow: &[u16]) -> [u64; WORDS]
+    requires { ⌜ SomeKnown n (now facts) (now flow) ⌝ }
     requires { ⌜ ValidMark m ⌝ }
-    ensures { λ r. ⌜ RowFor (statements p) m r ⌝ }
+    ensures { λ r. ⌜ ((P : List StatementOf) → Known P n (now (facts .entry)) (now (flow .entry)) → RowFor P m r) ⌝ }
 {
     let mut text = blank_text();
     let end = rewriting::write_published(m, &mut text);
-    row_of(&text[..end], p, flow)
+    row_of(&text[..end], n, facts, flow)
 }
 
 // The most rows that are remembered: a prime, so that the keys spread.
@@ -104,21 +108,22 @@ fn key_of(m: Mark) -> u64
 // The same as `published_row`: equal conditions are labelled once, unless another takes the slot between.
 fn remembered_row(
     m: Mark,
-    p: Program,
-    flow: Flow,
+    n: usize,
+    facts: &[[u64; WORDS]],
+    flow: &[u16],
     keys: &mut [u64],
     rows: &mut [[u64; WORDS]],
 ) -> [u64; WORDS]
-    requires { ⌜ Ready p flow ⌝ }
-    requires { ⌜ ValidMark m × Remembers (statements p) (now keys) (now rows) ⌝ }
-    ensures { λ r. ⌜ RowFor (statements p) m r × Remembers (statements p) (now (keys .exit)) (now (rows .exit)) ⌝ }
+    requires { ⌜ SomeKnown n (now facts) (now flow) ⌝ }
+    requires { ⌜ ValidMark m × Remembering n (now facts) (now flow) (now keys) (now rows) ⌝ }
+    ensures { λ r. ⌜ ((P : List StatementOf) → Known P n (now (facts .entry)) (now (flow .entry)) → RowFor P m r) × Remembering n (now (facts .entry)) (now (flow .entry)) (now (keys .exit)) (now (rows .exit)) ⌝ }
 {
     let key = key_of(m);
     let slot = (key % (SLOTS as u64)) as usize;
     if keys[slot] == key {
         return rows[slot];
     }
-    let row = published_row(m, p, flow);
+    let row = published_row(m, n, facts, flow);
     keys[slot] = key;
     rows[slot] = row;
     row
@@ -136,52 +141,49 @@ fn is_inside(n: usize, m: Mark) -> bool
     k <= n as u32
 }
 
-// Whether the row has the place that the mark names.
-fn has(row: &[u64], m: Mark) -> bool
-    requires { ⌜ length (now row) ≡ 4 ⌝ }
-    ensures { λ r. ⌜ (Inside statements-most (names m) → r ≡ member (now (row .entry)) (place m)) ⌝ }
+// The place that the mark names, of the 256 that there can be.
+fn place_of(m: Mark) -> usize
+    ensures { λ r. ⌜ (r < statements-most) × (Inside statements-most (names m) → r ≡ place m) ⌝ }
 {
     let k = rewriting::statement_of(m);
     if k < 1 {
-        return false;
+        return 0;
     }
-    let place = (k - 1) as usize;
-    if WORDS * 64 <= place {
-        return false;
+    if MOST < k as usize {
+        return 0;
     }
-    bits::contains(row, place)
+    (k - 1) as usize
 }
 
-// The verdict of a mark; `named` are the places that the earlier lines name.
+// The verdict of a mark on a program of n statements; i is the one that it names, and `named` are the places that the earlier lines name.
 fn verdict_of(
     m: Mark,
-    p: Program,
-    flow: Flow,
+    i: Statement,
+    n: usize,
+    facts: &[[u64; WORDS]],
+    flow: &[u16],
     named: &[u64],
     keys: &mut [u64],
     rows: &mut [[u64; WORDS]],
 ) -> Verdict
-    requires { ⌜ Ready p flow ⌝ }
+    requires { ⌜ SomeKnown n (now facts) (now flow) ⌝ }
     requires { ⌜ ValidMark m × (length (now named) ≡ 4) ⌝ }
-    requires { ⌜ Remembers (statements p) (now keys) (now rows) ⌝ }
-    ensures { λ r. ⌜ ((earlier : List MarkOf) → NamedIn (length (statements p)) (now (named .entry)) earlier → Judged (statements p) earlier m r) × Remembers (statements p) (now (keys .exit)) (now (rows .exit)) ⌝ }
+    requires { ⌜ Remembering n (now facts) (now flow) (now keys) (now rows) ⌝ }
+    ensures { λ r. ⌜ ((P : List StatementOf) → Known P n (now (facts .entry)) (now (flow .entry)) → JudgedBy P m i (now (named .entry)) r) × Remembering n (now (facts .entry)) (now (flow .entry)) (now (keys .exit)) (now (rows .exit)) ⌝ }
 {
-    let missing = !is_inside(p.count, m);
-    let repeated = has(named, m);
+    let place = place_of(m);
+    let missing = !is_inside(n, m);
+    let repeated = bits::contains(named, place);
     if missing {
         return Verdict::Missing;
     }
     if repeated {
         return Verdict::Repeated;
     }
-    let n = rewriting::statement_of(m);
-    let place = (n - 1) as usize;
-    let e = p.entries[place];
-    let i = e.statement;
     if !rewriting::fits(m, i) {
         return Verdict::Unfit;
     }
-    let row = remembered_row(m, p, flow, keys, rows);
+    let row = remembered_row(m, n, facts, flow, keys, rows);
     if !bits::contains(&row, place) {
         return Verdict::Unmet;
     }
@@ -204,28 +206,20 @@ fn stands(v: Verdict) -> bool
 // Adds the place that the mark with this verdict names.
 fn note(m: Mark, v: Verdict, named: &mut [u64])
     requires { ⌜ length (now named) ≡ 4 ⌝ }
-    ensures { λ _. ⌜ ((n : ℕ) (earlier : List MarkOf) → n ≤ statements-most → ((Stands v → ⊥) → Inside n (names m) → ⊥) → NamedIn n (now (named .entry)) earlier → NamedIn n (now (named .exit)) (m ∷ earlier)) ⌝ }
+    ensures { λ _. ⌜ ((n : ℕ) → n ≤ statements-most → Stands v ↔ Inside n (names m) → Notes n m (now (named .entry)) (now (named .exit))) ⌝ }
 {
-    if !stands(v) {
-        return;
+    if stands(v) {
+        bits::insert(named, place_of(m));
     }
-    let n = rewriting::statement_of(m);
-    if n < 1 {
-        return;
-    }
-    let place = (n - 1) as usize;
-    if WORDS * 64 <= place {
-        return;
-    }
-    bits::insert(named, place);
 }
 
-// Judges each mark of the list on the program: line j's verdict fills byte j.
-pub fn judge(marks: &[u8], p: Program, flow: Flow, verdicts: &mut [u8])
-    requires { ⌜ Ready p flow ⌝ }
+// Judges each mark of the list on the program, whose facts and control-flow graph are lent: line j's verdict fills byte j.
+pub fn judge(marks: &[u8], p: Program, facts: &[[u64; WORDS]], flow: &[u16], verdicts: &mut [u8])
+    requires { ⌜ Held p × Known (statements p) (p .count) (now facts) (now flow) ⌝ }
     requires { ⌜ SomeTaken (now marks) × (most ≤ length (now verdicts)) ⌝ }
     ensures { λ _. ⌜ ((ms : List MarkOf) → Taken (now (marks .entry)) ms → VerdictsOf (statements p) ms (now (verdicts .entry)) (now (verdicts .exit))) ⌝ }
 {
+    let n = p.count;
     let mut named = blank_row();
     bits::clear(&mut named);
     let mut keys = blank_keys();
@@ -236,7 +230,10 @@ pub fn judge(marks: &[u8], p: Program, flow: Flow, verdicts: &mut [u8])
         let MarkRead::Found(m, k) = marks::read::line(marks, at) else {
             return;
         };
-        let v = verdict_of(m, p, flow, &named, &mut keys, &mut rows);
+        let place = place_of(m);
+        let e = p.entries[place];
+        let i = e.statement;
+        let v = verdict_of(m, i, n, facts, flow, &named, &mut keys, &mut rows);
         verdicts[j] = rewriting::number_of(v);
         note(m, v, &mut named);
         j += 1;

@@ -7,7 +7,9 @@ use lib.ListN.{length}
 use Rattle.program.specs.Program.{Taken}
 use Rattle.program.specs.Reading.{statements, Held}
 use Rattle.table.specs.Fill.{SomeHeld}
+use Rattle.table.specs.Known.{Known}
 use Rattle.table.proofs.Whole.{held-some, held-few}
+use Rattle.rewrites.proofs.Known.{known-program}
 use Rattle.rewrites.proofs.Tabulates.{tabulated}
 use Rattle.rewrites.proofs.tabulate.Statement.{statement}
 use Rattle.rewrites.proofs.tabulate.Tie as tie
@@ -16,8 +18,7 @@ returns : tie.Need-returns
 returns c = (inl (c .if1 .taken, refl), refl)
 
 returns-2 : tie.Need-returns-2
-returns-2 c =
-    (inr (inl (c .before .before .before .before .before .if1 .left, c .before .before .answer .given .0 .0, rw (c .before .before .answer .given .1) at (c .before .before .before .before .read .ensures), c .number-of .ensures)), refl)
+returns-2 c = (inr (inl (c .before .before .before .before .before .if1 .left, c .before .before .answer .given .0 .0, rw (c .before .before .answer .given .1) at (c .before .before .before .before .read .ensures), c .number-of .ensures)), refl)
 
 -- the text that was read is taken
 program-taken : (c : tie.After-enum-told) → Taken (c .before .before .before .before .before .before .before .args .program .now) (statements (c .before .before .read .result .program)) × Held (c .before .before .read .result .program)
@@ -27,26 +28,30 @@ program-taken c = rw (c .enum-told .given .1) at (c .before .before .read .ensur
 condition-held : (c : tie.After-told2) → SomeHeld (c .before .before .before .before .before .before .before .before .before .before .before .args .condition .now) (c .told2 .given .0 .0) (c .before .before .read2 .result .words)
 condition-held c = let h = rw (c .told2 .given .1) at (c .before .before .read2 .ensures) in record { c = h .0; held = record { taken = h .1; held = h .2 } }
 
+find-requires : tie.Need-find-requires
+find-requires c κs = let p = program-taken (c .before .before .before .before .before .before .before .before) in (p .1, (p .0 .program, c .before .blank .ensures))
+
 of-requires : tie.Need-of-requires
-of-requires c κs = let p = program-taken (c .before .before .before .before .before .before) in (p .1, p .0 .program)
+of-requires c κs = let p = program-taken (c .before .before .before .before .before .before .before .before .before .before .before .before) in (p .1, (p .0 .program, c .before .blank2 .ensures))
 
 fill-requires : tie.Need-fill-requires
 fill-requires c κs =
-    let h = condition-held (c .before .before .before .before) in
-    let p = program-taken (c .before .before .before .before .before .before .before .before) in
+    let h = condition-held (c .before .before .before .before .before .before .before .before .before .before .before .before .before) in
+    let p = program-taken (c .before .before .before .before .before .before .before .before .before .before .before .before .before .before .before .before .before) in
     let few = held-few (h .held) in
-    ((p .1, p .0 .program .counted .1), (c .before .of .ensures, (h, omega arith)))
+    (record { P = _; known = known-program {flow = c .before .before .before .before .of .last .1 .0} (p .0) (p .1) (c .before .before .before .before .before .before .before .before .find .ensures) (c .before .before .before .before .of .ensures) (omega (arith, c .before .before .before .before .of .kept, c .before .before .before .before .before .before .blank2 .ensures)) }, (h, omega arith))
 
 sub-last : tie.Need-sub-last
-sub-last c = omega (arith, held-some (condition-held (c .before .before .before .before .before .before .before) .held))
+sub-last c = omega (arith, held-some (condition-held (c .before .before .before .before .before .before .before .before .before .before .before .before .before .before .before .before) .held))
 
 summary-of-requires : tie.Need-summary-of-requires
 summary-of-requires c κs =
-    let h = condition-held (c .before .before .before .before .before .before .before .before) in
+    let h = condition-held (c .before .before .before .before .before .before .before .before .before .before .before .before .before .before .before .before .before) in
+    let p = program-taken (c .before .before .before .before .before .before .before .before .before .before .before .before .before .before .before .before .before .before .before .before .before) in
     let some = held-some (h .held) in
     let few = held-few (h .held) in
-    let same = c .before .before .before .fill .ensures (h .c) (h .held) .same in
-    omega arith
+    let same = c .before .before .before .fill .ensures _ (h .c) (known-program {flow = c .before .before .before .before .before .before .before .before .of .last .1 .0} (p .0) (p .1) (c .before .before .before .before .before .before .before .before .before .before .before .before .find .ensures) (c .before .before .before .before .before .before .before .before .of .ensures) (omega (arith, c .before .before .before .before .before .before .before .before .of .kept, c .before .before .before .before .before .before .before .before .before .before .blank2 .ensures))) (h .held) .same in
+    omega (arith, c .before .before .before .before .before .before .before .before .before .before .before .before .before .before .before .before .before .before .before .before .before .before .before .before .if1 .left)
 
 returns-3 : tie.Need-returns-3
 returns-3 c =
@@ -54,8 +59,10 @@ returns-3 c =
 
 returns-4 : tie.Need-returns-4
 returns-4 c =
-    let h = condition-held (c .before .before .before .before .before .before .before .before .before) in
-    tabulated (h .held) (program-taken (c .before .before .before .before .before .before .before .before .before .before .before .before .before) .0) (c .before .before .before .before .before .before .before .before .before .before .before .before .before .before .before .before .if1 .left) (c .before .before .before .before .fill .ensures (h .c) (h .held)) (c .summary-of .ensures)
+    let h = condition-held (c .before .before .before .before .before .before .before .before .before .before .before .before .before .before .before .before .before .before) in
+    let p = program-taken (c .before .before .before .before .before .before .before .before .before .before .before .before .before .before .before .before .before .before .before .before .before .before) in
+    let k = known-program {flow = c .before .before .before .before .before .before .before .before .before .of .last .1 .0} (p .0) (p .1) (c .before .before .before .before .before .before .before .before .before .before .before .before .before .find .ensures) (c .before .before .before .before .before .before .before .before .before .of .ensures) (omega (arith, c .before .before .before .before .before .before .before .before .before .of .kept, c .before .before .before .before .before .before .before .before .before .before .before .blank2 .ensures)) in
+    tabulated (h .held) (p .0) (c .before .before .before .before .before .before .before .before .before .before .before .before .before .before .before .before .before .before .before .before .before .before .before .before .before .if1 .left) (c .before .before .before .before .fill .ensures _ (h .c) k (h .held)) (c .summary-of .ensures)
 
 pub tabulate-spec : {M : Type 1} → statement M
 tabulate-spec =
@@ -72,7 +79,14 @@ tabulate-spec =
     (λ c κs. search needs)
     (λ c. search needs)
     (λ c. search needs)
+    (λ c κs. search needs)
+    (λ c. search needs)
+    find-requires
+    (λ c κs. search needs)
+    (λ c. search needs)
     of-requires
+    (λ c. search needs)
+    (λ c. search needs)
     fill-requires
     sub-last
     summary-of-requires

@@ -6,25 +6,28 @@ use Rattle.verdicts.proofs.row_of.Statement.{statement}
 use Rattle.verdicts.proofs.row_of.Tie as tie
 
 returns : tie.Need-returns
-returns c = absurd (not-refused (c .before .before .before .before .before .pre .1) _ _ (c .before .before .before .read .ensures) _ (c .before .enum-told .given .1))
+returns c = absurd (not-refused (c .before .before .before .before .before .before .pre .1) _ _ (c .before .before .before .read .ensures) _ (c .before .enum-told .given .1))
 
 fill-requires : tie.Need-fill-requires
-fill-requires c κs = let i = c .before .before .before .before .before .before .before .before .pre in let h = read-held (c .before .before .before .before .before .before .before .before .pre .1) _ _ (c .before .before .before .before .before .before .read .ensures) _ (c .before .before .before .before .answer .given .1) in ((i .0 .held, i .0 .few), (i .0 .flows, (record { c = i .1 .c; held = h }, omega (arith, held-room (i .1) h))))
+fill-requires c κs =
+    let i = c .before .before .before .before .before .before .before .before .before .pre in
+    let h = read-held (i .1) _ _ (c .before .before .before .before .before .before .read .ensures) _ (c .before .before .before .before .answer .given .1) in
+    (i .0, (record { c = i .1 .c; held = h }, omega (arith, held-room (i .1) h)))
 
 sub-last : tie.Need-sub-last
-sub-last c = omega (arith, held-some (read-held (c .before .before .before .before .before .before .before .before .before .before .pre .1) _ _ (c .before .before .before .before .before .before .before .before .read .ensures) _ (c .before .before .before .before .before .before .answer .given .1)))
+sub-last c = omega (arith, held-some (read-held (c .before .before .before .before .before .before .before .before .before .before .before .pre .1) _ _ (c .before .before .before .before .before .before .before .before .read .ensures) _ (c .before .before .before .before .before .before .answer .given .1)))
 
 row-of-requires : tie.Need-row-of-requires
 row-of-requires c κs =
-    let i = c .before .before .before .before .before .before .before .before .before .before .before .pre in
-    let h = read-held (c .before .before .before .before .before .before .before .before .before .before .before .pre .1) _ _ (c .before .before .before .before .before .before .before .before .before .read .ensures) _ (c .before .before .before .before .before .before .before .answer .given .1) in
-    omega (arith, held-room (i .1) h, held-some h, c .before .before .fill .ensures (i .1 .c) h .same, c .before .before .before .before .blank-rows .ensures)
+    let i = c .before .before .before .before .before .before .before .before .before .before .before .before .pre in
+    let h = read-held (i .1) _ _ (c .before .before .before .before .before .before .before .before .before .read .ensures) _ (c .before .before .before .before .before .before .before .answer .given .1) in
+    omega (arith, held-room (i .1) h, held-some h, c .before .before .fill .ensures (i .0 .P) (i .1 .c) (i .0 .known) h .same, c .before .before .before .before .blank-rows .ensures)
 
 returns-2 : tie.Need-returns-2
-returns-2 c =
-    let i = c .before .before .before .before .before .before .before .before .before .before .before .before .pre in
-    let h = read-held (c .before .before .before .before .before .before .before .before .before .before .before .before .pre .1) _ _ (c .before .before .before .before .before .before .before .before .before .before .read .ensures) _ (c .before .before .before .before .before .before .before .before .answer .given .1) in
-    let t = c .before .before .before .fill .ensures (i .1 .c) h in
+returns-2 c = λ P k.
+    let i = c .before .before .before .before .before .before .before .before .before .before .before .before .before .pre in
+    let h = read-held (i .1) _ _ (c .before .before .before .before .before .before .before .before .before .before .read .ensures) _ (c .before .before .before .before .before .before .before .before .answer .given .1) in
+    let t = c .before .before .before .fill .ensures P (i .1 .c) k h in
     rw (c .row-of .ensures) (whole-row (i .1) h (omega (arith, t .same, c .before .before .before .before .before .blank-rows .ensures)) t)
 
 pub row-of-spec : {M : Type 1} → statement M
