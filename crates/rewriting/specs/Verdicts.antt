@@ -51,6 +51,14 @@ Judged P earlier m Unmet =
 Judged P earlier m Accepted =
     Inside (length P) (names m) × (Named earlier (names m) → ⊥) × Fits m (at P (place m)) × Sat P (published m) (place m)
 
+-- the verdict is one of a mark whose statement the program has
+abbrev pub Stands : Verdict → Type 0
+Stands Accepted = Unit
+Stands Missing = ⊥
+Stands Repeated = Unit
+Stands Unfit = Unit
+Stands Unmet = Unit
+
 -- the mark of line j, counted from 0
 abbrev pub markAt : List Mark → ℕ → Mark
 markAt ms j = getD ms j (Rm 0 0 (Single (Constant 0)))

@@ -3,7 +3,7 @@ ghost use mathlib.Core.Path.{_≡_};
 ghost use Rattle.program.specs.Reading.{Decides};
 ghost use Rattle.marks.specs.Marks.{names};
 ghost use Rattle.rewriting.specs.Rewriting.{IsVariable, Takes, Fits, replaceOperand, replaceIn, replaceVariable, replace as replaceStatement, makes as madeOf};
-ghost use Rattle.rewriting.specs.Verdicts.{number};
+ghost use Rattle.rewriting.specs.Verdicts.{number, Stands};
 ghost use Prim.Native.Nat.{_≤_};
 ghost use lib.ListN.{length};
 ghost use Rattle.language.specs.Spelling.{ValidVariable, ValidOperand};
@@ -36,6 +36,19 @@ pub fn number_of(v: Verdict) -> u8
         Verdict::Repeated => 12,
         Verdict::Unfit => 13,
         Verdict::Unmet => 14,
+    }
+}
+
+// Whether the verdict is one of a mark whose statement the program has.
+pub fn stands(v: Verdict) -> bool
+    ensures { λ r. ⌜ Decides r (Stands v) ⌝ }
+{
+    match v {
+        Verdict::Accepted => true,
+        Verdict::Missing => false,
+        Verdict::Repeated => true,
+        Verdict::Unfit => true,
+        Verdict::Unmet => true,
     }
 }
 

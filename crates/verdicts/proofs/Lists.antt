@@ -22,10 +22,10 @@ use Rattle.marks.specs.declared.Mark.{Mark}
 use Rattle.marks.specs.declared.read.MarkRead.{MarkRead}
 use Rattle.marks.specs.declared.read.MarkRead.the-variants as markRead
 use Rattle.marks.proofs.Walk.{Begins, begins-first, line-mark, line-next, line-inside, line-found, text-line, text-done}
-use Rattle.rewriting.specs.Verdicts.{number, Inside, Named, place, Judged, markAt, Verdicts}
+use Rattle.rewriting.specs.Verdicts.{number, Inside, Named, place, Judged, Stands, markAt, Verdicts}
 use Rattle.rewriting.specs.declared.Verdict.{Verdict}
 use Rattle.rewriting.specs.declared.Verdict.the-variants.{Accepted, Missing, Repeated, Unfit, Unmet}
-use Rattle.verdicts.specs.Judging.{NamedIn, Notes, Stands, VerdictsOf}
+use Rattle.verdicts.specs.Judging.{NamedIn, Notes, VerdictsOf}
 
 -- the last of the marks names n, or one before
 named-last : (ms : List Mark) (m : Mark) (n : ℕ) → Named (ms ++ m ∷ []) n ↔ Named (m ∷ ms) n

@@ -23,7 +23,6 @@ use Rattle.marks.specs.Reading as marks
 use Rattle.rewriting.specs.Rewriting.{published}
 use Rattle.rewriting.specs.Verdicts.{Inside, Named, place, Judged, Verdicts, acceptedCount, Rewritten}
 use Rattle.rewriting.specs.declared.Verdict.{Verdict}
-use Rattle.rewriting.specs.declared.Verdict.the-variants.{Accepted, Missing, Repeated, Unfit, Unmet}
 use Rattle.verdicts.specs.declared.Rewriting.{Rewriting}
 
 -- the words for the parts of a published condition, the code's PUBLISHED_WORDS
@@ -77,14 +76,6 @@ JudgedBy P m i row v =
 -- the row has the place of the mark m beside those of the earlier ones
 abbrev pub Notes : ℕ → Mark → List ℕ → List ℕ → Type 0
 Notes n m old new = (earlier : List Mark) → NamedIn n old earlier → NamedIn n new (m ∷ earlier)
-
--- the verdict is one of a mark whose statement the program has
-abbrev pub Stands : Verdict → Type 0
-Stands Accepted = Unit
-Stands Missing = ⊥
-Stands Repeated = Unit
-Stands Unfit = Unit
-Stands Unmet = Unit
 
 -- the text is taken as a list of marks
 pub record SomeTaken (t : List ℕ) : Type 0 where

@@ -12,8 +12,8 @@ ghost use Rattle.marks.specs.Reading.{most, Taken};
 ghost use Rattle.marks.specs.Marks.{ValidMark, names};
 ghost use Rattle.marks.specs.declared.Mark.{Mark as MarkOf};
 ghost use Rattle.rewriting.specs.Published.{published-room};
-ghost use Rattle.rewriting.specs.Verdicts.{Inside, place};
-ghost use Rattle.verdicts.specs.Judging.{published-words, SmallTaken, RowOf, RowFor, keyOf, slots, Remembering, JudgedBy, NamedIn, Stands, Notes, SomeTaken, VerdictsOf, SomeJudged, RewritingOf};
+ghost use Rattle.rewriting.specs.Verdicts.{Inside, place, Stands};
+ghost use Rattle.verdicts.specs.Judging.{published-words, SmallTaken, RowOf, RowFor, keyOf, slots, Remembering, JudgedBy, NamedIn, Notes, SomeTaken, VerdictsOf, SomeJudged, RewritingOf};
 use language::Operand;
 use language::Statement;
 use marks::Mark;
@@ -190,26 +190,14 @@ fn verdict_of(
     Verdict::Accepted
 }
 
-// Whether the verdict is one of a mark whose statement the program has.
-fn stands(v: Verdict) -> bool
-    ensures { λ r. ⌜ Decides r (Stands v) ⌝ }
-{
-    match v {
-        Verdict::Accepted => true,
-        Verdict::Missing => false,
-        Verdict::Repeated => true,
-        Verdict::Unfit => true,
-        Verdict::Unmet => true,
-    }
-}
-
 // Adds the place that the mark with this verdict names.
 fn note(m: Mark, v: Verdict, named: &mut [u64])
     requires { ⌜ length (now named) ≡ 4 ⌝ }
     ensures { λ _. ⌜ ((n : ℕ) → n ≤ statements-most → Stands v ↔ Inside n (names m) → Notes n m (now (named .entry)) (now (named .exit))) ⌝ }
 {
-    if stands(v) {
-        bits::insert(named, place_of(m));
+    if rewriting::stands(v) {
+        let place = place_of(m);
+        bits::insert(named, place);
     }
 }
 

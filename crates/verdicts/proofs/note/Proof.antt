@@ -9,7 +9,7 @@ use Rattle.verdicts.proofs.note.Tie as tie
 returns : tie.Need-returns
 returns c = λ n few s.
     let i = s .0 (decided-true (c .before .before .before .before .before .before .stands .result) (c .before .before .before .before .before .if1 .taken) (c .before .before .before .before .before .before .stands .ensures)) in
-    named-more _ _ (c .before .before .before .before .before .before .before .before .args .m) n (i .0) (rw (← c .before .before .before .place-of .ensures .1 (i .0, omega (arith, i .1))) (c .before .before .insert .ensures))
+    named-more _ _ (c .before .before .before .before .before .before .before .before .args .m) n (i .0) (rw (← c .before .before .before .before .place-of .ensures .1 (i .0, omega (arith, i .1))) (c .before .before .insert .ensures))
 
 returns-2 : tie.Need-returns-2
 returns-2 c = λ n few s. named-same _ (c .before .before .before .args .m) n (λ i. decided-false (c .before .stands .result) (c .if1 .left) (c .before .stands .ensures) (s .1 i))

@@ -1,6 +1,6 @@
 use borrow.Author.Needs.{needs}
-use Rattle.verdicts.proofs.stands.Statement.{statement}
-use Rattle.verdicts.proofs.stands.Tie as tie
+use Rattle.rewriting.proofs.stands.Statement.{statement}
+use Rattle.rewriting.proofs.stands.Tie as tie
 
 returns : tie.Need-returns
 returns c = rw (c .enum-told .given .1) tt
