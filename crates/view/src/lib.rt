@@ -14,6 +14,9 @@ ghost use Rattle.rewrites.specs.Tabulate.{table-words};
 ghost use Rattle.desk.specs.Refusals.{refusal-room};
 ghost use Rattle.view.specs.View.{pickByte, partLine, partLines, columns, headRow, row as rowText, rows, lastLine, viewText, Views};
 ghost use Rattle.view.specs.Writing.{truthIn, byteIn, Placed, Tabled, ColumnsFit, HeadFits, RowFits, RowsFit, AtomEnds, PartEnds, PartsFit, ViewFits, RefusalPut};
+
+pub mod page;
+
 use condition::MOST_BYTES;
 use condition::MOST_PARTS;
 use condition::read::AtomRead;
