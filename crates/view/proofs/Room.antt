@@ -1,12 +1,11 @@
 -- A view has room in 92,721 bytes, whatever the program and the condition. Assumes nothing.
-use mathlib.Core.Path.{_≡_}
 use mathlib.Core.Bool.{Bool}
 use mathlib.Core.Logic.{⊎-elim}
-use mathlib.Core.List.{List, _++_}
+use mathlib.Core.List.{List}
 use Prim.Native.Nat.{ℕ, _+_, _-_, _*_, _≤_, _<_}
 use native.Mathlib.Omega.{arith}
 use lib.ListN.{length, length-append}
-use Rattle.language.specs.Spelling.{digits, spell, Valid}
+use Rattle.language.specs.Spelling.{spell}
 use Rattle.language.specs.declared.Statement.{Statement}
 use Rattle.language.specs.declared.Statement.the-variants.{Read, Write, Assign, Branch, Skip}
 use Rattle.language.proofs.Lengths.{Near, line-most, digits-length}
@@ -18,7 +17,7 @@ use Rattle.condition.specs.Reading.{most-bytes, most-parts, Taken, Held}
 use Rattle.table.specs.Table.{part-words, partAt}
 use Rattle.table.specs.Summary.{Counts}
 use Rattle.desk.proofs.Lengths.{wide-length, padded-length}
-use Rattle.view.specs.View.{margin, partLine, partLines, columns, headRow, tens, units, mark, row, rows, lastLine, viewText, view-room}
+use Rattle.view.specs.View.{margin, partLine, partLines, headRow, tens, units, mark, row, rows, viewText, view-room}
 use Rattle.view.proofs.Texts.{upto-most, columns-length, part-length, head-length, row-length, last-length}
 use Rattle.view.proofs.Spans.{span-short}
 

@@ -2,7 +2,7 @@
 use mathlib.Core.Path.{_≡_, refl, ap, sym, _∙_, subst}
 use mathlib.Core.Bool.{Bool, true, false}
 use mathlib.Core.List.{List, [], _∷_, _++_, append-assoc, append-nil}
-use Prim.Native.Nat.{ℕ, zero, suc, _+_, _-_, _*_, _/_, _%_, _≤_, _<_}
+use Prim.Native.Nat.{ℕ, zero, suc, _+_, _-_, _/_, _%_, _≤_, _<_}
 use native.Mathlib.Omega.{arith}
 use lib.Dec.{ltb}
 use lib.ListN.{length, take, drop, getD, length-append, List·getD-append}
@@ -13,7 +13,7 @@ use Rattle.ctl.specs.Paths.{E, A}
 use Rattle.flow.specs.Flow.{forward, backward}
 use Rattle.condition.specs.declared.Atom.the-variants.{True}
 use Rattle.condition.specs.Condition.{next, finally, globally, until, weak, Unary, negation, Binary, conjunction, disjunction, Condition, atom, unary, binary, prefix, opening, middle, closing, spellAtom, spellCondition, ValidCondition, parts}
-use Rattle.condition.specs.Reading.{most-bytes, most-parts, Taken, Held, unaryCode, binaryCode, word, words}
+use Rattle.condition.specs.Reading.{most-bytes, Taken, Held, unaryCode, binaryCode, word, words}
 use Rattle.condition.specs.Parsing.{parseAtom}
 use Rattle.condition.proofs.Spelling.{atom-complete}
 use Rattle.condition.proofs.Readers.{parts-few, words-length}

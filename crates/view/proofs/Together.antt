@@ -1,12 +1,10 @@
 -- The parts, the rows of digits, the rows of statements and the counts, one after another. Assumes nothing.
-use mathlib.Core.Path.{_≡_, sym}
-use mathlib.Core.Bool.{Bool}
+use mathlib.Core.Path.{_≡_}
 use mathlib.Core.List.{List, _++_}
 use Prim.Native.Nat.{ℕ, _+_, _≤_}
 use native.Mathlib.Omega.{arith}
 use lib.ListN.{length}
 use Rattle.language.specs.Writing.{Put}
-use Rattle.language.specs.declared.Statement.{Statement}
 use Rattle.language.proofs.Puts.{put-then, room, front}
 use Rattle.program.specs.Reading.{statements}
 use Rattle.program.specs.declared.Program.{Program}

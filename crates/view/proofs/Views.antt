@@ -1,7 +1,7 @@
 -- From what `tabulate` answers to what is printed. Assumes nothing.
-use mathlib.Core.Path.{_≡_, refl, ap, sym, _∙_}
-use mathlib.Core.Bool.{Bool, true}
-use mathlib.Core.Logic.{_⊎_, inl, inr, _↔_}
+use mathlib.Core.Path.{_≡_, refl, _∙_}
+use mathlib.Core.Bool.{true}
+use mathlib.Core.Logic.{inl, inr, _↔_}
 use mathlib.Core.List.{List}
 use Prim.Native.Nat.{ℕ, _+_, _*_, _/_, _%_, _≤_, _<_}
 use native.Mathlib.Omega.{arith}
@@ -12,7 +12,6 @@ use Rattle.program.specs.Program.{Taken}
 use Rattle.program.specs.Reading as program
 use Rattle.program.specs.declared.Answer as program-answer
 use Rattle.program.specs.declared.Program.{Program}
-use Rattle.program.specs.declared.Refusal as program-refusal
 use Rattle.program.proofs.RoundTrip.{program-taken, read-written}
 use Rattle.bits.specs.Row.{bit, member}
 use Rattle.condition.specs.Condition.{Condition, parts}
@@ -25,8 +24,8 @@ use Rattle.table.specs.Table.{part-words, partAt}
 use Rattle.rewrites.specs.Tabulate.{table-words, TabulateRefused, TabulateFilled, TabulateAnswers}
 use Rattle.rewrites.specs.declared.TabulateAnswer.{TabulateAnswer}
 use Rattle.rewrites.specs.declared.TabulateAnswer.the-variants.{Refused, Filled}
-use Rattle.view.specs.View.{viewText, Refuses, PrintsView, view-room, Printed, Views}
-use Rattle.view.specs.Writing.{truthIn, Tabled, ViewFits, RefusalPut}
+use Rattle.view.specs.View.{viewText, Refuses, view-room, Printed, Views}
+use Rattle.view.specs.Writing.{truthIn, ViewFits, RefusalPut}
 use Rattle.view.specs.declared.Viewed.{Viewed}
 use Rattle.view.specs.declared.Viewed.the-variants.{Written}
 use Rattle.language.proofs.Puts.{put-within}

@@ -1,12 +1,9 @@
 // The viewer's output: a program and a condition in, the bytes that are printed out.
 ghost use mathlib.Core.Path.{_≡_};
-ghost use mathlib.Core.Bool.{Bool};
-ghost use mathlib.Core.List.{List, _++_};
 ghost use lib.ListN.{length};
 ghost use lib.Dec.{ltb};
 ghost use Prim.Native.Nat.{_≤_, _<_, _+_, _/_};
 ghost use Rattle.language.specs.Writing.{Put};
-ghost use Rattle.program.specs.Program.{most};
 ghost use Rattle.program.specs.Reading.{statements};
 ghost use Rattle.condition.specs.Condition.{Condition};
 ghost use Rattle.condition.specs.Reading.{Taken, most-parts, most-bytes};

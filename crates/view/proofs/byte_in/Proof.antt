@@ -1,9 +1,6 @@
 -- `byte_in` meets its contract. Assumes nothing.
-use mathlib.Core.Path.{_≡_}
-use Prim.Native.Nat.{_<_, _+_, _*_}
 use native.Mathlib.Omega.{arith}
 use borrow.Author.Needs.{needs}
-use Rattle.view.specs.Writing.{Placed}
 use Rattle.view.proofs.byte_in.Statement.{statement}
 use Rattle.view.proofs.byte_in.Tie as tie
 

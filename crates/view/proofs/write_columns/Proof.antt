@@ -1,8 +1,7 @@
 -- `write_columns` meets its contract. The invariant: the bytes of the parts before k are written. Assumes nothing.
 use mathlib.Core.Path.{_∙_}
-use Prim.Native.Nat.{_≤_, _-_, _+_}
+use Prim.Native.Nat.{_≤_, _-_}
 use native.Mathlib.Omega.{arith}
-use lib.ListN.{length}
 use borrow.Author.Needs.{needs}
 use Rattle.language.specs.Writing.{Put}
 use Rattle.language.proofs.Puts.{put-then}

@@ -1,8 +1,5 @@
 -- `write_head` meets its contract: the margin, the columns and byte 10. Assumes nothing.
-use mathlib.Core.Path.{_≡_}
 use native.Mathlib.Omega.{arith}
-use lib.ListN.{length, length-replicate}
-use Prim.Native.Nat.{ℕ}
 use borrow.Author.Needs.{needs}
 use Rattle.language.proofs.Puts.{put-then}
 use Rattle.view.specs.View.{headRow}

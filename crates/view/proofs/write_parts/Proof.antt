@@ -1,6 +1,5 @@
 -- `write_parts` meets its contract. The invariant: the lines of the parts before k are written, and the last of them ends at `end`.
 -- Assumes nothing.
-use mathlib.Core.Path.{_≡_}
 use Prim.Native.Nat.{_-_}
 use native.Mathlib.Omega.{arith}
 use borrow.Author.Needs.{needs}

@@ -1,6 +1,5 @@
 -- `write_row` meets its contract: the number, the statement, the marks and byte 10. Assumes nothing.
 use native.Mathlib.Omega.{arith}
-use lib.ListN.{length}
 use borrow.Author.Needs.{needs}
 use Rattle.language.proofs.Puts.{put-then}
 use Rattle.view.specs.View.{row}

@@ -1,5 +1,4 @@
 -- `write_view` meets its contract: the parts, two rows of digits, the rows of statements, the counts. Assumes nothing.
-use mathlib.Core.Path.{_∙_}
 use borrow.Author.Needs.{needs}
 use Rattle.view.proofs.Together.{parts-fit, tens-fit, units-fit, rows-fit, last-room, put-together}
 use Rattle.view.proofs.write_view.Statement.{statement}

@@ -1,6 +1,5 @@
 -- `page` meets its contract: the view, escaped. Assumes nothing.
 use mathlib.Core.Path.{refl, sym}
-use native.Mathlib.Omega.{arith}
 use lib.Seq.{length-take-le}
 use borrow.Author.Needs.{needs}
 use Rattle.view.proofs.Escapes.{never, plain-within, page-fits, page-printed}
