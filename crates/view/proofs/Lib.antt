@@ -7,3 +7,4 @@ pub mod Room
 pub mod Views
 pub mod Refusals
 pub mod Escapes
+pub mod Unique
