@@ -1,0 +1,25 @@
+-- Columns of the programs' output: numbers, texts and values as bytes.
+use mathlib.Core.List.{List, [], _∷_, _++_}
+use Prim.Native.Nat.{ℕ, _-_}
+use lib.ListN.{length, replicate}
+use lib.IntN.{ℤ, pos, negsuc, natAbs}
+use Rattle.language.specs.Spelling.{digits}
+
+abbrev pub spaces : ℕ → List ℕ
+spaces n = replicate n 32
+
+-- the number n, right-aligned in w columns; one that is wider keeps its digits
+unfoldable pub wide : ℕ → ℕ → List ℕ
+wide w n = spaces (w - length (digits n)) ++ digits n
+
+-- the text xs, filled with spaces to w columns; one that is wider keeps its bytes
+unfoldable pub padded : ℕ → List ℕ → List ℕ
+padded w xs = xs ++ spaces (w - length xs)
+
+-- a signed value in decimal: `-7`
+abbrev pub signMark : ℤ → List ℕ
+signMark (pos n) = []
+signMark (negsuc n) = 45 ∷ []
+
+unfoldable pub signedDigits : ℤ → List ℕ
+signedDigits v = signMark v ++ digits (natAbs v)
