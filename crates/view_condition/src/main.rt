@@ -1,6 +1,8 @@
 // Shows at which statements of a program the parts of a condition are true, as `view` says. The arguments name the files of the program
 // and of the condition, `given` and `condition` where they are left out; a byte 10 at the condition's end is dropped. With `--html` before
 // them the same text is printed within a page. A file is read up to 65,536 bytes, more than any that is taken.
+mod page;
+
 ghost use Rattle.io.specs.Counts.{Counts};
 ghost use lib.ListN.{length};
 ghost use Prim.Native.Nat.{_≤_};
@@ -52,37 +54,13 @@ fn print(program: &[u8], condition: &[u8]) {
     }
 }
 
-// The page up to the view's text.
-fn print_head() {
-    io::write_all(
-        STDOUT_FILENO,
-        b"<!doctype html>\n<html lang=\"en\"><head><meta charset=\"utf-8\"><meta name=\"viewport\" content=\"width=device-width\"><title>A condition over a program</title>\n",
-    );
-    io::write_all(
-        STDOUT_FILENO,
-        b"<style>\nbody{font:14px/1.5 monospace;margin:1em}\ntable{border-collapse:collapse}\nth,td{padding:0 .5em;text-align:center}\nth:first-child,td:first-child{text-align:right;color:#555}\ntd:nth-child(2){text-align:left;white-space:pre}\nth:last-child,td:last-child{border-left:2px solid #000}\nli,th,td{cursor:pointer}\nli.on,tr.on,th.on{background:#fd6;outline:1px solid #960}\n</style></head><body>\n<pre id=\"view\">",
-    );
-}
-
-// The rest of the page: a script makes a table of the text, in which a part that is pointed at or tapped shows its statements.
-fn print_tail() {
-    io::write_all(
-        STDOUT_FILENO,
-        b"</pre>\n<script>\n(function () {\nvar view = document.getElementById('view'), lines = view.textContent.split('\\n');\nvar told = /^parts ([0-9]+) /.exec(lines[lines.length - 2] || '');\nif (!told) return;\nvar n = +told[1], items = [], heads = [], rows = [], held = -1;\nfunction make(kind, text, into) { var e = document.createElement(kind); e.textContent = text; into.appendChild(e); return e; }\nfunction show(k) {\n  items.forEach(function (e, j) { e.className = heads[j].className = j === k ? 'on' : ''; });\n  rows.forEach(function (r) { r.row.className = k >= 0 && r.marks[k] === '*' ? 'on' : ''; });\n}\nfunction answer(e, k) {\n  e.onmouseenter = function () { show(k); };\n  e.onmouseleave = function () { show(held); };\n  e.onclick = function () { held = held === k ? -1 : k; show(held); };\n}\n",
-    );
-    io::write_all(
-        STDOUT_FILENO,
-        b"var parts = document.createElement('ol'), table = document.createElement('table'), top = make('tr', '', table);\nmake('th', '', top); make('th', '', top);\nfor (var k = 0; k < n; k++) {\n  items.push(make('li', lines[k].slice(4), parts)); answer(items[k], k);\n  heads.push(make('th', k + 1, top)); answer(heads[k], k);\n}\nlines.slice(n + 2, -2).forEach(function (line) {\n  var row = make('tr', '', table), marks = line.slice(37, 36 + n) + line.slice(38 + n);\n  make('td', line.slice(0, 3).trim(), row); make('td', line.slice(5, 35).trimEnd(), row);\n  for (var k = 0; k < n; k++) answer(make('td', marks[k], row), k);\n  rows.push({ row: row, marks: marks });\n});\nview.before(parts, table); make('p', lines[lines.length - 2], document.body); view.remove();\n}());\n</script></body></html>\n",
-    );
-}
-
 fn print_page(program: &[u8], condition: &[u8]) {
     let end = without_end(condition);
     let mut out = [0u8; PAGE_ROOM];
     if let Viewed::Written(n) = view::page::page(program, &condition[..end], &mut out) {
-        print_head();
+        page::print_head();
         io::write_all(STDOUT_FILENO, &out[..n]);
-        print_tail();
+        page::print_tail();
     }
 }
 
