@@ -1,0 +1,51 @@
+-- Which line of a program's text a refusal is about.
+use mathlib.Core.Path.{_≡_}
+use mathlib.Core.List.{List, _∷_, _++_}
+use Prim.Native.Nat.{ℕ, _+_, _<_, min}
+use lib.ListN.{length}
+use Rattle.language.specs.Spelling.{spell, Valid}
+use Rattle.language.specs.declared.Statement.{Statement}
+use Rattle.program.specs.Program.{text, AllValid, Spells, at, InPlace, Targets}
+use Rattle.program.specs.declared.Refusal.{Refusal}
+use Rattle.program.specs.declared.Refusal.the-variants.{Misspelled, LineCount, Placement, Target}
+
+-- the number of the line at place s, counted from 1; lines beyond 4,294,967,295 are all given that number
+abbrev pub most-line : ℕ
+most-line = 4294967295
+
+abbrev pub lineAt : ℕ → ℕ
+lineAt s = min (s + 1) most-line
+
+-- line n is the first that isn't spelled: the lines before it are those of the valid statements P, and no valid statement's line follows
+pub record FirstMisspelled (t : List ℕ) (n : ℕ) : Type 0 where
+  pub P : List Statement
+  pub rest : List ℕ
+  pub lines : t ≡ text P ++ rest
+  pub valid : AllValid P
+  pub more : 0 < length rest
+  pub misspelled : (i : Statement) (after : List ℕ) → Valid i → rest ≡ spell i ++ 10 ∷ after → ⊥
+  pub line : n ≡ lineAt (length P)
+
+-- line n has the first statement of which the rule fails, the rule being about the number of statements, a place and the statement there
+pub record FirstBroken (Rule : ℕ → ℕ → Statement → Type 0) (t : List ℕ) (n : ℕ) : Type 0 where
+  pub P : List Statement
+  pub spells : Spells t P
+  pub s : ℕ
+  pub inside : s < length P
+  pub broken : Rule (length P) s (at P s) → ⊥
+  pub before : (j : ℕ) → j < s → Rule (length P) j (at P j)
+  pub line : n ≡ s + 1
+
+-- what each refusal asks of a statement; the first two ask it of the text
+abbrev pub Rule : Refusal → ℕ → ℕ → Statement → Type 0
+Rule Misspelled N s i = Unit
+Rule LineCount N s i = Unit
+Rule Placement N s i = InPlace N s i
+Rule Target N s i = Targets N i
+
+-- the refusal r of the text t is about line n; 0 is no line
+abbrev pub Blames : List ℕ → Refusal → ℕ → Type 0
+Blames t Misspelled n = FirstMisspelled t n
+Blames t LineCount n = n ≡ 0
+Blames t Placement n = FirstBroken (Rule Placement) t n
+Blames t Target n = FirstBroken (Rule Target) t n

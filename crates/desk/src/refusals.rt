@@ -1,0 +1,98 @@
+// Refusals in words.
+ghost use mathlib.Core.List.{_++_};
+ghost use lib.ListN.{length};
+ghost use Prim.Native.Nat.{_≤_, _+_};
+ghost use Rattle.language.specs.Spelling.{digits};
+ghost use Rattle.language.specs.Writing.{Put};
+ghost use Rattle.desk.specs.Refusals.{refusalWords, refusalText};
+
+// Every refusal has room in this many bytes.
+pub const REFUSAL_ROOM: usize = 128;
+
+// A line's number within a text.
+fn on_line(out: &mut [u8], at: usize, before: &[u8], line: u32, after: &[u8]) -> usize
+    requires { ⌜ at + length (now before ++ (digits line ++ now after)) ≤ length (now out) ⌝ }
+    ensures { λ r. ⌜ Put (now (out .entry)) at (now (before .entry) ++ (digits line ++ now (after .entry))) (now (out .exit)) r ⌝ }
+{
+    let k1 = language::write::word(out, at, before);
+    let k2 = language::write::number(out, k1, line);
+    language::write::word(out, k2, after)
+}
+
+fn words(out: &mut [u8], at: usize, n: u8, line: u32) -> usize
+    requires { ⌜ at + length (refusalWords n line) ≤ length (now out) ⌝ }
+    ensures { λ r. ⌜ Put (now (out .entry)) at (refusalWords n line) (now (out .exit)) r ⌝ }
+{
+    match n {
+        1 => {
+            language::write::word(
+                out,
+                at,
+                b"the host program: table under 256 words, verdicts under 256 bytes or new text under 8,192 bytes",
+            )
+        }
+        15 => language::write::word(out, at, b"the host program: budget over 1,000,000"),
+        2 => {
+            on_line(
+                out,
+                at,
+                b"the author of the shift program: line ",
+                line,
+                b" isn't spelled as a statement, or lacks its byte 10",
+            )
+        }
+        3 => {
+            language::write::word(
+                out,
+                at,
+                b"the author of the shift program: under 2 or over 256 lines",
+            )
+        }
+        4 => {
+            on_line(
+                out,
+                at,
+                b"the author of the shift program: line ",
+                line,
+                b": read or write missing from its place or standing elsewhere",
+            )
+        }
+        5 => {
+            on_line(
+                out,
+                at,
+                b"the author of the shift program: line ",
+                line,
+                b": a target outside 2 to N",
+            )
+        }
+        6 => language::write::word(
+            out,
+            at,
+            b"the author of the condition: longer than 1,024 bytes",
+        ),
+        7 => language::write::word(out, at, b"the author of the condition: misspelled"),
+        8 => language::write::word(out, at, b"the author of the condition: over 64 parts"),
+        9 => {
+            language::write::word(
+                out,
+                at,
+                b"the optimiser: some line misspelled, or the last without its byte 10",
+            )
+        }
+        10 => language::write::word(out, at, b"the optimiser: over 256 lines"),
+        _ => at,
+    }
+}
+
+// The line with the number of the refusal, and its words on the next; `line` is the line of the program's text that 2, 4 and 5 are about.
+pub fn refusal(out: &mut [u8], at: usize, n: u8, line: u32) -> usize
+    requires { ⌜ at + length (refusalText n line) ≤ length (now out) ⌝ }
+    ensures { λ r. ⌜ Put (now (out .entry)) at (refusalText n line) (now (out .exit)) r ⌝ }
+{
+    let k1 = language::write::word(out, at, b"refused ");
+    let k2 = language::write::number(out, k1, n as u32);
+    let k3 = language::write::byte(out, k2, 10);
+    let k4 = words(out, k3, n, line);
+    language::write::byte(out, k4, 10)
+}
