@@ -78,16 +78,17 @@ module _ (p : Program) (input s : ℕ) (vs us : List ℕ) (next : Next) (told : 
           stands = step-inside p start input j s vs us next (i .stands) told t w e;
         }
 
-    pub ends : {budget : ℕ} (v : ℕ) (b : Progress) → b .done ≡ j + 1 → b .bytes ≡ end → b .ended ≡ true → next ≡ Finish v → j < budget
+    pub ends : {budget : ℕ} (v : ℕ) (b : Progress) → b .done ≡ j + 1 → b .bytes ≡ end → b .ended ≡ true → next ≡ Finish v → j < budget → end ≤ length o
         → Put q to (lineText (j + 1) s (held (p .entries) s) vs vs) r end → Traced (statements p) start input budget k o r us b
-    ends v b d y z e h l =
+    ends v b d y z e h f l =
         record {
           n = i .n + 1;
           counted = omega (arith, d, i .counted);
           put = rw y (line-more vs (ap (λ (x : Next). valuesIn (stateOf x us) vs) e) l);
+          fits = rw y f;
           left = rw (z, d) (v, step-over p start input j s vs us next (i .stands) told v e);
           within = λ w. omega arith;
-          stops = λ f. let g : true ≡ false = sym z ∙ f in let y : _≡_ {A = ℕ} 0 1 = cc in absurd (omega arith);
+          stops = λ x. let g : true ≡ false = sym z ∙ x in let y : _≡_ {A = ℕ} 0 1 = cc in absurd (omega arith);
           further = λ w g. omega (arith, i .counted);
         }
 
@@ -123,6 +124,7 @@ module _ {p : Program} {input budget k s₀ : ℕ} {vs₀ o q vs : List ℕ} {s 
         n = f .n;
         counted = d ∙ f .counted;
         put = rw y (f .put);
+        fits = rw y (i .fits);
         left = rw (z, d, a) (f .stands .inside, f .stands .state);
         within = λ w. rw d (i .within w);
         stops = λ x. rw (d, y) why;

@@ -35,6 +35,7 @@ pub record Traced (P : List Statement) (start : List ℕ) (input budget k : ℕ)
   pub n : ℕ
   pub counted : r .done ≡ k + n
   pub put : Put o 0 (stepLines P start input k n) q (r .bytes)
+  pub fits : r .bytes ≤ length o
   pub left : Left P start input (r .done) (r .ended) (r .at) us
   -- it stops at the budget, where the run has ended, or where a line may have no room; with room for one it goes on
   pub within : k ≤ budget → r .done ≤ budget
