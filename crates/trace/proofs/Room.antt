@@ -65,9 +65,12 @@ near (Assign x e) t = tt
 near (Branch x n m) t = (omega arith, omega arith)
 near Skip t = tt
 
+pub text-most : (x : Statement) → Valid x → Targets most x → length (padded 30 (spell x)) ≤ 30
+text-most x v t = omega (arith, padded-length 30 (spell x), statement-most x v (near x t))
+
 pub head-most : (k s : ℕ) (x : Statement) → k < 2 ^ 32 → s < most → Valid x → Targets most x → length (stepHead k s x) ≤ 47
 head-most k s x h l v t =
-    omega (arith, head-length k s x, wide-length 7 k, wide-length 3 (s + 1), padded-length 30 (spell x), digits-length 9 k (omega arith), digits-length 2 (s + 1) (omega arith), statement-most x v (near x t))
+    omega (arith, head-length k s x, wide-length 7 k, wide-length 3 (s + 1), digits-length 9 k (omega arith), digits-length 2 (s + 1) (omega arith), text-most x v t)
 
 pub line-length : (k s : ℕ) (x : Statement) (vs us : List ℕ) → length (lineText k s x vs us) ≡ length (stepHead k s x) + (length (changes 32 vs us) + 1)
 unfolding lineText

@@ -92,7 +92,7 @@ module _ (p : Program) (input s : ℕ) (vs us : List ℕ) (next : Next) (told : 
           further = λ w g. omega (arith, i .counted);
         }
 
-  goes-inside : (t : ℕ) → WellFormed (statements p) → s < length (statements p) → next ≡ Goto t → t < length (statements p)
+  pub goes-inside : (t : ℕ) → WellFormed (statements p) → s < length (statements p) → next ≡ Goto t → t < length (statements p)
   goes-inside t w h e =
       perform-inside (length (statements p)) s input t vs us (at (statements p) s) (w .counted .0) (w .placed s h) (w .aimed s h)
       (rw (at-held (p .entries) (p .count) s h) (sym told ∙ ap (λ (x : Next). stateOf x us) e))
