@@ -29,8 +29,11 @@ unfolding signedDigits
 integer-most (pos n) f = omega (arith, digits-length 9 n (omega (arith, f .sfits)))
 integer-most (negsuc n) f = omega (arith, digits-length 9 (suc n) (omega (arith, f .sfits)))
 
+pub ended-short : (v : ℤ) (k : ℕ) → SFits w32 v → k < 2 ^ 32 → length (endedText v k) ≤ 35
+ended-short v k f h = omega (arith, ended-length v k, integer-most v f, digits-length 9 k (omega arith))
+
 pub ended-most : (v : ℤ) (k : ℕ) → SFits w32 v → k < 2 ^ 32 → length (endedText v k) ≤ outcome-room
-ended-most v k f h = omega (arith, ended-length v k, integer-most v f, digits-length 9 k (omega arith))
+ended-most v k f h = omega (arith, ended-short v k f h)
 
 pub lines-most : (n : ℕ) (vs : List ℕ) → n ≤ 32 → length (valueLines n vs) ≤ n * value-room
 unfolding valueLines

@@ -21,11 +21,11 @@ pub enum Told {
 }
 
 // `ended 9 steps 12`
-pub fn ended(out: &mut [u8], v: i32, k: u32) -> usize
-    requires { ⌜ length (endedText v k) ≤ length (now out) ⌝ }
-    ensures { λ r. ⌜ Put (now (out .entry)) 0 (endedText v k) (now (out .exit)) r ⌝ }
+pub fn ended(out: &mut [u8], at: usize, v: i32, k: u32) -> usize
+    requires { ⌜ at + length (endedText v k) ≤ length (now out) ⌝ }
+    ensures { λ r. ⌜ Put (now (out .entry)) at (endedText v k) (now (out .exit)) r ⌝ }
 {
-    let k1 = language::write::word(out, 0, b"ended ");
+    let k1 = language::write::word(out, at, b"ended ");
     let k2 = desk::columns::signed(out, k1, v);
     let k3 = language::write::word(out, k2, b" steps ");
     let k4 = language::write::number(out, k3, k);
@@ -90,7 +90,7 @@ fn run_outcome(
             let line = refusal_line(program, n);
             desk::refusals::refusal(out, 0, n, line)
         }
-        RunAnswer::Ended(v, k) => ended(out, v, k),
+        RunAnswer::Ended(v, k) => ended(out, 0, v, k),
         RunAnswer::Spent(n) => spent(out, n, &left),
     }
 }
