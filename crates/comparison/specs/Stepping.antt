@@ -37,7 +37,7 @@ alikeNext (Finish v) (Finish w) = eqb v w
 abbrev pub InStep : List Statement → List Statement → Type 0
 InStep P Q = (start : List ℕ) → length start ≡ variables → (input k : ℕ) → Together (after P start input k) (after Q start input k)
 
--- both programs are well-formed elsewhere; here: the place lies in both
+-- the place lies in both programs
 pub record Within (P Q : List Statement) (s : ℕ) : Type 0 where
   pub given : s < length P
   pub rewritten : s < length Q

@@ -122,7 +122,7 @@ line-sound k l v rest e =
     let b : u ≡ rest = cc in
     rw (← a, ← b, ← skip-sound (10 ∷ []) t r) h)
 
-line-complete : (k v : ℕ) (rest : List ℕ) → RightLine k v → parseStartLine k (spellLine k v ++ 10 ∷ rest) ≡ found v rest
+pub line-complete : (k v : ℕ) (rest : List ℕ) → RightLine k v → parseStartLine k (spellLine k v ++ 10 ∷ rest) ≡ found v rest
 unfolding parseStartLine parseWord digitOf
 line-complete k v rest r = rw (field-complete k v (10 ∷ rest) r refl)
 
