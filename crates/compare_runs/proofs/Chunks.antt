@@ -9,7 +9,7 @@ use Rattle.language.specs.declared.Statement.{Statement}
 use Rattle.program.specs.Program.{WellFormed}
 use Rattle.machine.specs.Machine.{before, after}
 use Rattle.machine.proofs.Runs.{stands-first}
-use Rattle.trace.proofs.Room.{put-length}
+use Rattle.trace.proofs.Series.{put-length}
 use Rattle.comparison.specs.Stepping.{Within, Left, Compared}
 use Rattle.comparison.specs.declared.Progress.{Progress}
 

@@ -24,7 +24,7 @@ use Rattle.machine.specs.declared.Next.the-variants.{Goto, Finish}
 use Rattle.machine.proofs.Runs.{Stands, step-inside, step-over}
 use Rattle.lockstep.specs.Lockstep.{Together}
 use Rattle.trace.specs.Trace.{valuesIn}
-use Rattle.trace.proofs.Room.{put-length}
+use Rattle.trace.proofs.Series.{put-length}
 use Rattle.trace.proofs.Walk.{goes-inside}
 use Rattle.comparison.specs.Lines.{pairLine, bothLine, bothLines}
 use Rattle.comparison.specs.Stepping.{line-room, alikeNext, InStep, Within, Left, Compared}

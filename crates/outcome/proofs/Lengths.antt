@@ -1,8 +1,8 @@
 -- How long the parts of an outcome are, and that each has room in 596 bytes. Assumes nothing.
-use mathlib.Core.Path.{_≡_}
+use mathlib.Core.Path.{_≡_, refl}
 use mathlib.Core.List.{List, [], _∷_, _++_}
 use mathlib.Core.Bool.{Bool, true, false}
-use Prim.Native.Nat.{ℕ, zero, suc, _+_, _*_, _^_, _≤_, _<_}
+use Prim.Native.Nat.{ℕ, suc, _+_, _*_, _^_, _≤_, _<_}
 use native.Mathlib.Omega.{arith}
 use lib.Dec.{eqb}
 use lib.IntN.{ℤ, pos, negsuc, natAbs}
@@ -18,6 +18,7 @@ use Rattle.start.specs.declared.Answer.{Answer}
 use Rattle.start.specs.declared.Answer.the-variants.{Taken, Few, Many, Line}
 use Rattle.trace.specs.Trace.{valueText}
 use Rattle.trace.proofs.Room.{value-most}
+use Rattle.trace.proofs.Series.{Parts, parts-most}
 use Rattle.outcome.specs.Outcome.{endedText, valueLines, spentText, lineRange, startWords, startText, value-room, outcome-room}
 
 pub ended-length : (v : ℤ) (k : ℕ) → length (endedText v k) ≡ 6 + (length (signedDigits v) + (7 + (length (digits k) + 1)))
@@ -35,19 +36,25 @@ ended-short v k f h = omega (arith, ended-length v k, integer-most v f, digits-l
 pub ended-most : (v : ℤ) (k : ℕ) → SFits w32 v → k < 2 ^ 32 → length (endedText v k) ≤ outcome-room
 ended-most v k f h = omega (arith, ended-short v k f h)
 
-pub lines-most : (n : ℕ) (vs : List ℕ) → n ≤ 32 → length (valueLines n vs) ≤ n * value-room
+-- a line for each variable
+abbrev pub valueLine : List ℕ → ℕ → List ℕ
+valueLine vs n = valueText n (getD vs n 0) ++ 10 ∷ []
+
+pub lines-parts : (vs : List ℕ) → Parts (λ n. valueLines n vs) (valueLine vs) value-room
 unfolding valueLines
-lines-most zero vs h = omega arith
-lines-most (suc n) vs h =
-    let v = valueText n (getD vs n 0) in
-    omega (arith, length-append (valueLines n vs) (v ++ 10 ∷ []), length-append v (10 ∷ []), value-most n (getD vs n 0) (omega arith), lines-most n vs (omega arith))
+lines-parts vs =
+    record {
+      none = refl;
+      more = λ n. refl;
+      short = λ n h. omega (arith, length-append (valueText n (getD vs n 0)) (10 ∷ []), value-most n (getD vs n 0) h);
+    }
 
 pub spent-length : (n : ℕ) (vs : List ℕ) → length (spentText n vs) ≡ 9 + (length (digits n) + (1 + length (valueLines 32 vs)))
 unfolding spentText
 spent-length n vs = simp length-append (omega arith)
 
 pub spent-most : (n : ℕ) (vs : List ℕ) → n < 2 ^ 32 → length (spentText n vs) ≤ outcome-room
-spent-most n vs h = omega (arith, spent-length n vs, digits-length 9 n (omega arith), lines-most 32 vs (omega arith))
+spent-most n vs h = omega (arith, spent-length n vs, digits-length 9 n (omega arith), parts-most (lines-parts vs) 32 (omega arith))
 
 pub refused-most : (n line : ℕ) → n < 1000 → line < 2 ^ 32 → length (refusalText n line) ≤ outcome-room
 refused-most n line h l = omega (arith, refusal-most n line h (omega arith))

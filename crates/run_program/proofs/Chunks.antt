@@ -9,7 +9,7 @@ use Rattle.language.specs.declared.Statement.{Statement}
 use Rattle.machine.proofs.Runs.{Stands}
 use Rattle.trace.specs.Stepping.{line-room, Left, Traced}
 use Rattle.trace.specs.declared.Progress.{Progress}
-use Rattle.trace.proofs.Room.{put-length}
+use Rattle.trace.proofs.Series.{put-length}
 
 -- the run stands before place s after k steps, and the bytes o have room for a line
 pub record Ready (P : List Statement) (start : List ℕ) (input k s : ℕ) (vs o : List ℕ) : Type 0 where

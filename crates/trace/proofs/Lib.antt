@@ -1,2 +1,3 @@
+pub mod Series
 pub mod Room
 pub mod Walk

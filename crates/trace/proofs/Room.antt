@@ -4,24 +4,22 @@ use mathlib.Core.List.{List, [], _∷_, _++_}
 use mathlib.Core.Bool.{Bool, true, false}
 use Prim.Native.Nat.{ℕ, zero, suc, _+_, _-_, _*_, _^_, _≤_, _<_}
 use native.Mathlib.Omega.{arith}
-use native.Mathlib.Numerals.{add-one}
 use lib.Dec.{ltb, eqb}
 use lib.ListN.{length, getD, length-append, length-replicate}
-use lib.Seq.{length-sets}
 use mir.Syntax.{w32}
 use mir.Val.{toZ}
 use borrow.Author.Tests.{lt-ltb, le-ltb, ltb-true, ltb-false}
 use Rattle.language.specs.Spelling.{pickList, digits, spellVariable, spell, Valid}
-use Rattle.language.specs.Writing.{Put}
 use Rattle.language.specs.declared.Statement.{Statement}
 use Rattle.language.specs.declared.Statement.the-variants.{Read, Write, Assign, Branch, Skip}
 use Rattle.language.proofs.Lengths.{Near, digits-length, line-most as statement-most}
-use Rattle.language.proofs.Puts.{put-then, variable-length}
+use Rattle.language.proofs.Puts.{variable-length}
 use Rattle.program.specs.Program.{most, Targets}
 use Rattle.desk.specs.Columns.{spaces, wide, padded, signedDigits}
 use Rattle.desk.proofs.Lengths.{wide-length, padded-length}
 use Rattle.trace.specs.Trace.{valueText, change, changes, stepHead, lineText}
-use Rattle.trace.specs.Stepping.{change-room, changes-room, line-room}
+use Rattle.trace.specs.Stepping.{change-room, line-room}
+use Rattle.trace.proofs.Series.{Parts, parts-most}
 
 pub value-length : (x v : ℕ) → length (valueText x v) ≡ length (spellVariable x) + (3 + length (signedDigits (toZ w32 v)))
 unfolding valueText
@@ -39,19 +37,17 @@ signed-most v = go (ltb v (2 ^ 31)) refl
 pub value-most : (x v : ℕ) → x < 32 → length (valueText x v) ≤ 17
 value-most x v h = omega (arith, value-length x v, variable-length x, digits-length 1 x (omega arith), signed-most v)
 
-pub change-most : (x : ℕ) (vs us : List ℕ) → x < 32 → length (change x vs us) ≤ 19
+change-most : (x : ℕ) (vs us : List ℕ) → x < 32 → length (change x vs us) ≤ change-room
 unfolding change
 change-most x vs us h = go (eqb (getD vs x 0) (getD us x 0))
   where
-    go : (b : Bool) → length (pickList b [] (spaces 2 ++ valueText x (getD us x 0))) ≤ 19
+    go : (b : Bool) → length (pickList b [] (spaces 2 ++ valueText x (getD us x 0))) ≤ change-room
     go true = omega arith
     go false = omega (arith, value-most x (getD us x 0) h)
 
-pub changes-most : (n : ℕ) (vs us : List ℕ) → n ≤ 32 → length (changes n vs us) ≤ n * 19
+pub changes-parts : (vs us : List ℕ) → Parts (λ n. changes n vs us) (λ n. change n vs us) change-room
 unfolding changes
-changes-most zero vs us h = omega arith
-changes-most (suc n) vs us h =
-    omega (arith, length-append (changes n vs us) (change n vs us), change-most n vs us (omega arith), changes-most n vs us (omega arith))
+changes-parts vs us = record { none = refl; more = λ n. refl; short = λ n h. change-most n vs us h }
 
 pub head-length : (k s : ℕ) (x : Statement) → length (stepHead k s x) ≡ length (wide 7 k) + (2 + (length (wide 3 (s + 1)) + (2 + length (padded 30 (spell x)))))
 unfolding stepHead
@@ -77,28 +73,4 @@ unfolding lineText
 line-length k s x vs us = simp length-append (omega arith)
 
 pub line-most : (k s : ℕ) (x : Statement) (vs us : List ℕ) → k < 2 ^ 32 → s < most → Valid x → Targets most x → length (lineText k s x vs us) ≤ line-room
-line-most k s x vs us h l v t = omega (arith, line-length k s x vs us, head-most k s x h l v t, changes-most 32 vs us (omega arith))
-
-pub put-length : {o q w : List ℕ} {at k : ℕ} → Put o at w q k → length q ≡ length o
-put-length {o = o} {w = w} {at = at} p = ap length (p .text) ∙ length-sets o at w
-
--- the changes of the first x values stand in q from `at` on, up to `to`
-pub record Changed (vs us o : List ℕ) (at : ℕ) (q : List ℕ) (to x : ℕ) : Type 0 where
-  pub put : Put o at (changes x vs us) q to
-  pub within : x ≤ 32
-  pub room : at + changes-room ≤ length o
-
-pub none-changed : {vs us o : List ℕ} {at : ℕ} → at + changes-room ≤ length o → Changed vs us o at o at 0
-unfolding changes
-none-changed h = record { put = record { text = refl; after = omega arith }; within = omega arith; room = h }
-
-module _ {vs us o : List ℕ} {at : ℕ} {q : List ℕ} {to x : ℕ} (i : Changed vs us o at q to x) where
-  pub changed-length : length q ≡ length o
-  changed-length = put-length (i .put)
-
-  pub room-for-change : x < 32 → to + change-room ≤ length q
-  room-for-change h = omega (arith, i .put .after, changed-length, changes-most x vs us (i .within), i .room)
-
-  pub one-changed : {p : List ℕ} {next : ℕ} → x < 32 → Put q to (change x vs us) p next → Changed vs us o at p next (x + 1)
-  unfolding changes
-  one-changed h w = record { put = rw add-one (put-then (i .put) w); within = omega arith; room = i .room }
+line-most k s x vs us h l v t = omega (arith, line-length k s x vs us, head-most k s x h l v t, parts-most (changes-parts vs us) 32 (omega arith))

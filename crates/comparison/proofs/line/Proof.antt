@@ -3,7 +3,8 @@ use native.Mathlib.Omega.{arith}
 use Rattle.language.proofs.Puts.{put-then}
 use Rattle.trace.proofs.Room.{head-most, text-most}
 use Rattle.comparison.specs.Lines.{pairLine}
-use Rattle.comparison.proofs.Room.{differences-most, line-most}
+use Rattle.comparison.proofs.Room.{differences-parts, line-most}
+use Rattle.trace.proofs.Series.{parts-most}
 use borrow.Author.Needs.{needs}
 use Rattle.comparison.proofs.line.Statement.{statement}
 use Rattle.comparison.proofs.line.Tie as tie
@@ -31,7 +32,7 @@ differences-requires c κs =
 byte-requires : tie.Need-byte-requires
 byte-requires c κs =
     let s = c .before .before .before .before .before .before .before .before .before .before .before .before .before .before .before .before .before .before in
-    omega (arith, head-most (s .args .k) (s .args .place) (s .args .s) (search needs) (s .pre .1 .1 .0) (s .pre .0 .0) (s .pre .0 .1), text-most (s .args .t) (s .pre .1 .0 .0) (s .pre .1 .0 .1), differences-most 32 (s .args .a .now) (s .args .b .now) (omega arith))
+    omega (arith, head-most (s .args .k) (s .args .place) (s .args .s) (search needs) (s .pre .1 .1 .0) (s .pre .0 .0) (s .pre .0 .1), text-most (s .args .t) (s .pre .1 .0 .0) (s .pre .1 .0 .1), parts-most (differences-parts (s .args .a .now) (s .args .b .now)) 32 (omega arith))
 
 returns : tie.Need-returns
 unfolding pairLine

@@ -6,7 +6,7 @@ use native.Mathlib.Omega.{arith}
 use lib.ListN.{length}
 use borrow.Author.Tests.{not-true, not-false}
 use Rattle.program.proofs.Held.{held-valid, held-targets}
-use Rattle.trace.proofs.Room.{put-length}
+use Rattle.trace.proofs.Series.{put-length}
 use Rattle.comparison.proofs.Walk.{Going, not-gone, never-differ, going-more, ends, stopped}
 use borrow.Author.Needs.{needs}
 use Rattle.comparison.proofs.steps.Statement.{statement}

@@ -2,7 +2,8 @@
 use native.Mathlib.Omega.{arith}
 use Rattle.language.proofs.Puts.{put-then}
 use Rattle.trace.specs.Trace.{lineText}
-use Rattle.trace.proofs.Room.{head-most, changes-most, line-most}
+use Rattle.trace.proofs.Room.{head-most, changes-parts, line-most}
+use Rattle.trace.proofs.Series.{parts-most}
 use borrow.Author.Needs.{needs}
 use Rattle.trace.proofs.line.Statement.{statement}
 use Rattle.trace.proofs.line.Tie as tie
@@ -20,7 +21,7 @@ changes-requires c κs =
 byte-requires : tie.Need-byte-requires
 byte-requires c κs =
     let s = c .before .before .before .before .before .before .before .before .before .before in
-    omega (arith, head-most (s .args .k) (s .args .place) (s .args .s) (search needs) (s .pre .1 .1 .0) (s .pre .0) (s .pre .1 .0), changes-most 32 (s .args .old .now) (s .args .new .now) (omega arith))
+    omega (arith, head-most (s .args .k) (s .args .place) (s .args .s) (search needs) (s .pre .1 .1 .0) (s .pre .0) (s .pre .1 .0), parts-most (changes-parts (s .args .old .now) (s .args .new .now)) 32 (omega arith))
 
 returns : tie.Need-returns
 unfolding lineText

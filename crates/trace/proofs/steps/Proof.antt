@@ -6,7 +6,7 @@ use native.Mathlib.Omega.{arith}
 use lib.ListN.{length}
 use Rattle.program.proofs.Held.{held-valid, held-targets}
 use Rattle.trace.specs.Stepping.{line-room}
-use Rattle.trace.proofs.Room.{put-length}
+use Rattle.trace.proofs.Series.{put-length}
 use Rattle.trace.proofs.Walk.{Going, not-gone, going-more, ends, stopped}
 use borrow.Author.Needs.{needs}
 use Rattle.trace.proofs.steps.Statement.{statement}
