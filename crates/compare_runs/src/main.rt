@@ -4,7 +4,6 @@
 ghost use mathlib.Core.Path.{_≡_};
 ghost use mathlib.Core.Bool.{true};
 ghost use lib.ListN.{length};
-ghost use Rattle.io.specs.Counts.{Counts};
 ghost use Rattle.program.specs.Program.{WellFormed};
 ghost use Rattle.program.specs.Reading.{statements};
 ghost use Rattle.comparison.specs.Stepping.{InStep};
@@ -20,25 +19,6 @@ use outcome::OUTCOME_ROOM;
 use outcome::Told;
 use program::Program;
 use rewrites::TEXT_BYTES;
-
-// The file that argument i names, or the default where the argument is missing; negative where it can't be opened.
-fn open(i: usize, default: &[u8]) -> i32 {
-    if os::arg_count() <= i {
-        return os::open_read(default);
-    }
-    let mut path = io::buffer();
-    let n = os::arg(i, &mut path);
-    os::open_read(&path[..n])
-}
-
-// Puts the file's bytes at the front of the lent ones, and answers how many.
-fn read_file(file: i32, buffer: &mut [u8]) -> usize
-    ensures { λ r. ⌜ Counts r (now (buffer .exit)) ⌝ }
-{
-    let n = io::read_full(file, buffer);
-    libc::close(file);
-    n
-}
 
 // Lines are written some at a time, from this many bytes.
 const CHUNK: usize = 16384;
@@ -184,9 +164,9 @@ fn usage() {
 }
 
 fn main() {
-    let program = open(1, b"given");
-    let list = open(2, b"marks");
-    let start = open(3, b"start");
+    let program = files::open(1, b"given");
+    let list = files::open(2, b"marks");
+    let start = files::open(3, b"start");
     if 4 < os::arg_count() {
         usage();
         return;
@@ -204,10 +184,10 @@ fn main() {
         return;
     }
     let mut given = io::large_buffer();
-    let k = read_file(program, &mut given);
+    let k = files::read(program, &mut given);
     let mut marks = io::large_buffer();
-    let m = read_file(list, &mut marks);
+    let m = files::read(list, &mut marks);
     let mut from = io::large_buffer();
-    let n = read_file(start, &mut from);
+    let n = files::read(start, &mut from);
     compare(&given[..k], &marks[..m], &from[..n]);
 }

@@ -1,6 +1,5 @@
 // Runs a program from a start: run_program [PROGRAM [START [trace]]], files that default to `given` and `start`. Prints the outcome or the
 // refusal in words, and with the word `trace` a line for each step before it. A file is read up to 65,536 bytes, as the check program does.
-ghost use Rattle.io.specs.Counts.{Counts};
 ghost use Rattle.program.specs.Program.{WellFormed};
 ghost use Rattle.program.specs.Reading.{statements};
 ghost use mathlib.Core.Path.{_≡_};
@@ -12,25 +11,6 @@ use machine::VALUES;
 use outcome::OUTCOME_ROOM;
 use outcome::Told;
 use program::Program;
-
-// The file that argument i names, or the default where the argument is missing; negative where it can't be opened.
-fn open(i: usize, default: &[u8]) -> i32 {
-    if os::arg_count() <= i {
-        return os::open_read(default);
-    }
-    let mut path = io::buffer();
-    let n = os::arg(i, &mut path);
-    os::open_read(&path[..n])
-}
-
-// Puts the file's bytes at the front of the lent ones, and answers how many.
-fn read_file(file: i32, buffer: &mut [u8]) -> usize
-    ensures { λ r. ⌜ Counts r (now (buffer .exit)) ⌝ }
-{
-    let n = io::read_full(file, buffer);
-    libc::close(file);
-    n
-}
 
 // Lines of a trace are written some at a time, from this many bytes.
 const CHUNK: usize = 16384;
@@ -117,8 +97,8 @@ fn usage() {
 }
 
 fn main() {
-    let program = open(1, b"given");
-    let start = open(2, b"start");
+    let program = files::open(1, b"given");
+    let start = files::open(2, b"start");
     if !understood() {
         usage();
         return;
@@ -132,9 +112,9 @@ fn main() {
         return;
     }
     let mut given = io::large_buffer();
-    let m = read_file(program, &mut given);
+    let m = files::read(program, &mut given);
     let mut from = io::large_buffer();
-    let n = read_file(start, &mut from);
+    let n = files::read(start, &mut from);
     if traced() {
         print_trace(&given[..m], &from[..n]);
     }
