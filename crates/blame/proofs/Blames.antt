@@ -15,10 +15,10 @@ use Rattle.language.specs.declared.read.StatementRead.{StatementRead}
 use Rattle.language.specs.declared.read.StatementRead.the-variants.{Found, Misspelled}
 use Rattle.program.specs.declared.Refusal.{Refusal}
 use Rattle.program.specs.declared.Refusal.the-variants as refusal
-use Rattle.program.specs.Program.{text, AllValid, Spells, most, at, Counted}
+use Rattle.program.specs.Program.{text, Spells, at, Counted}
 use Rattle.program.specs.Reading.{Refused}
 use Rattle.program.proofs.Texts.{text-rest, text-unique}
-use Rattle.blame.specs.Blame.{lineAt, Rule, FirstMisspelled, FirstBroken, Blames}
+use Rattle.blame.specs.Blame.{lineAt, Rule, FirstBroken, Blames}
 use Rattle.blame.proofs.Lines.{SoFar, none-yet, whole, stuck, one-line}
 
 -- the lines before are as the refusal asks, n being the number of all lines

@@ -1,3 +1,4 @@
 pub mod Lines
 pub mod Blames
 pub mod Places
+pub mod Unique

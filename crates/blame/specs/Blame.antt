@@ -26,14 +26,14 @@ pub record FirstMisspelled (t : List ℕ) (n : ℕ) : Type 0 where
   pub misspelled : (i : Statement) (after : List ℕ) → Valid i → rest ≡ spell i ++ 10 ∷ after → ⊥
   pub line : n ≡ lineAt (length P)
 
--- line n has the first statement of which the rule fails, the rule being about the number of statements, a place and the statement there
-pub record FirstBroken (Rule : ℕ → ℕ → Statement → Type 0) (t : List ℕ) (n : ℕ) : Type 0 where
+-- line n has the first statement of which the claim fails, a claim about the number of statements, a place and the statement there
+pub record FirstBroken (Claim : ℕ → ℕ → Statement → Type 0) (t : List ℕ) (n : ℕ) : Type 0 where
   pub P : List Statement
   pub spells : Spells t P
   pub s : ℕ
   pub inside : s < length P
-  pub broken : Rule (length P) s (at P s) → ⊥
-  pub before : (j : ℕ) → j < s → Rule (length P) j (at P j)
+  pub broken : Claim (length P) s (at P s) → ⊥
+  pub before : (j : ℕ) → j < s → Claim (length P) j (at P j)
   pub line : n ≡ s + 1
 
 -- what each refusal asks of a statement; the first two ask it of the text

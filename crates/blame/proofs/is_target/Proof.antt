@@ -1,6 +1,5 @@
 -- `is_target` meets its contract. Assumes nothing.
 use native.Mathlib.Omega.{arith}
-use borrow.Author.Needs.{needs}
 use Rattle.program.proofs.Decides.{decides-target}
 use Rattle.blame.proofs.is_target.Statement.{statement}
 use Rattle.blame.proofs.is_target.Tie as tie

@@ -1,0 +1,57 @@
+-- A refusal is about one line only. Assumes nothing.
+use mathlib.Core.Path.{_≡_, refl, ap, sym, _∙_}
+use mathlib.Core.Bool.{Bool, true, false}
+use mathlib.Core.List.{List, [], _∷_, _++_, append-assoc}
+use Prim.Native.Nat.{ℕ, suc, _+_, _<_}
+use native.Mathlib.Omega.{arith}
+use lib.Dec.{ltb}
+use lib.ListN.{length}
+use borrow.Author.Tests.{ltb-true, ltb-false}
+use Rattle.language.specs.Spelling.{spell, Valid}
+use Rattle.language.specs.declared.Statement.{Statement}
+use Rattle.language.proofs.Lines.{line-unique}
+use Rattle.program.specs.Program.{text, AllValid}
+use Rattle.program.specs.declared.Refusal.{Refusal}
+use Rattle.program.specs.declared.Refusal.the-variants.{Misspelled, LineCount, Placement, Target}
+use Rattle.program.proofs.Texts.{text-unique}
+use Rattle.blame.specs.Blame.{lineAt, FirstMisspelled, FirstBroken, Blames}
+
+-- no line begins there
+abbrev Stops : List ℕ → Type 0
+Stops x = (i : Statement) (after : List ℕ) → Valid i → x ≡ spell i ++ 10 ∷ after → ⊥
+
+-- lines up to where none begins are equally many
+same-count : (P Q : List Statement) (x y : List ℕ) → AllValid P → AllValid Q → Stops x → Stops y → text P ++ x ≡ text Q ++ y → length P ≡ length Q
+unfolding text
+same-count [] [] x y v w a b e = refl
+same-count [] (s ∷ Q) x y v w a b e = absurd (a s (text Q ++ y) (w .0) (e ∙ append-assoc (spell s) (10 ∷ text Q) y))
+same-count (r ∷ P) [] x y v w a b e = absurd (b r (text P ++ x) (v .0) (sym e ∙ append-assoc (spell r) (10 ∷ text P) x))
+same-count (r ∷ P) (s ∷ Q) x y v w a b e =
+    let f : spell r ++ 10 ∷ (text P ++ x) ≡ spell s ++ 10 ∷ (text Q ++ y) = sym (append-assoc (spell r) (10 ∷ text P) x) ∙ e ∙ append-assoc (spell s) (10 ∷ text Q) y in
+    let u = line-unique r s (text P ++ x) (text Q ++ y) (v .0) (w .0) f in
+    ap suc (same-count P Q x y (v .1) (w .1) a b (u .1))
+
+misspelled-unique : {t : List ℕ} {m n : ℕ} → FirstMisspelled t m → FirstMisspelled t n → m ≡ n
+misspelled-unique a b =
+    a .line ∙ ap lineAt (same-count (a .P) (b .P) (a .rest) (b .rest) (a .valid) (b .valid) (a .misspelled) (b .misspelled) (sym (a .lines) ∙ b .lines)) ∙ sym (b .line)
+
+-- of two first places neither comes before the other
+broken-before : {C : ℕ → ℕ → Statement → Type 0} {t : List ℕ} {m n : ℕ} (a : FirstBroken C t m) (b : FirstBroken C t n) → a .P ≡ b .P → a .s < b .s → ⊥
+broken-before {C = C} a b e h = a .broken (rw e (b .before (a .s) h))
+
+broken-unique : {C : ℕ → ℕ → Statement → Type 0} {t : List ℕ} {m n : ℕ} → FirstBroken C t m → FirstBroken C t n → m ≡ n
+broken-unique a b = a .line ∙ ap (λ (s : ℕ). s + 1) (go (ltb (a .s) (b .s)) refl (ltb (b .s) (a .s)) refl) ∙ sym (b .line)
+  where
+    e : a .P ≡ b .P
+    e = text-unique (a .P) (b .P) (a .spells .valid) (b .spells .valid) (sym (a .spells .lines) ∙ b .spells .lines)
+
+    go : (p : Bool) → ltb (a .s) (b .s) ≡ p → (q : Bool) → ltb (b .s) (a .s) ≡ q → a .s ≡ b .s
+    go true i q j = absurd (broken-before a b e (ltb-true (a .s) (b .s) i))
+    go false i true j = absurd (broken-before b a (sym e) (ltb-true (b .s) (a .s) j))
+    go false i false j = omega (arith, ltb-false (a .s) (b .s) i, ltb-false (b .s) (a .s) j)
+
+pub blames-unique : (t : List ℕ) (r : Refusal) {m n : ℕ} → Blames t r m → Blames t r n → m ≡ n
+blames-unique t Misspelled a b = misspelled-unique a b
+blames-unique t LineCount a b = a ∙ sym b
+blames-unique t Placement a b = broken-unique a b
+blames-unique t Target a b = broken-unique a b

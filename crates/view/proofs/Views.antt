@@ -1,0 +1,140 @@
+-- From what `tabulate` answers to what is printed. Assumes nothing.
+use mathlib.Core.Path.{_≡_, refl, _∙_}
+use mathlib.Core.Bool.{true}
+use mathlib.Core.Logic.{inl, inr, _↔_}
+use mathlib.Core.List.{List}
+use Prim.Native.Nat.{ℕ, _+_, _*_, _/_, _%_, _≤_, _<_}
+use native.Mathlib.Omega.{arith}
+use lib.ListN.{length, getD}
+use Rattle.language.specs.Writing.{Put}
+use Rattle.language.specs.declared.Statement.{Statement}
+use Rattle.program.specs.Program.{Taken}
+use Rattle.program.specs.Reading as program
+use Rattle.program.specs.declared.Answer as program-answer
+use Rattle.program.specs.declared.Program.{Program}
+use Rattle.program.proofs.RoundTrip.{program-taken, read-written}
+use Rattle.bits.specs.Row.{bit, member}
+use Rattle.condition.specs.Condition.{Condition, parts}
+use Rattle.condition.specs.Truth.{Sat}
+use Rattle.condition.specs.Reading as condition
+use Rattle.condition.specs.declared.Answer as condition-answer
+use Rattle.condition.proofs.Readers.{parts-few}
+use Rattle.condition.proofs.Whole.{read-back}
+use Rattle.table.specs.Table.{part-words, partAt}
+use Rattle.rewrites.specs.Tabulate.{table-words, TabulateRefused, TabulateFilled, TabulateAnswers}
+use Rattle.rewrites.specs.declared.TabulateAnswer.{TabulateAnswer}
+use Rattle.rewrites.specs.declared.TabulateAnswer.the-variants.{Refused, Filled}
+use Rattle.view.specs.View.{viewText, Refuses, view-room, Printed, Views}
+use Rattle.view.specs.Writing.{truthIn, ViewFits, RefusalPut}
+use Rattle.view.specs.declared.Viewed.{Viewed}
+use Rattle.view.specs.declared.Viewed.the-variants.{Written}
+use Rattle.language.proofs.Puts.{put-within}
+use Rattle.view.proofs.Room.{view-most}
+
+-- what each of the two answers says
+module _ (t u old new : List ℕ) {r : TabulateAnswer} (a : TabulateAnswers t u old new r) where
+  pub answer-refused : {n : ℕ} → r ≡ Refused n → TabulateRefused t u old n
+  answer-refused is = (rw is at a) .0
+
+  pub answer-filled : {n satisfied first : ℕ} → r ≡ Filled n satisfied first → TabulateFilled t u old new n satisfied first
+  answer-filled is = rw is at a
+
+-- where the program is taken, the refusal is the condition's
+taken-refuses : {t u : List ℕ} (old : List ℕ) {n : ℕ} → length old ≡ table-words → TabulateRefused t u old n → {P : List Statement} → Taken t P → (line : ℕ) → Refuses t u n line
+taken-refuses old l (inl h) p line = absurd (omega (arith, h .0))
+taken-refuses old l (inr (inl h)) p line = absurd (program-taken (p .program) (h .1) (rw (p .lines) at (h .2)))
+taken-refuses old l (inr (inr h)) p line = inr (h .1, h .2, h .3, h .4, h .5)
+
+pub refusal-printed : {t u : List ℕ} (old : List ℕ) {n : ℕ} → length old ≡ table-words → TabulateRefused t u old n → {o q : List ℕ} {k : ℕ} → view-room ≤ length o → RefusalPut t n o q k
+    → Printed t u o q k
+refusal-printed old l a room (inl x) =
+    record {
+      room = room;
+      w = _;
+      output = inl (record { n = _; line = x .2; refuses = inl (x .0, x .1, refl, x .3); text = refl });
+      fits = x .4;
+      written = x .5;
+    }
+refusal-printed old {n = n} l a room (inr x) =
+    record {
+      room = room;
+      w = _;
+      output = inl (record { n = n; line = 0; refuses = taken-refuses old l a (x .1) 0; text = refl });
+      fits = x .2;
+      written = x .3;
+    }
+
+-- a bit of the table
+table-bit : (ws : List ℕ) (k s : ℕ) → truthIn ws k s ≡ bit (getD ws (part-words * k + s / 64) 0) (s % 64)
+unfolding member
+table-bit ws k s =
+    let w : (k * 256 + s) / 64 ≡ part-words * k + s / 64 = omega arith in
+    let b : (k * 256 + s) % 64 ≡ s % 64 = omega arith in
+    rw (w, b)
+
+module _ {t u old new : List ℕ} {n satisfied first : ℕ} (f : TabulateFilled t u old new n satisfied first) (l : length old ≡ table-words) where
+  tells : (k : ℕ) → k < length (parts (f .c)) → (s : ℕ) → s < length (f .P) → (truthIn new k s ≡ true) ↔ Sat (f .P) (partAt (f .c) k) s
+  tells k h s i =
+      let m = f .counted in
+      let c = f .program .program .counted in
+      let z : s / 64 * 64 + s % 64 ≡ s = omega arith in
+      let b = rw (z, ← table-bit new k s) at (f .bits k (omega arith) (s / 64) (s % 64) (omega arith) (omega arith)) in
+      (λ e. b .0 e .1, λ x. b .1 (i, x))
+
+  module _ (pa : program-answer.Answer) (p : Program) (r : program.ProgramRead t pa p) (ca : condition-answer.Answer) (ws : List ℕ) (d : condition.ConditionRead u ca ws) where
+    back : (pa ≡ program-answer.the-variants.Taken) × (program.statements p ≡ f .P)
+    back = read-written (f .program .program) pa p (rw (f .program .lines) at r)
+
+    held : program.Held p
+    held = (rw (back .0) at r) .1
+
+    words : condition.Held (f .c) n ws
+    words = rw (f .counted) (read-back u (f .c) (f .condition) ca ws d .1)
+
+    most : length (viewText (program.statements p) (f .c) (truthIn new) satisfied first) ≤ view-room
+    most = rw (back .1) (view-most (truthIn new) (f .program .program) (f .condition) words (f .counts))
+
+    pub view-fits : {m : ℕ} → view-room ≤ m → ViewFits u ws new p n satisfied first m
+    view-fits h =
+        let c = f .counted in
+        let s = parts-few (f .c) in
+        let e = f .condition .few in
+        let q = f .same in
+        record {
+          c = f .c;
+          taken = f .condition;
+          words = words;
+          held = held;
+          tabled = record { size = f .same ∙ l; some = omega arith; few = omega arith };
+          fits = omega (arith, most);
+        }
+
+    pub view-printed : {o q : List ℕ} {k : ℕ} → view-room ≤ length o
+        → ((c : Condition) → condition.Taken u c → Put o 0 (viewText (program.statements p) c (truthIn new) satisfied first) q k) → Printed t u o q k
+    view-printed room put =
+        record {
+          room = room;
+          w = viewText (program.statements p) (f .c) (truthIn new) satisfied first;
+          output =
+              inr
+              (record {
+                P = f .P;
+                c = f .c;
+                program = f .program;
+                condition = f .condition;
+                truth = truthIn new;
+                tells = tells;
+                satisfied = satisfied;
+                first = first;
+                whole = f .truth;
+                decides = f .decides;
+                counts = f .counts;
+                text = rw (back .1);
+              });
+          fits = omega (arith, most);
+          written = put (f .c) (f .condition);
+        }
+
+-- an output's end lies within the lent bytes
+pub printed-within : (t u o q : List ℕ) {r : Viewed} {n : ℕ} → r ≡ Written n → Views t u o q r → n ≤ length q
+printed-within t u o q is h = let p : Printed t u o q _ = rw is at h in put-within (p .written) (p .fits)

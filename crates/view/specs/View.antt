@@ -1,0 +1,129 @@
+-- What the viewer prints, for every program text and condition text: the condition's parts, and the statements at which each is true.
+use mathlib.Core.Path.{_≡_}
+use mathlib.Core.Bool.{Bool, true, false}
+use mathlib.Core.Logic.{_⊎_, _↔_}
+use mathlib.Core.List.{List, [], _∷_, _++_}
+use Prim.Native.Nat.{ℕ, zero, suc, _+_, _-_, _*_, _/_, _%_, _≤_, _<_}
+use lib.Dec.{ltb}
+use lib.ListN.{length}
+use Rattle.language.specs.Spelling.{digits, spell}
+use Rattle.language.specs.Writing.{Put}
+use Rattle.language.specs.declared.Statement.{Statement}
+use Rattle.program.specs.Program.{Taken, at, most}
+use Rattle.program.specs.Reading as program
+use Rattle.program.specs.declared.Refusal as program-refusal
+use Rattle.condition.specs.Condition.{Condition, parts, spellCondition}
+use Rattle.condition.specs.Truth.{Sat}
+use Rattle.condition.specs.Reading as condition
+use Rattle.condition.specs.declared.Refusal as condition-refusal
+use Rattle.table.specs.Table.{part-words, partAt}
+use Rattle.table.specs.Summary.{Counts}
+use Rattle.blame.specs.Blame.{Blames}
+use Rattle.desk.specs.Columns.{spaces, wide, padded}
+use Rattle.desk.specs.Refusals.{bytes, refusalText}
+use Rattle.view.specs.declared.Viewed.{Viewed}
+use Rattle.view.specs.declared.Viewed.the-variants.{Written, NoRoom}
+
+-- the texts f 0, f 1 .. of the first n, one after another
+unfoldable pub upTo : ℕ → (ℕ → List ℕ) → List ℕ
+upTo zero f = []
+upTo (suc n) f = upTo n f ++ f n
+
+-- a part's number and its text
+unfoldable pub partLine : ℕ → List ℕ → List ℕ
+partLine k text = wide 2 (k + 1) ++ (spaces 2 ++ (text ++ 10 ∷ []))
+
+unfoldable pub partLines : Condition → List ℕ
+partLines c = upTo (length (parts c)) (λ k. partLine k (spellCondition (partAt c k)))
+
+-- one byte for each of n parts, that of the last, which is the whole condition, set off by two spaces
+unfoldable pub columns : (ℕ → ℕ) → ℕ → List ℕ
+columns f n = upTo (n - 1) (λ k. f k ∷ []) ++ (spaces 2 ++ f (n - 1) ∷ [])
+
+-- the tens digit of a part's number, a space below 10, and its units digit
+abbrev pub pickByte : Bool → ℕ → ℕ → ℕ
+pickByte true a b = a
+pickByte false a b = b
+
+abbrev pub tens : ℕ → ℕ
+tens k = pickByte (ltb (k + 1) 10) 32 (48 + (k + 1) / 10)
+
+abbrev pub units : ℕ → ℕ
+units k = 48 + (k + 1) % 10
+
+-- the marks of a row stand after its statement's number, text and the spaces between
+abbrev pub margin : ℕ
+margin = 37
+
+unfoldable pub headRow : (ℕ → ℕ) → ℕ → List ℕ
+headRow f n = spaces margin ++ (columns f n ++ 10 ∷ [])
+
+-- `*` where a part is true, `.` where it is false
+abbrev pub mark : Bool → ℕ
+mark true = 42
+mark false = 46
+
+-- a statement's number, its text, and a mark for each of n parts: truth k s is part k's at place s
+unfoldable pub row : (ℕ → ℕ → Bool) → ℕ → ℕ → Statement → List ℕ
+row truth n s i = wide 3 (s + 1) ++ (spaces 2 ++ (padded 30 (spell i) ++ (spaces 2 ++ (columns (λ k. mark (truth k s)) n ++ 10 ∷ []))))
+
+unfoldable pub rows : (ℕ → ℕ → Bool) → ℕ → List Statement → List ℕ
+rows truth n P = upTo (length P) (λ s. row truth n s (at P s))
+
+unfoldable pub lastLine : ℕ → ℕ → ℕ → List ℕ
+lastLine n satisfied first =
+    bytes "parts " ++ (digits n ++ (bytes " satisfied " ++ (digits satisfied ++ (bytes " first " ++ (digits first ++ 10 ∷ [])))))
+
+unfoldable pub viewText : List Statement → Condition → (ℕ → ℕ → Bool) → ℕ → ℕ → List ℕ
+viewText P c truth satisfied first =
+    let n : ℕ = length (parts c) in
+    partLines c ++ (headRow tens n ++ (headRow units n ++ (rows truth n P ++ lastLine n satisfied first)))
+
+-- "Order: .. 2 to 5, then 6 to 8": the number of the first refusal that applies to the program text t and the condition text u, and the
+-- line of the program that it is about
+abbrev pub Refuses : List ℕ → List ℕ → ℕ → ℕ → Type 0
+Refuses t u n line =
+    ((r : program-refusal.Refusal) × program.Refused t r × (n ≡ program.number r) × Blames t r line)
+    ⊎ ((P : List Statement) × Taken t P × (r : condition-refusal.Refusal) × condition.Refused u r × (n ≡ condition.number r))
+
+pub record PrintsRefusal (t u w : List ℕ) : Type 0 where
+  pub n : ℕ
+  pub line : ℕ
+  pub refuses : Refuses t u n line
+  pub text : w ≡ refusalText n line
+
+-- the marks are the truth of the condition's parts by its paths, and the counts those of the whole condition
+pub record PrintsView (t u w : List ℕ) : Type 0 where
+  pub P : List Statement
+  pub c : Condition
+  pub program : Taken t P
+  pub condition : condition.Taken u c
+  pub truth : ℕ → ℕ → Bool
+  pub tells : (k : ℕ) → k < length (parts c) → (s : ℕ) → s < length P → (truth k s ≡ true) ↔ Sat P (partAt c k) s
+  pub satisfied : ℕ
+  pub first : ℕ
+  pub whole : ℕ → Bool
+  pub decides : (s : ℕ) → (whole s ≡ true) ↔ ((s < length P) × Sat P c s)
+  pub counts : Counts whole (part-words * 64) satisfied first
+  pub text : w ≡ viewText P c truth satisfied first
+
+-- w is what the viewer prints for the program text t and the condition text u
+abbrev pub Output : List ℕ → List ℕ → List ℕ → Type 0
+Output t u w = PrintsRefusal t u w ⊎ PrintsView t u w
+
+-- room for every output: 64 parts as long as a condition, two rows of numbers, 256 rows of statements, and the last line
+abbrev pub view-room : ℕ
+view-room = condition.most-parts * (condition.most-bytes + 5) + ((most + 2) * (margin + condition.most-parts + 3) + 33)
+
+-- the output stands at the front of the lent bytes o, all others are kept, and n is its length
+pub record Printed (t u o q : List ℕ) (n : ℕ) : Type 0 where
+  pub room : view-room ≤ length o
+  pub w : List ℕ
+  pub output : Output t u w
+  pub fits : length w ≤ length o
+  pub written : Put o 0 w q n
+
+-- too few bytes are kept as they are
+abbrev pub Views : List ℕ → List ℕ → List ℕ → List ℕ → Viewed → Type 0
+Views t u o q (Written n) = Printed t u o q n
+Views t u o q NoRoom = (length o < view-room) × (q ≡ o)

@@ -1,0 +1,262 @@
+// The viewer's output: a program and a condition in, the bytes that are printed out.
+ghost use mathlib.Core.Path.{_≡_};
+ghost use lib.ListN.{length};
+ghost use lib.Dec.{ltb};
+ghost use Prim.Native.Nat.{_≤_, _<_, _+_, _/_};
+ghost use Rattle.language.specs.Writing.{Put};
+ghost use Rattle.program.specs.Reading.{statements};
+ghost use Rattle.condition.specs.Condition.{Condition};
+ghost use Rattle.condition.specs.Reading.{Taken, most-parts, most-bytes};
+ghost use Rattle.rewrites.specs.Tabulate.{table-words};
+ghost use Rattle.desk.specs.Refusals.{refusal-room};
+ghost use Rattle.view.specs.View.{pickByte, partLine, partLines, columns, headRow, row as rowText, rows, lastLine, viewText, Views};
+ghost use Rattle.view.specs.Writing.{truthIn, byteIn, Placed, Tabled, ColumnsFit, HeadFits, RowFits, RowsFit, AtomEnds, PartEnds, PartsFit, ViewFits, RefusalPut};
+
+pub mod page;
+
+use condition::MOST_BYTES;
+use condition::MOST_PARTS;
+use condition::read::AtomRead;
+use language::Statement;
+use program::Program;
+use rewrites::TABLE_WORDS;
+use rewrites::TabulateAnswer;
+
+// The columns of a row before its marks.
+const MARGIN: usize = 37;
+// Every output has room in this many bytes.
+pub const VIEW_ROOM: usize = MOST_PARTS * (MOST_BYTES + 5)
+    + (program::MOST + 2) * (MARGIN + MOST_PARTS + 3)
+    + 33;
+// The codes of operators with two operands begin here.
+const FIRST_BINARY: u64 = 14;
+
+// Written: the number of bytes of the output. NoRoom: under VIEW_ROOM bytes are lent.
+pub enum Viewed {
+    Written(usize),
+    NoRoom,
+}
+
+// What stands in the columns of the parts: digits of their numbers, or their marks at a place.
+enum Row {
+    Tens,
+    Units,
+    Marks(usize),
+}
+
+fn tens_digit(n: u8) -> u8
+    requires { ⌜ n < 100 ⌝ }
+    ensures { λ r. ⌜ r ≡ pickByte (ltb n 10) 32 (48 + n / 10) ⌝ }
+{
+    if n < 10 { b' ' } else { b'0' + n / 10 }
+}
+
+// The byte of part k.
+fn byte_in(table: &[u64], row: Row, k: usize) -> u8
+    requires { ⌜ Tabled (now table) (k + 1) ⌝ }
+    requires { ⌜ Placed row ⌝ }
+    ensures { λ r. ⌜ r ≡ byteIn (now (table .entry)) row k ⌝ }
+{
+    match row {
+        Row::Tens => tens_digit((k + 1) as u8),
+        Row::Units => b'0' + ((k + 1) % 10) as u8,
+        Row::Marks(s) => {
+            if bits::contains(table, k * program::MOST + s) {
+                return b'*';
+            }
+            b'.'
+        }
+    }
+}
+
+// A byte for each part, the last set off.
+fn write_columns(out: &mut [u8], at: usize, table: &[u64], row: Row, n: usize) -> usize
+    requires { ⌜ ColumnsFit (now table) row n at (length (now out)) ⌝ }
+    ensures { λ r. ⌜ Put (now (out .entry)) at (columns (byteIn (now (table .entry)) row) n) (now (out .exit)) r ⌝ }
+{
+    let last = n - 1;
+    let mut to = at;
+    let mut k: usize = 0;
+    while k < last {
+        to = language::write::byte(out, to, byte_in(table, row, k));
+        k += 1;
+    }
+    let k1 = desk::columns::spaces(out, to, 2);
+    language::write::byte(out, k1, byte_in(table, row, last))
+}
+
+// The digits of the parts' numbers, above the marks.
+fn write_head(out: &mut [u8], at: usize, table: &[u64], row: Row, n: usize) -> usize
+    requires { ⌜ HeadFits (now table) row n at (length (now out)) ⌝ }
+    ensures { λ r. ⌜ Put (now (out .entry)) at (headRow (byteIn (now (table .entry)) row) n) (now (out .exit)) r ⌝ }
+{
+    let k1 = desk::columns::spaces(out, at, MARGIN);
+    let k2 = write_columns(out, k1, table, row, n);
+    language::write::byte(out, k2, 10)
+}
+
+// The statement at place s, with a mark for each part.
+fn write_row(out: &mut [u8], at: usize, table: &[u64], n: usize, s: usize, e: Statement) -> usize
+    requires { ⌜ RowFits (now table) n s e at (length (now out)) ⌝ }
+    ensures { λ r. ⌜ Put (now (out .entry)) at (rowText (truthIn (now (table .entry))) n s e) (now (out .exit)) r ⌝ }
+{
+    let k1 = desk::columns::number(out, at, 3, (s + 1) as u32);
+    let k2 = desk::columns::spaces(out, k1, 2);
+    let k3 = desk::columns::statement(out, k2, 30, e);
+    let k4 = desk::columns::spaces(out, k3, 2);
+    let k5 = write_columns(out, k4, table, Row::Marks(s), n);
+    language::write::byte(out, k5, 10)
+}
+
+fn write_rows(out: &mut [u8], at: usize, table: &[u64], n: usize, p: Program) -> usize
+    requires { ⌜ RowsFit p (now table) n at (length (now out)) ⌝ }
+    ensures { λ r. ⌜ Put (now (out .entry)) at (rows (truthIn (now (table .entry))) n (statements p)) (now (out .exit)) r ⌝ }
+{
+    let entries = p.entries;
+    let count = p.count;
+    let mut to = at;
+    let mut s: usize = 0;
+    while s < count {
+        let e = entries[s];
+        let i = e.statement;
+        to = write_row(out, to, table, n, s, i);
+        s += 1;
+    }
+    to
+}
+
+// Part k's number and its text.
+fn write_part(out: &mut [u8], at: usize, k: usize, text: &[u8]) -> usize
+    requires { ⌜ k < most-parts ⌝ }
+    requires { ⌜ at + length (partLine k (now text)) ≤ length (now out) ⌝ }
+    ensures { λ r. ⌜ Put (now (out .entry)) at (partLine k (now (text .entry))) (now (out .exit)) r ⌝ }
+{
+    let k1 = desk::columns::number(out, at, 2, (k + 1) as u32);
+    let k2 = desk::columns::spaces(out, k1, 2);
+    let k3 = language::write::word(out, k2, text);
+    language::write::byte(out, k3, 10)
+}
+
+// Where the atom at the position ends.
+fn atom_end(text: &[u8], start: usize) -> usize
+    ensures { λ r. ⌜ AtomEnds (now (text .entry)) start r ⌝ }
+{
+    let AtomRead::Found(_, k) = condition::read::atom(text, start) else {
+        return 0;
+    };
+    if k < text.len() {
+        return k;
+    }
+    text.len()
+}
+
+// Where a part ends, by its operator's code: its last operand is the part before it, which ends at `end`.
+fn part_end(text: &[u8], code: u64, start: usize, end: usize) -> usize
+    requires { ⌜ end ≤ most-bytes ⌝ }
+    ensures { λ r. ⌜ PartEnds (now (text .entry)) code start end r ⌝ }
+{
+    if code == 0 {
+        return atom_end(text, start);
+    }
+    if code < FIRST_BINARY {
+        return end;
+    }
+    end + 1
+}
+
+fn write_parts(out: &mut [u8], at: usize, text: &[u8], words: [u64; MOST_PARTS], n: usize) -> usize
+    requires { ⌜ PartsFit (now text) words n at (length (now out)) ⌝ }
+    ensures { λ r. ⌜ ((c : Condition) → Taken (now (text .entry)) c → Put (now (out .entry)) at (partLines c) (now (out .exit)) r) ⌝ }
+{
+    let mut to = at;
+    let mut end: usize = 0;
+    let mut k: usize = 0;
+    while k < n {
+        let w = words[k];
+        let start = (w / 16777216) as usize;
+        end = part_end(text, w % 256, start, end);
+        to = write_part(out, to, k, &text[start..end]);
+        k += 1;
+    }
+    to
+}
+
+fn write_last(out: &mut [u8], at: usize, n: u32, satisfied: u32, first: u32) -> usize
+    requires { ⌜ at + length (lastLine n satisfied first) ≤ length (now out) ⌝ }
+    ensures { λ r. ⌜ Put (now (out .entry)) at (lastLine n satisfied first) (now (out .exit)) r ⌝ }
+{
+    let k1 = language::write::word(out, at, b"parts ");
+    let k2 = language::write::number(out, k1, n);
+    let k3 = language::write::word(out, k2, b" satisfied ");
+    let k4 = language::write::number(out, k3, satisfied);
+    let k5 = language::write::word(out, k4, b" first ");
+    let k6 = language::write::number(out, k5, first);
+    language::write::byte(out, k6, 10)
+}
+
+// The parts, the digits of their numbers, the statements and the counts, at the front of the lent bytes.
+fn write_view(
+    out: &mut [u8],
+    text: &[u8],
+    words: [u64; MOST_PARTS],
+    table: &[u64],
+    p: Program,
+    n: u32,
+    satisfied: u32,
+    first: u32,
+) -> usize
+    requires { ⌜ ViewFits (now text) words (now table) p n satisfied first (length (now out)) ⌝ }
+    ensures { λ r. ⌜ ((c : Condition) → Taken (now (text .entry)) c → Put (now (out .entry)) 0 (viewText (statements p) c (truthIn (now (table .entry))) satisfied first) (now (out .exit)) r) ⌝ }
+{
+    let count = n as usize;
+    let k1 = write_parts(out, 0, text, words, count);
+    let k2 = write_head(out, k1, table, Row::Tens, count);
+    let k3 = write_head(out, k2, table, Row::Units, count);
+    let k4 = write_rows(out, k3, table, count, p);
+    write_last(out, k4, n, satisfied, first)
+}
+
+// The program's refusal, with the line that it is about; where the program is taken, the refusal n.
+fn write_refusal(out: &mut [u8], program: &[u8], n: u8) -> usize
+    requires { ⌜ refusal-room ≤ length (now out) ⌝ }
+    ensures { λ r. ⌜ RefusalPut (now (program .entry)) n (now (out .entry)) (now (out .exit)) r ⌝ }
+{
+    let reading = program::read(program);
+    let answer = reading.answer;
+    if let program::Answer::Refused(refusal) = answer {
+        return desk::refusals::refusal(
+            out,
+            0,
+            program::number_of(refusal),
+            blame::line_of(program, refusal),
+        );
+    }
+    desk::refusals::refusal(out, 0, n, 0)
+}
+
+fn table_buffer() -> [u64; TABLE_WORDS]
+    ensures { λ r. ⌜ length r ≡ table-words ⌝ }
+{
+    [0; TABLE_WORDS]
+}
+
+// Puts what the viewer prints for the program's text and the condition's text at the front of the lent bytes.
+pub fn view(program: &[u8], condition: &[u8], out: &mut [u8]) -> Viewed
+    ensures { λ r. ⌜ Views (now (program .entry)) (now (condition .entry)) (now (out .entry)) (now (out .exit)) r ⌝ }
+{
+    if out.len() < VIEW_ROOM {
+        return Viewed::NoRoom;
+    }
+    let mut table = table_buffer();
+    let answer = rewrites::tabulate(program, condition, &mut table);
+    match answer {
+        TabulateAnswer::Refused(n) => Viewed::Written(write_refusal(out, program, n)),
+        TabulateAnswer::Filled(n, satisfied, first) => {
+            let reading = program::read(program);
+            let p = reading.program;
+            let conditions = condition::read::read(condition);
+            let words = conditions.words;
+            Viewed::Written(write_view(out, condition, words, &table, p, n, satisfied, first))
+        }
+    }
+}
