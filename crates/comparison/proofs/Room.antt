@@ -1,0 +1,50 @@
+-- How long the parts of a line of two traces are, and that a line has room in 1,008 bytes. Assumes nothing.
+use mathlib.Core.Path.{_≡_, refl}
+use mathlib.Core.List.{List, [], _∷_, _++_}
+use mathlib.Core.Bool.{Bool, true, false}
+use Prim.Native.Nat.{ℕ, _+_, _^_, _≤_, _<_}
+use native.Mathlib.Omega.{arith}
+use lib.Dec.{eqb}
+use lib.ListN.{length, getD, length-append}
+use mir.Syntax.{w32}
+use mir.Val.{toZ}
+use Rattle.language.specs.Spelling.{pickList, spellVariable, spell, Valid}
+use Rattle.language.specs.declared.Statement.{Statement}
+use Rattle.language.proofs.Lengths.{digits-length}
+use Rattle.language.proofs.Puts.{variable-length}
+use Rattle.program.specs.Program.{most, Targets}
+use Rattle.desk.specs.Columns.{padded, signedDigits}
+use Rattle.trace.specs.Trace.{stepHead}
+use Rattle.trace.proofs.Room.{signed-most, text-most, head-most}
+use Rattle.trace.proofs.Series.{Parts, parts-most}
+use Rattle.comparison.specs.Lines.{pairText, difference, differences, pairLine}
+use Rattle.comparison.specs.Stepping.{pair-room, line-room}
+
+pub pair-length : (x v w : ℕ) → length (pairText x v w) ≡ 2 + (length (spellVariable x) + (1 + (length (signedDigits (toZ w32 v)) + (1 + length (signedDigits (toZ w32 w))))))
+unfolding pairText
+pair-length x v w = simp length-append (omega arith)
+
+pub pair-most : (x v w : ℕ) → x < 32 → length (pairText x v w) ≤ pair-room
+pair-most x v w h = omega (arith, pair-length x v w, variable-length x, digits-length 1 x (omega arith), signed-most v, signed-most w)
+
+difference-most : (x : ℕ) (vs ws : List ℕ) → x < 32 → length (difference x vs ws) ≤ pair-room
+unfolding difference
+difference-most x vs ws h = go (eqb (getD vs x 0) (getD ws x 0))
+  where
+    go : (b : Bool) → length (pickList b [] (pairText x (getD vs x 0) (getD ws x 0))) ≤ pair-room
+    go true = omega arith
+    go false = pair-most x (getD vs x 0) (getD ws x 0) h
+
+pub differences-parts : (vs ws : List ℕ) → Parts (λ n. differences n vs ws) (λ n. difference n vs ws) pair-room
+unfolding differences
+differences-parts vs ws = record { none = refl; more = λ n. refl; short = λ n h. difference-most n vs ws h }
+
+line-length : (k s : ℕ) (x y : Statement) (vs ws : List ℕ)
+    → length (pairLine k s x y vs ws) ≡ length (stepHead k s x) + (2 + (length (padded 30 (spell y)) + (length (differences 32 vs ws) + 1)))
+unfolding pairLine
+line-length k s x y vs ws = simp length-append (omega arith)
+
+pub line-most : (k s : ℕ) (x y : Statement) (vs ws : List ℕ) → k < 2 ^ 32 → s < most → Valid x × Targets most x → Valid y × Targets most y
+    → length (pairLine k s x y vs ws) ≤ line-room
+line-most k s x y vs ws h l a b =
+    omega (arith, line-length k s x y vs ws, head-most k s x h l (a .0) (a .1), text-most y (b .0) (b .1), parts-most (differences-parts vs ws) 32 (omega arith))

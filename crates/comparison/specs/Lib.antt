@@ -1,0 +1,4 @@
+pub mod Lines
+pub mod Stepping
+pub mod Heading
+pub mod Closing

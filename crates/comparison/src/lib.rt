@@ -1,0 +1,192 @@
+// Two runs side by side: the lines of their steps, as many at a time as the lent bytes have room for, and whether they agree.
+ghost use mathlib.Core.Path.{_≡_};
+ghost use mathlib.Core.List.{List};
+ghost use Prim.Native.Nat.{ℕ, _≤_, _<_, _+_};
+ghost use lib.ListN.{length};
+ghost use Rattle.language.specs.Spelling.{variables, Valid};
+ghost use Rattle.language.specs.Writing.{Put};
+ghost use Rattle.program.specs.Program.{most, Targets, WellFormed};
+ghost use Rattle.program.specs.Reading.{statements};
+ghost use Rattle.machine.specs.Machine.{before, after};
+ghost use Rattle.comparison.specs.Lines.{pairText, difference as differenceBytes, differences as differencesBytes, pairLine};
+ghost use Rattle.comparison.specs.Stepping.{pair-room, pairs-room, line-room, alikeNext, InStep, Within, Compared};
+use language::Statement;
+use machine::Next;
+use machine::VALUES;
+use program::Program;
+
+pub mod closing;
+pub mod heading;
+
+// Columns of a statement's text.
+const TEXT_COLUMNS: usize = 30;
+// A variable and its two values have room in this many bytes, and a line in this many.
+const PAIR_ROOM: usize = 29;
+
+pub const LINE_ROOM: usize = 80 + VALUES * PAIR_ROOM;
+
+// `  i2 7 0`
+fn pair(out: &mut [u8], at: usize, x: u8, v: u32, w: u32) -> usize
+    requires { ⌜ at + length (pairText x v w) ≤ length (now out) ⌝ }
+    ensures { λ r. ⌜ Put (now (out .entry)) at (pairText x v w) (now (out .exit)) r ⌝ }
+{
+    let k1 = desk::columns::spaces(out, at, 2);
+    let k2 = language::write::variable(out, k1, x);
+    let k3 = language::write::byte(out, k2, b' ');
+    let k4 = desk::columns::signed(out, k3, machine::signed(v));
+    let k5 = language::write::byte(out, k4, b' ');
+    desk::columns::signed(out, k5, machine::signed(w))
+}
+
+fn difference(out: &mut [u8], at: usize, x: usize, a: &[u32; VALUES], b: &[u32; VALUES]) -> usize
+    requires { ⌜ x < variables ⌝ }
+    requires { ⌜ at + pair-room ≤ length (now out) ⌝ }
+    ensures { λ r. ⌜ Put (now (out .entry)) at (differenceBytes x (now (a .entry)) (now (b .entry))) (now (out .exit)) r ⌝ }
+{
+    if a[x] == b[x] {
+        return at;
+    }
+    pair(out, at, x as u8, a[x], b[x])
+}
+
+fn differences(out: &mut [u8], at: usize, a: &[u32; VALUES], b: &[u32; VALUES]) -> usize
+    requires { ⌜ at + pairs-room ≤ length (now out) ⌝ }
+    ensures { λ r. ⌜ Put (now (out .entry)) at (differencesBytes variables (now (a .entry)) (now (b .entry))) (now (out .exit)) r ⌝ }
+{
+    let mut to = at;
+    let mut x: usize = 0;
+    while x < VALUES {
+        to = difference(out, to, x, a, b);
+        x += 1;
+    }
+    to
+}
+
+// Step k performs s of the given program at the place, and t of the rewritten one; a and b are the values after it.
+fn line(
+    out: &mut [u8],
+    at: usize,
+    k: u32,
+    place: u32,
+    s: Statement,
+    t: Statement,
+    a: &[u32; VALUES],
+    b: &[u32; VALUES],
+) -> usize
+    requires { ⌜ Valid s × Targets most s ⌝ }
+    requires { ⌜ Valid t × Targets most t ⌝ }
+    requires { ⌜ place < most ⌝ }
+    requires { ⌜ at + line-room ≤ length (now out) ⌝ }
+    ensures { λ r. ⌜ Put (now (out .entry)) at (pairLine k place s t (now (a .entry)) (now (b .entry))) (now (out .exit)) r × (r ≤ at + line-room) ⌝ }
+{
+    let k1 = trace::head(out, at, k, place, s);
+    let k2 = desk::columns::spaces(out, k1, 2);
+    let k3 = desk::columns::statement(out, k2, TEXT_COLUMNS, t);
+    let k4 = differences(out, k3, a, b);
+    language::write::byte(out, k4, 10)
+}
+
+// Whether two steps lead to the same statement, or end with the same value.
+fn alike(a: Next, b: Next) -> bool
+    ensures { λ r. ⌜ r ≡ alikeNext a b ⌝ }
+{
+    match a {
+        Next::Goto(s) => {
+            match b {
+                Next::Goto(t) => s == t,
+                Next::Finish(_) => false,
+            }
+        }
+        Next::Finish(v) => {
+            match b {
+                Next::Goto(_) => false,
+                Next::Finish(w) => v == w,
+            }
+        }
+    }
+}
+
+// The bytes written, the place and the steps done, whether the runs have ended, and whether they agreed at each step.
+pub struct Progress {
+    pub bytes: usize,
+    pub at: u32,
+    pub done: u32,
+    pub ended: bool,
+    pub agree: bool,
+}
+
+// Goes on with the runs of p and q, which stand before the statement at the place `at` after `done` steps.
+pub fn steps(
+    p: Program,
+    q: Program,
+    at: u32,
+    done: u32,
+    input: u32,
+    budget: u32,
+    values: &mut [u32; VALUES],
+    others: &mut [u32; VALUES],
+    out: &mut [u8],
+) -> Progress
+    requires { ⌜ WellFormed (statements p) ⌝ }
+    requires { ⌜ WellFormed (statements q) ⌝ }
+    requires { ⌜ InStep (statements p) (statements q) ⌝ }
+    requires { ⌜ Within (statements p) (statements q) at ⌝ }
+    ensures { λ r. ⌜ ((start : List ℕ) → length start ≡ variables → after (statements p) start input done ≡ before at (now (values .entry)) → after (statements q) start input done ≡ before at (now (others .entry)) → Compared (statements p) (statements q) start input budget done (now (out .entry)) (now (out .exit)) (now (values .exit)) (now (others .exit)) r) ⌝ }
+{
+    let mut place = at;
+    let mut k = done;
+    let mut to: usize = 0;
+    while k < budget {
+        if out.len() - to < LINE_ROOM {
+            return Progress {
+                bytes: to,
+                at: place,
+                done: k,
+                ended: false,
+                agree: true,
+            };
+        }
+        let i = place as usize;
+        let e = p.entries[i];
+        let s = e.statement;
+        let f = q.entries[i];
+        let t = f.statement;
+        let old = *values;
+        let other = *others;
+        let next = machine::step(s, place, input, values);
+        let new = machine::step(t, place, input, others);
+        k += 1;
+        if !alike(next, new) {
+            return Progress {
+                bytes: to,
+                at: place,
+                done: k,
+                ended: false,
+                agree: false,
+            };
+        }
+        match next {
+            Next::Goto(n) => {
+                to = line(out, to, k, place, s, t, &*values, &*others);
+                place = n;
+            }
+            Next::Finish(_) => {
+                to = line(out, to, k, place, s, t, &old, &other);
+                return Progress {
+                    bytes: to,
+                    at: place,
+                    done: k,
+                    ended: true,
+                    agree: true,
+                };
+            }
+        }
+    }
+    Progress {
+        bytes: to,
+        at: place,
+        done: k,
+        ended: false,
+        agree: true,
+    }
+}

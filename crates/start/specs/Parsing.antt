@@ -1,0 +1,34 @@
+-- What each reader of a start finds at the front of a text: a proof device. proofs/Values.antt holds it to the spelling, both ways round.
+use mathlib.Core.List.{List, [], _∷_}
+use mathlib.Core.Bool.{Bool, true, false}
+use Prim.Native.Nat.{ℕ, _-_, _^_}
+use lib.Dec.{ltb, eqb}
+use Rattle.language.specs.Parsing.{Parsed, found, misspelled, after, afterOr, where?, either, parseWord, parseNumber}
+
+-- 2147483648, which is no constant
+abbrev pub least-word : List ℕ
+least-word = 50 ∷ 49 ∷ 52 ∷ 55 ∷ 52 ∷ 56 ∷ 51 ∷ 54 ∷ 52 ∷ 56 ∷ []
+
+-- after a `-`
+unfoldable pub parseNegative : List ℕ → Parsed ℕ
+parseNegative l =
+    afterOr (parseNumber l)
+    (λ n t. where? (ltb 0 n) (found (2 ^ 32 - n) t))
+    (after (parseWord least-word l) λ _ t. found (2 ^ 31) t)
+
+unfoldable pub parseSigned : List ℕ → Parsed ℕ
+parseSigned l = either (parseNumber l) (after (parseWord (45 ∷ []) l) λ _ t. parseNegative t)
+
+abbrev pub pickParsed : Bool → Parsed ℕ → Parsed ℕ → Parsed ℕ
+pickParsed true p q = p
+pickParsed false p q = q
+
+unfoldable pub parseField : ℕ → List ℕ → Parsed ℕ
+parseField k l = pickParsed (eqb k 1) (parseNumber l) (parseSigned l)
+
+-- a number with its byte 10
+unfoldable pub parseStartLine : ℕ → List ℕ → Parsed ℕ
+parseStartLine k l =
+    after (parseField k l) λ v t.
+    after (parseWord (10 ∷ []) t) λ _ u.
+    found v u

@@ -1,0 +1,154 @@
+// A start: the input, the budget and up to 32 starting values, one a line, read from any bytes.
+ghost use mathlib.Core.Path.{_≡_};
+ghost use Prim.Native.Nat.{ℕ, _≤_, _<_, _+_};
+ghost use lib.ListN.{length, getD, drop};
+ghost use Rattle.language.specs.Parsing.{parsedNumber};
+ghost use Rattle.start.specs.Start.{StartRead, LineRead, most};
+ghost use Rattle.start.specs.Parsing.{parseNegative, parseSigned, parseField, parseStartLine};
+use language::read::NumberRead;
+use language::read::WordRead;
+use machine::VALUES;
+
+// A start has 2 to 34 lines.
+pub const FEWEST: usize = 2;
+
+pub const MOST: usize = 2 + VALUES;
+
+// Few: under 2 lines. Many: more text after 34 right lines. Line: the number of the first line that is wrong.
+pub enum Answer {
+    Taken,
+    Few,
+    Many,
+    Line(u32),
+}
+
+// The input, the budget and the values are what was read where the answer is `Taken`.
+pub struct Start {
+    pub answer: Answer,
+    pub input: u32,
+    pub budget: u32,
+    pub values: [u32; VALUES],
+}
+
+// The bits of the number whose digits follow a `-`.
+fn negative(s: &[u8], at: usize) -> NumberRead
+    ensures { λ r. ⌜ parsedNumber (now (s .entry)) r ≡ parseNegative (drop at (now (s .entry))) ⌝ }
+{
+    if let NumberRead::Found(n, k) = language::read::number(s, at) {
+        if n == 0 {
+            return NumberRead::Misspelled;
+        }
+        return NumberRead::Found(4294967295 - n + 1, k);
+    }
+    let WordRead::Found(k) = language::read::word(s, at, b"2147483648") else {
+        return NumberRead::Misspelled;
+    };
+    NumberRead::Found(2147483648, k)
+}
+
+// The bits of a whole number from -2147483648 to 2147483647.
+fn signed(s: &[u8], at: usize) -> NumberRead
+    ensures { λ r. ⌜ parsedNumber (now (s .entry)) r ≡ parseSigned (drop at (now (s .entry))) ⌝ }
+{
+    if let NumberRead::Found(n, k) = language::read::number(s, at) {
+        return NumberRead::Found(n, k);
+    }
+    let WordRead::Found(k) = language::read::word(s, at, b"-") else {
+        return NumberRead::Misspelled;
+    };
+    negative(s, k)
+}
+
+// The number that line k has, without its byte 10.
+fn field(s: &[u8], at: usize, k: usize) -> NumberRead
+    ensures { λ r. ⌜ parsedNumber (now (s .entry)) r ≡ parseField k (drop at (now (s .entry))) ⌝ }
+{
+    if k == 1 {
+        return language::read::number(s, at);
+    }
+    signed(s, at)
+}
+
+fn ended_field(s: &[u8], at: usize, k: usize) -> NumberRead
+    ensures { λ r. ⌜ parsedNumber (now (s .entry)) r ≡ parseStartLine k (drop at (now (s .entry))) ⌝ }
+{
+    let NumberRead::Found(v, end) = field(s, at, k) else {
+        return NumberRead::Misspelled;
+    };
+    let WordRead::Found(next) = language::read::word(s, end, b"\n") else {
+        return NumberRead::Misspelled;
+    };
+    NumberRead::Found(v, next)
+}
+
+// Line k, counted from 0, at the position.
+fn line(s: &[u8], at: usize, k: usize) -> NumberRead
+    ensures { λ r. ⌜ LineRead (now (s .entry)) at k r ⌝ }
+{
+    ended_field(s, at, k)
+}
+
+fn no_numbers() -> [u32; MOST]
+    ensures { λ r. ⌜ (length r ≡ most) × ((j : ℕ) → j < most → getD r j 0 ≡ 0) ⌝ }
+{
+    [0; MOST]
+}
+
+fn no_values() -> [u32; VALUES]
+    ensures { λ r. ⌜ length r ≡ 32 ⌝ }
+{
+    [0; VALUES]
+}
+
+// The numbers after the input and the budget.
+fn values_of(numbers: [u32; MOST]) -> [u32; VALUES]
+    ensures { λ r. ⌜ (length r ≡ 32) × ((x : ℕ) → x < 32 → getD r x 0 ≡ getD numbers (2 + x) 0) ⌝ }
+{
+    let mut values = no_values();
+    let mut x: usize = 0;
+    while x < VALUES {
+        values[x] = numbers[2 + x];
+        x += 1;
+    }
+    values
+}
+
+fn refused(a: Answer) -> Start
+    ensures { λ r. ⌜ r .answer ≡ a ⌝ }
+{
+    Start {
+        answer: a,
+        input: 0,
+        budget: 0,
+        values: no_values(),
+    }
+}
+
+// The start whose lines the text is, or what is wrong with it.
+pub fn read(s: &[u8]) -> Start
+    ensures { λ r. ⌜ StartRead (now (s .entry)) (r .answer) (r .input) (r .budget) (r .values) ⌝ }
+{
+    let mut numbers = no_numbers();
+    let mut at: usize = 0;
+    let mut k: usize = 0;
+    while at < s.len() {
+        if k == MOST {
+            return refused(Answer::Many);
+        }
+        let NumberRead::Found(v, next) = line(s, at, k) else {
+            return refused(Answer::Line((k + 1) as u32));
+        };
+        numbers[k] = v;
+        k += 1;
+        at = next;
+    }
+    if k < FEWEST {
+        return refused(Answer::Few);
+    }
+    Start {
+        answer: Answer::Taken,
+        input: numbers[0],
+        budget: numbers[1],
+        values: values_of(numbers),
+    }
+}

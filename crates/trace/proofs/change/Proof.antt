@@ -1,0 +1,39 @@
+-- `change` meets its contract: nothing where the values are the same, else two spaces and the value. Assumes nothing.
+use mathlib.Core.Path.{refl}
+use native.Mathlib.Omega.{arith}
+use lib.ListN.{getD}
+use borrow.Author.Tests.{eq-eqb, ne-eqb}
+use Rattle.language.proofs.Puts.{put-then}
+use Rattle.trace.specs.Trace.{change}
+use Rattle.trace.proofs.Room.{value-most}
+use borrow.Author.Needs.{needs}
+use Rattle.trace.proofs.change.Statement.{statement}
+use Rattle.trace.proofs.change.Tie as tie
+
+returns : tie.Need-returns
+unfolding change
+returns c = rw (eq-eqb _ _ (c .if1 .taken)) (record { text = refl; after = omega arith })
+
+value-requires : tie.Need-value-requires
+value-requires c κs = omega (arith, value-most (c .before .before .before .before .before .before .before .before .before .before .args .x) (getD (c .before .before .before .before .before .before .before .before .before .before .args .new .now) (c .before .before .before .before .before .before .before .before .before .before .args .x) 0) (c .before .before .before .before .before .before .before .before .before .before .pre .0))
+
+returns-2 : tie.Need-returns-2
+unfolding change
+returns-2 c = rw (ne-eqb _ _ (c .before .before .before .before .before .before .before .before .before .if1 .left)) (put-then (c .before .before .before .before .before .before .before .spaces .ensures) (c .before .before .value .ensures))
+
+pub change-spec : {M : Type 1} → statement M
+change-spec =
+    tie.close
+    (tie.spec
+    (λ c. search needs)
+    (λ c. search needs)
+    (λ c. search needs)
+    (λ c. search needs)
+    returns
+    (λ c κs. search needs)
+    (λ c. search needs)
+    (λ c. search needs)
+    (λ c. search needs)
+    value-requires
+    (λ c. search needs)
+    returns-2)

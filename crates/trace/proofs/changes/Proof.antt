@@ -1,0 +1,44 @@
+-- `changes` meets its contract. The invariant: the changes of the values before x are written. Assumes nothing.
+use Prim.Native.Nat.{_-_}
+use Rattle.trace.specs.Trace.{changes}
+use Rattle.trace.specs.Stepping.{change-room}
+use Rattle.trace.proofs.Room.{changes-parts}
+use Rattle.trace.proofs.Series.{Written, put-length, none-written, part-room, one-written, all-written}
+use borrow.Author.Needs.{needs}
+use Rattle.trace.proofs.changes.Statement.{statement}
+use Rattle.trace.proofs.changes.Tie as tie
+
+abbrev Inv-loop : tie.InvT-loop
+Inv-loop out₀ at old new to₀ x₀ out to x = Written (λ n. changes n old new) change-room out₀ at out to x
+
+abbrev μ-loop : tie.MeasureT-loop
+μ-loop out₀ at old new to₀ x₀ out to x = 32 - x
+
+loop-holds : tie.Need-loop-holds Inv-loop μ-loop
+loop-holds c = none-written (changes-parts (c .before .args .old .now) (c .before .args .new .now)) (c .before .pre)
+
+change-requires : tie.Need-change-requires Inv-loop μ-loop
+change-requires c κs = (c .before .loop-test .taken, part-room (changes-parts (c .before .before .before .before .args .old .now) (c .before .before .before .before .args .new .now)) (c .before .before .loop .inv) (c .before .loop-test .taken))
+
+loop-again : tie.Need-loop-again Inv-loop μ-loop
+loop-again c = one-written (changes-parts (c .before .before .before .before .before .before .before .args .old .now) (c .before .before .before .before .before .before .before .args .new .now)) (c .before .before .before .before .before .loop .inv) (c .before .before .before .before .loop-test .taken) (c .before .before .change .ensures)
+
+same-length : tie.Need-same-length Inv-loop μ-loop
+same-length c = put-length (c .before .loop .inv .put)
+
+returns : tie.Need-returns Inv-loop μ-loop
+returns c = all-written (c .before .loop .inv) (c .loop-test .left)
+
+pub changes-spec : {M : Type 1} → statement M
+changes-spec =
+    tie.close
+    (tie.spec
+    Inv-loop
+    μ-loop
+    loop-holds
+    change-requires
+    (λ c. search needs)
+    (λ c. search needs)
+    loop-again
+    same-length
+    returns)

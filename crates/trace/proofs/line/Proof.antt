@@ -1,0 +1,41 @@
+-- `line` meets its contract: the head, the changes and byte 10. Assumes nothing.
+use native.Mathlib.Omega.{arith}
+use Rattle.language.proofs.Puts.{put-then}
+use Rattle.trace.specs.Trace.{lineText}
+use Rattle.trace.proofs.Room.{head-most, changes-parts, line-most}
+use Rattle.trace.proofs.Series.{parts-most}
+use borrow.Author.Needs.{needs}
+use Rattle.trace.proofs.line.Statement.{statement}
+use Rattle.trace.proofs.line.Tie as tie
+
+head-requires : tie.Need-head-requires
+head-requires c κs =
+    let s = c .before .before in
+    (s .pre .1 .1 .0, omega (arith, head-most (s .args .k) (s .args .place) (s .args .s) (search needs) (s .pre .1 .1 .0) (s .pre .0) (s .pre .1 .0)))
+
+changes-requires : tie.Need-changes-requires
+changes-requires c κs =
+    let s = c .before .before .before .before .before .before in
+    omega (arith, head-most (s .args .k) (s .args .place) (s .args .s) (search needs) (s .pre .1 .1 .0) (s .pre .0) (s .pre .1 .0))
+
+byte-requires : tie.Need-byte-requires
+byte-requires c κs =
+    let s = c .before .before .before .before .before .before .before .before .before .before in
+    omega (arith, head-most (s .args .k) (s .args .place) (s .args .s) (search needs) (s .pre .1 .1 .0) (s .pre .0) (s .pre .1 .0), parts-most (changes-parts (s .args .old .now) (s .args .new .now)) 32 (omega arith))
+
+returns : tie.Need-returns
+unfolding lineText
+returns c =
+    let s = c .before .before .before .before .before .before .before .before .before .before .before .before .before in
+    let p = put-then (c .before .before .before .before .before .before .before .before .before .before .head .ensures) (put-then (c .before .before .before .before .before .before .changes .ensures) (c .before .before .byte .ensures)) in
+    (p, omega (arith, p .after, line-most (s .args .k) (s .args .place) (s .args .s) (s .args .old .now) (s .args .new .now) (search needs) (s .pre .1 .1 .0) (s .pre .0) (s .pre .1 .0)))
+
+pub line-spec : {M : Type 1} → statement M
+line-spec =
+    tie.close
+    (tie.spec
+    head-requires
+    changes-requires
+    byte-requires
+    (λ c. search needs)
+    returns)

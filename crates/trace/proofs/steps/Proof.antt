@@ -1,0 +1,100 @@
+-- `steps` meets its contract. The invariant: the lines of the steps so far are written, and the run stands before the place. Assumes nothing.
+use mathlib.Core.Path.{_≡_, refl, ap, _∙_}
+use mathlib.Core.Logic.{inl, inr}
+use Prim.Native.Nat.{_+_, _-_, _≤_}
+use native.Mathlib.Omega.{arith}
+use lib.ListN.{length}
+use Rattle.program.proofs.Held.{held-valid, held-targets}
+use Rattle.trace.specs.Stepping.{line-room}
+use Rattle.trace.proofs.Series.{put-length}
+use Rattle.trace.proofs.Walk.{Going, not-gone, going-more, ends, stopped}
+use borrow.Author.Needs.{needs}
+use Rattle.trace.proofs.steps.Statement.{statement}
+use Rattle.trace.proofs.steps.Tie as tie
+
+abbrev Inv-loop : tie.InvT-loop
+Inv-loop at done input budget values₀ out₀ p place₀ k₀ to₀ values out place k to =
+    Going p input budget done at values₀ out₀ out values place k to
+
+abbrev μ-loop : tie.MeasureT-loop
+μ-loop at done input budget values₀ out₀ p place₀ k₀ to₀ values out place k to = budget - k
+
+loop-holds : tie.Need-loop-holds Inv-loop μ-loop
+loop-holds c = not-gone _ _ _ _ _ _ _ (c .before .pre .1)
+
+sub-if1 : tie.Need-sub-if1 Inv-loop μ-loop
+sub-if1 c = omega (arith, c .before .loop .inv .fits, c .before .loop .inv .same)
+
+same-length : tie.Need-same-length Inv-loop μ-loop
+same-length c = c .before .before .loop .inv .same
+
+returns : tie.Need-returns Inv-loop μ-loop
+returns c = stopped (c .before .before .loop .inv) _ refl refl refl refl (inr (omega (arith, c .if1 .taken, c .before .before .loop .inv .fits, c .before .before .loop .inv .same)))
+
+step-requires : tie.Need-step-requires Inv-loop μ-loop
+step-requires c κs =
+    let p = c .before .before .before .before .before .before .before .args .t1 in
+    let inside = c .before .before .before .before .before .loop .inv .inside in
+    let w = c .before .before .before .before .before .before .before .pre .0 in
+    (held-valid (p .entries) (p .count) _ inside w, (held-targets (p .entries) (p .count) _ inside w, omega (arith, inside, w .counted .1)))
+
+line-requires : tie.Need-line-requires Inv-loop μ-loop
+line-requires c κs =
+    let p = c .before .before .before .before .before .before .before .before .before .before .before .before .before .before .args .t1 in
+    let inside = c .before .before .before .before .before .before .before .before .before .before .before .before .loop .inv .inside in
+    let w = c .before .before .before .before .before .before .before .before .before .before .before .before .before .before .pre .0 in
+    (held-valid (p .entries) (p .count) _ inside w, (held-targets (p .entries) (p .count) _ inside w, (omega (arith, inside, w .counted .1), omega (arith, c .before .before .before .before .before .before .before .before .before .before .if1 .left, c .before .before .before .before .before .before .before .before .before .before .before .before .loop .inv .fits, c .before .before .before .before .before .before .before .before .before .before .before .before .loop .inv .same))))
+
+loop-again : tie.Need-loop-again Inv-loop μ-loop
+loop-again c =
+    let i = c .before .before .before .before .before .before .before .before .before .before .before .before .before .before .before .loop .inv in
+    going-more (c .before .before .before .before .before .before .before .before .before .before .before .before .before .before .before .before .before .args .t1) _ _ _ _ _ (c .before .before .before .before .before .before .before .before .before .step .ensures) i (c .before .before .before .before .before .before .before .before .before .before .before .before .before .before .loop-test .taken)
+    (omega (arith, c .before .before .before .before .before .before .before .before .before .before .before .before .before .if1 .left, i .fits, i .same)) _ (c .before .before .before .before .before .before .before .before .before .before .before .before .before .before .before .before .before .pre .0) (c .before .before .before .before .before .before .before .next .given .1) (c .before .before .line .ensures .1) (c .before .before .line .ensures .0)
+
+line-requires-2 : tie.Need-line-requires-2 Inv-loop μ-loop
+line-requires-2 c κs =
+    let p = c .before .before .before .before .before .before .before .before .before .before .before .before .before .args .t1 in
+    let inside = c .before .before .before .before .before .before .before .before .before .before .before .loop .inv .inside in
+    let w = c .before .before .before .before .before .before .before .before .before .before .before .before .before .pre .0 in
+    (held-valid (p .entries) (p .count) _ inside w, (held-targets (p .entries) (p .count) _ inside w, (omega (arith, inside, w .counted .1), omega (arith, c .before .before .before .before .before .before .before .before .before .if1 .left, c .before .before .before .before .before .before .before .before .before .before .before .loop .inv .fits, c .before .before .before .before .before .before .before .before .before .before .before .loop .inv .same))))
+
+same-length-2 : tie.Need-same-length-2 Inv-loop μ-loop
+same-length-2 c = put-length (c .before .before .line2 .ensures .0) ∙ c .before .before .before .before .before .before .before .before .before .before .before .before .before .before .loop .inv .same
+
+returns-2 : tie.Need-returns-2 Inv-loop μ-loop
+returns-2 c =
+    let i = c .before .before .before .before .before .before .before .before .before .before .before .before .before .before .loop .inv in
+    let end : c .before .before .line2 .result ≤ length (c .before .before .before .before .before .before .before .before .before .before .before .before .before .before .before .before .args .out .now) = omega (arith, c .before .before .line2 .ensures .1, c .before .before .before .before .before .before .before .before .before .before .before .before .if1 .left, i .fits, i .same) in
+    λ start e. ends (c .before .before .before .before .before .before .before .before .before .before .before .before .before .before .before .before .args .t1) _ _ _ _ _ (c .before .before .before .before .before .before .before .before .step .ensures) (i .told start e) _ _ refl refl refl (c .before .before .before .before .before .before .enum-told .given .1) (c .before .before .before .before .before .before .before .before .before .before .before .before .before .loop-test .taken) end (c .before .before .line2 .ensures .0)
+
+same-length-3 : tie.Need-same-length-3 Inv-loop μ-loop
+same-length-3 c = c .before .loop .inv .same
+
+returns-3 : tie.Need-returns-3 Inv-loop μ-loop
+returns-3 c = stopped (c .before .loop .inv) _ refl refl refl refl (inl (c .loop-test .left))
+
+pub steps-spec : {M : Type 1} → statement M
+steps-spec =
+    tie.close
+    (tie.spec
+    Inv-loop
+    μ-loop
+    loop-holds
+    sub-if1
+    same-length
+    returns
+    (λ c. search needs)
+    (λ c. search needs)
+    (λ c. search needs)
+    step-requires
+    (λ c. search needs)
+    (λ c. search needs)
+    line-requires
+    (λ c. search needs)
+    loop-again
+    (λ c. search needs)
+    line-requires-2
+    same-length-2
+    returns-2
+    same-length-3
+    returns-3)

@@ -1,0 +1,161 @@
+// Traces: the lines of a run's steps, as many at a time as the lent bytes have room for.
+ghost use mathlib.Core.Path.{_≡_};
+ghost use mathlib.Core.List.{List};
+ghost use Prim.Native.Nat.{ℕ, _≤_, _<_, _+_};
+ghost use lib.ListN.{length};
+ghost use Rattle.language.specs.Spelling.{variables, Valid};
+ghost use Rattle.language.specs.Writing.{Put};
+ghost use Rattle.program.specs.Program.{most, Targets, WellFormed};
+ghost use Rattle.program.specs.Reading.{statements};
+ghost use Rattle.machine.specs.Machine.{before, after};
+ghost use Rattle.trace.specs.Trace.{valueText as valueBytes, change as changeBytes, changes as changesBytes, stepHead, lineText};
+ghost use Rattle.trace.specs.Stepping.{Traced, change-room, changes-room, line-room};
+use language::Statement;
+use machine::Next;
+use machine::VALUES;
+use program::Program;
+
+// Columns of the step's number, of the statement's number and of its text.
+const STEP_COLUMNS: usize = 7;
+
+const NUMBER_COLUMNS: usize = 3;
+
+const TEXT_COLUMNS: usize = 30;
+// A changed value has room in this many bytes, and a line in this many.
+const CHANGE_ROOM: usize = 19;
+
+pub const LINE_ROOM: usize = 48 + VALUES * CHANGE_ROOM;
+
+// `i3 = 9`
+pub fn value(out: &mut [u8], at: usize, x: u8, v: u32) -> usize
+    requires { ⌜ at + length (valueBytes x v) ≤ length (now out) ⌝ }
+    ensures { λ r. ⌜ Put (now (out .entry)) at (valueBytes x v) (now (out .exit)) r ⌝ }
+{
+    let k1 = language::write::variable(out, at, x);
+    let k2 = language::write::word(out, k1, b" = ");
+    desk::columns::signed(out, k2, machine::signed(v))
+}
+
+// Two spaces and the new value, where it differs from the old one.
+fn change(out: &mut [u8], at: usize, x: usize, old: &[u32; VALUES], new: &[u32; VALUES]) -> usize
+    requires { ⌜ x < variables ⌝ }
+    requires { ⌜ at + change-room ≤ length (now out) ⌝ }
+    ensures { λ r. ⌜ Put (now (out .entry)) at (changeBytes x (now (old .entry)) (now (new .entry))) (now (out .exit)) r ⌝ }
+{
+    if old[x] == new[x] {
+        return at;
+    }
+    let k = desk::columns::spaces(out, at, 2);
+    value(out, k, x as u8, new[x])
+}
+
+fn changes(out: &mut [u8], at: usize, old: &[u32; VALUES], new: &[u32; VALUES]) -> usize
+    requires { ⌜ at + changes-room ≤ length (now out) ⌝ }
+    ensures { λ r. ⌜ Put (now (out .entry)) at (changesBytes variables (now (old .entry)) (now (new .entry))) (now (out .exit)) r ⌝ }
+{
+    let mut to = at;
+    let mut x: usize = 0;
+    while x < VALUES {
+        to = change(out, to, x, old, new);
+        x += 1;
+    }
+    to
+}
+
+// Step k performs the statement s, which stands at the place.
+pub fn head(out: &mut [u8], at: usize, k: u32, place: u32, s: Statement) -> usize
+    requires { ⌜ place < most ⌝ }
+    requires { ⌜ at + length (stepHead k place s) ≤ length (now out) ⌝ }
+    ensures { λ r. ⌜ Put (now (out .entry)) at (stepHead k place s) (now (out .exit)) r ⌝ }
+{
+    let k1 = desk::columns::number(out, at, STEP_COLUMNS, k);
+    let k2 = desk::columns::spaces(out, k1, 2);
+    let k3 = desk::columns::number(out, k2, NUMBER_COLUMNS, place + 1);
+    let k4 = desk::columns::spaces(out, k3, 2);
+    desk::columns::statement(out, k4, TEXT_COLUMNS, s)
+}
+
+// The line of a step, by the values before and after it.
+fn line(
+    out: &mut [u8],
+    at: usize,
+    k: u32,
+    place: u32,
+    s: Statement,
+    old: &[u32; VALUES],
+    new: &[u32; VALUES],
+) -> usize
+    requires { ⌜ Valid s ⌝ }
+    requires { ⌜ Targets most s ⌝ }
+    requires { ⌜ place < most ⌝ }
+    requires { ⌜ at + line-room ≤ length (now out) ⌝ }
+    ensures { λ r. ⌜ Put (now (out .entry)) at (lineText k place s (now (old .entry)) (now (new .entry))) (now (out .exit)) r × (r ≤ at + line-room) ⌝ }
+{
+    let k1 = head(out, at, k, place, s);
+    let k2 = changes(out, k1, old, new);
+    language::write::byte(out, k2, 10)
+}
+
+// The bytes written, the place and the steps done, and whether the run has ended.
+pub struct Progress {
+    pub bytes: usize,
+    pub at: u32,
+    pub done: u32,
+    pub ended: bool,
+}
+
+// Goes on with a run that stands before the statement at the place `at` after `done` steps.
+pub fn steps(
+    p: Program,
+    at: u32,
+    done: u32,
+    input: u32,
+    budget: u32,
+    values: &mut [u32; VALUES],
+    out: &mut [u8],
+) -> Progress
+    requires { ⌜ WellFormed (statements p) ⌝ }
+    requires { ⌜ at < length (statements p) ⌝ }
+    ensures { λ r. ⌜ ((start : List ℕ) → after (statements p) start input done ≡ before at (now (values .entry)) → Traced (statements p) start input budget done (now (out .entry)) (now (out .exit)) (now (values .exit)) r) ⌝ }
+{
+    let mut place = at;
+    let mut k = done;
+    let mut to: usize = 0;
+    while k < budget {
+        if out.len() - to < LINE_ROOM {
+            return Progress {
+                bytes: to,
+                at: place,
+                done: k,
+                ended: false,
+            };
+        }
+        let i = place as usize;
+        let e = p.entries[i];
+        let s = e.statement;
+        let old = *values;
+        let next = machine::step(s, place, input, values);
+        k += 1;
+        match next {
+            Next::Goto(t) => {
+                to = line(out, to, k, place, s, &old, &*values);
+                place = t;
+            }
+            Next::Finish(_) => {
+                to = line(out, to, k, place, s, &old, &old);
+                return Progress {
+                    bytes: to,
+                    at: place,
+                    done: k,
+                    ended: true,
+                };
+            }
+        }
+    }
+    Progress {
+        bytes: to,
+        at: place,
+        done: k,
+        ended: false,
+    }
+}
