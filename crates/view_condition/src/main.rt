@@ -3,7 +3,6 @@
 // them the same text is printed within a page. A file is read up to 65,536 bytes, more than any that is taken.
 mod page;
 
-ghost use Rattle.io.specs.Counts.{Counts};
 ghost use lib.ListN.{length};
 ghost use Prim.Native.Nat.{_≤_};
 use language::read::WordRead;
@@ -12,25 +11,6 @@ use libc::STDOUT_FILENO;
 use view::VIEW_ROOM;
 use view::Viewed;
 use view::page::PAGE_ROOM;
-
-// Opens the file that argument i names, or the given one where there is no such argument; negative where it can't be opened.
-fn open_named(i: usize, name: &[u8]) -> i32 {
-    if os::arg_count() <= i {
-        return os::open_read(name);
-    }
-    let mut path = io::buffer();
-    let n = os::arg(i, &mut path);
-    os::open_read(&path[..n])
-}
-
-// Puts the file's bytes at the front of the lent ones, and answers how many.
-fn read_file(file: i32, buffer: &mut [u8]) -> usize
-    ensures { λ r. ⌜ Counts r (now (buffer .exit)) ⌝ }
-{
-    let n = io::read_full(file, buffer);
-    libc::close(file);
-    n
-}
 
 // The length of the text without a byte 10 at its end.
 fn without_end(text: &[u8]) -> usize
@@ -76,9 +56,9 @@ fn asks_page() -> bool {
 
 fn view_files(page: bool, program: i32, condition: i32) {
     let mut given = io::large_buffer();
-    let m = read_file(program, &mut given);
+    let m = files::read(program, &mut given);
     let mut text = io::large_buffer();
-    let n = read_file(condition, &mut text);
+    let n = files::read(condition, &mut text);
     if page {
         print_page(&given[..m], &text[..n]);
         return;
@@ -101,12 +81,12 @@ fn run(page: bool, first: usize)
         usage();
         return;
     }
-    let program = open_named(first, b"given");
+    let program = files::open(first, b"given");
     if program < 0 {
         usage();
         return;
     }
-    let condition = open_named(first + 1, b"condition");
+    let condition = files::open(first + 1, b"condition");
     if condition < 0 {
         usage();
         return;
