@@ -1,6 +1,6 @@
--- The bits of a word: of `|`, `&` and `^`, of one bit, of the bits below a number, and of the lowest bit. Assumes nothing.
-use mathlib.Core.Path.{_≡_, refl, sym, ap, _∙_}
-use mathlib.Core.Bool.{Bool, true, false, _||_, _&&_, not, cond}
+-- The bits of a word: of `|`, `&` and `^`, of one bit, of the bits below a number, of the lowest bit, and of a word without it. Assumes nothing.
+use mathlib.Core.Path.{_≡_, refl, sym, ap, ap₂, _∙_}
+use mathlib.Core.Bool.{Bool, true, false, _||_, _&&_, not, cond, and-false, and-self}
 use Prim.Native.Nat.{ℕ, zero, suc, _+_, _-_, _*_, _/_, _%_, _^_, _≤_, _<_}
 use native.Mathlib.Nat.{mod-lt, zero-lt-suc, one-mul, div-eq-of-lt, zero-div}
 use native.Mathlib.Numerals.{add-one, one-add}
@@ -125,3 +125,40 @@ lower-clear (suc k) x (suc b) h = bit-suc x b ∙ lower-clear k (x / 2) b (go (x
     go : (r : ℕ) → suc b < under r (trailingZeros k (x / 2)) → b < trailingZeros k (x / 2)
     go zero l = omega arith
     go (suc r) l = absurd (omega arith)
+
+-- ---- the word without its lowest bit
+
+pred-low : (k x b : ℕ) → x < 2 ^ k → (x ≡ 0 → ⊥) → b ≤ trailingZeros k x → (bit x b && bit (x - 1) b) ≡ false
+unfolding trailingZeros bit
+pred-low zero x b h z l = absurd (z (lt-one h))
+pred-low (suc k) x zero h z l = go (x % 2) refl
+  where
+    go : (r : ℕ) → x % 2 ≡ r → (bit x 0 && bit (x - 1) 0) ≡ false
+    go zero e = ap (λ (y : Bool). y && bit (x - 1) 0) (ne-eqb (x / 2 ^ 0 % 2) 1 (omega arith))
+    go (suc r) e = ap (λ (y : Bool). bit x 0 && y) (ne-eqb ((x - 1) / 2 ^ 0 % 2) 1 (omega arith)) ∙ and-false (bit x 0)
+pred-low (suc k) x (suc b) h z l = go (x % 2) refl l (λ e. pred-low k (x / 2) b (shr-lt k 1 (rw add-one h)) (λ d. z (omega arith)))
+  where
+    go : (r : ℕ) → x % 2 ≡ r → suc b ≤ under r (trailingZeros k (x / 2))
+        → (x % 2 ≡ 0 → b ≤ trailingZeros k (x / 2) → (bit (x / 2) b && bit (x / 2 - 1) b) ≡ false) → (bit x (suc b) && bit (x - 1) (suc b)) ≡ false
+    go zero e i ih =
+        let half : (x - 1) / 2 ≡ x / 2 - 1 = omega arith in
+        ap₂ _&&_ (bit-suc x b) (bit-suc (x - 1) b ∙ ap (λ (y : ℕ). bit y b) half) ∙ ih e (omega arith)
+    go (suc r) e i ih = absurd (omega arith)
+
+pred-high : (k x b : ℕ) → x < 2 ^ k → (x ≡ 0 → ⊥) → trailingZeros k x < b → bit (x - 1) b ≡ bit x b
+unfolding trailingZeros bit
+pred-high zero x b h z l = absurd (z (lt-one h))
+pred-high (suc k) x zero h z l = absurd (omega arith)
+pred-high (suc k) x (suc b) h z l =
+    bit-suc (x - 1) b ∙ go (x % 2) refl l (λ e. pred-high k (x / 2) b (shr-lt k 1 (rw add-one h)) (λ d. z (omega arith))) ∙ sym (bit-suc x b)
+  where
+    go : (r : ℕ) → x % 2 ≡ r → under r (trailingZeros k (x / 2)) < suc b → (x % 2 ≡ 0 → trailingZeros k (x / 2) < b → bit (x / 2 - 1) b ≡ bit (x / 2) b)
+        → bit ((x - 1) / 2) b ≡ bit (x / 2) b
+    go zero e i ih = let half : (x - 1) / 2 ≡ x / 2 - 1 = omega arith in ap (λ (y : ℕ). bit y b) half ∙ ih e (omega arith)
+    go (suc r) e i ih = let half : (x - 1) / 2 ≡ x / 2 = omega arith in ap (λ (y : ℕ). bit y b) half
+
+pub lowest-off : (k x b : ℕ) → x < 2 ^ k → (x ≡ 0 → ⊥) → b ≤ trailingZeros k x → bit (bitAnd x (x - 1)) b ≡ false
+lowest-off k x b h z l = bit-and x (x - 1) b ∙ pred-low k x b h z l
+
+pub higher-kept : (k x b : ℕ) → x < 2 ^ k → (x ≡ 0 → ⊥) → trailingZeros k x < b → bit (bitAnd x (x - 1)) b ≡ bit x b
+higher-kept k x b h z l = bit-and x (x - 1) b ∙ ap (λ (y : Bool). bit x b && y) (pred-high k x b h z l) ∙ and-self _

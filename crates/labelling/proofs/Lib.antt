@@ -1,3 +1,4 @@
 pub mod Rest
 pub mod Stack
+pub mod Words
 pub mod Labels

@@ -41,8 +41,8 @@ module _ (stack : List ℕ) (h s : ℕ) (room : h < length stack) where
 
 -- ---- gathering
 
-pub gather-none : (z : ℕ → Bool) (stack : List ℕ) → Gathered z 0 stack 0
-gather-none z stack = record { stacked = λ i l. absurd (omega arith); fit = omega arith; each = λ s l. absurd (omega arith) }
+pub gather-none : (z : ℕ → Bool) (m : ℕ) (stack : List ℕ) → m ≤ 0 → Gathered z m stack 0
+gather-none z m stack none = record { stacked = λ i l. absurd (omega arith); fit = omega arith; each = λ s l. absurd (omega arith) }
 
 module _ (z : ℕ → Bool) (stack : List ℕ) (m h : ℕ) (a : Gathered z m stack h) where
   pub gather-skip : z m ≡ false → Gathered z (m + 1) stack h

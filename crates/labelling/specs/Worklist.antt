@@ -51,6 +51,10 @@ pub record Gathered (set : ℕ → Bool) (n : ℕ) (stack : List ℕ) (h : ℕ) 
   pub fit : h ≤ countBelow set n
   pub each : (s : ℕ) → s < n → set s ≡ true → (i : ℕ) × (i < h) × (getD stack i 0 ≡ s)
 
+-- the lesser of two numbers
+abbrev pub lesser : ℕ → ℕ → ℕ
+lesser a b = a - (a - b)
+
 -- the rows and the stack have room for n places, which 16 bits tell apart
 pub record Space (n : ℕ) (p set stack : List ℕ) : Type 0 where
   pub p-room : n ≤ length p * 64

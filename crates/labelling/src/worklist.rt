@@ -4,14 +4,14 @@
 ghost use mathlib.Core.Path.{_≡_};
 ghost use mathlib.Core.Bool.{true, false};
 ghost use mathlib.Core.Logic.{_↔_};
-ghost use Prim.Native.Nat.{_*_, _≤_, _<_};
+ghost use Prim.Native.Nat.{_+_, _*_, _≤_, _<_};
 ghost use lib.ListN.{length};
 ghost use Rattle.bits.specs.Row.{member};
 ghost use Rattle.ctl.specs.Paths.{quant};
 ghost use Rattle.ctl.specs.Tables.{Grown};
 ghost use Rattle.graph.specs.Lists.{step, Linked, From};
 ghost use Rattle.graph.specs.Graphs.{Turned};
-ghost use Rattle.labelling.specs.Worklist.{Skipped, Rest, Ready, Visited, Gathered, Space, Visit};
+ghost use Rattle.labelling.specs.Worklist.{Skipped, Rest, Ready, Visited, Gathered, lesser, Space, Visit};
 
 // The first position from `start` on whose target is not in the set, or 0. The targets are places below n.
 fn skip(n: usize, link: &[u16], to: &[u16], start: usize, set: &[u64]) -> usize
@@ -100,21 +100,36 @@ fn visit(
     h
 }
 
+// Puts the members of word k below n on the stack, on those of the words before. Returns its height.
+fn gather_word(n: usize, set: &[u64], k: usize, stack: &mut [u16], height: usize) -> usize
+    requires { ⌜ (k < length (now set)) × (n ≤ length (now stack)) × (n ≤ 65536) × (k * 64 < n) ⌝ }
+    requires { ⌜ Gathered (member (now set)) (lesser n (k * 64)) (now stack) height ⌝ }
+    ensures { λ r. ⌜ Gathered (member (now (set .entry))) (lesser n ((k + 1) * 64)) (now (stack .exit)) r ⌝ }
+{
+    let mut h = height;
+    let mut left = set[k];
+    while left != 0 {
+        let s = k * 64 + (u64::trailing_zeros(left) as usize);
+        if s >= n {
+            return h;
+        }
+        stack[h] = s as u16;
+        h += 1;
+        left = left & (left - 1);
+    }
+    h
+}
+
 // Puts the members of the set below n on the stack. Returns its height.
 fn gather(n: usize, set: &[u64], stack: &mut [u16]) -> usize
     requires { ⌜ (n ≤ length (now set) * 64) × (n ≤ length (now stack)) × (n ≤ 65536) ⌝ }
     ensures { λ r. ⌜ Gathered (member (now (set .entry))) n (now (stack .exit)) r ⌝ }
 {
     let mut h: usize = 0;
-    let mut s: usize = 0;
-    while s < n {
-        if bits::contains(set, s) {
-            stack[h] = s as u16;
-            h += 1;
-            s += 1;
-        } else {
-            s += 1;
-        }
+    let mut k: usize = 0;
+    while k * 64 < n {
+        h = gather_word(n, set, k, stack, h);
+        k += 1;
     }
     h
 }

@@ -1,57 +1,50 @@
--- `labelling::worklist::gather` meets its contract. The invariant is the contract at place s.
+-- `labelling::worklist::gather` meets its contract. The members of the words before k are on the stack.
 -- Assumes nothing.
-use mathlib.Core.Path.{_≡_, refl, sym, _∙_}
-use Prim.Native.Nat.{_≤_, _-_}
+use mathlib.Core.Path.{_≡_, refl, _∙_}
+use Prim.Native.Nat.{_+_, _-_, _*_, _<_}
 use native.Mathlib.Omega.{arith}
 use borrow.Author.Needs.{needs}
-use lib.ListN.{length, length-set}
+use lib.ListN.{length}
 use Rattle.bits.specs.Row.{member}
-use Rattle.labelling.specs.Worklist.{Gathered}
-use Rattle.labelling.proofs.Stack.{gather-none, gather-skip, gather-join}
+use Rattle.labelling.specs.Worklist.{Gathered, lesser}
+use Rattle.labelling.proofs.Stack.{gather-none}
 use Rattle.labelling.proofs.worklist.gather.Statement.{statement}
 use Rattle.labelling.proofs.worklist.gather.Tie as tie
 
 abbrev Inv-loop : tie.InvT-loop
-Inv-loop n set stack₀ h₀ s₀ stack h s = (s ≤ n) × (length stack ≡ length stack₀) × (h ≤ s) × Gathered (member set) s stack h
+Inv-loop n set stack₀ h₀ k₀ stack h k = (k * 64 < n + 64) × (length stack ≡ length stack₀) × Gathered (member set) (lesser n (k * 64)) stack h
 
 abbrev μ-loop : tie.MeasureT-loop
-μ-loop n set stack₀ h₀ s₀ stack h s = n - s
+μ-loop n set stack₀ h₀ k₀ stack h k = n - k * 64
 
 loop-holds : tie.Need-loop-holds Inv-loop μ-loop
-loop-holds c = (omega arith, refl, omega arith, gather-none _ _)
+loop-holds c = (omega arith, refl, gather-none _ _ _ (omega arith))
 
-contains-requires : tie.Need-contains-requires Inv-loop μ-loop
-contains-requires c κs = omega (arith, c .before .before .before .before .pre .0)
+mul-loop : tie.Need-mul-loop Inv-loop μ-loop
+mul-loop c = omega (arith, c .loop .inv .0, c .before .before .before .pre .2)
 
-cast-stack : tie.Need-cast-stack Inv-loop μ-loop
-cast-stack c = omega (arith, c .before .before .before .before .before .before .pre .2)
+gather-word-requires : tie.Need-gather-word-requires Inv-loop μ-loop
+gather-word-requires c κs =
+    let w = c .before .before .loop in
+    let a = c .before .before .before .before .before in
+    let l = c .before .loop-test .taken in
+    ((omega (arith, a .pre .0), omega (arith, a .pre .1, w .inv .1), a .pre .2, l), w .inv .2)
 
-mul-stack : tie.Need-mul-stack Inv-loop μ-loop
-mul-stack c = omega (arith, c .before .before .before .before .before .before .pre .2)
-
-slice-write-stack : tie.Need-slice-write-stack Inv-loop μ-loop
-slice-write-stack c = omega (arith, c .before .before .before .before .before .before .pre .1, c .before .before .before .loop .inv .1)
+add-k : tie.Need-add-k Inv-loop μ-loop
+add-k c = omega (arith, c .before .before .before .before .before .loop .inv .0, c .before .before .before .before .before .before .before .before .pre .2)
 
 loop-again : tie.Need-loop-again Inv-loop μ-loop
 loop-again c =
-    let w = c .before .before .before .loop in
-    let a = c .before .before .before .before .before .before in (
-      omega arith,
-      length-set (w .stack) (w .h) (w .s) ∙ w .inv .1,
-      omega arith,
-      gather-join _ _ _ _ (w .inv .3) (sym (c .before .contains .ensures) ∙ c .if1 .taken) (omega (arith, a .pre .1, w .inv .1)),
-    )
-
-loop-again-2 : tie.Need-loop-again-2 Inv-loop μ-loop
-loop-again-2 c =
-    let w = c .before .before .before .loop in
-    (omega arith, w .inv .1, omega arith, gather-skip _ _ _ _ (w .inv .3) (sym (c .before .contains .ensures) ∙ c .if1 .left))
-
-same-length : tie.Need-same-length Inv-loop μ-loop
-same-length c = c .before .loop .inv .1
+    let w = c .before .before .before .before .before .loop in
+    let l = c .before .before .before .before .loop-test .taken in
+    let g = c .before .before .gather-word in
+    (omega arith, g .kept .1 .1 .1 .0 ∙ w .inv .1, g .ensures)
 
 returns : tie.Need-returns Inv-loop μ-loop
-returns c = let e : c .before .loop .s ≡ c .before .before .before .before .args .n = omega arith in rw e at (c .before .loop .inv .3)
+returns c =
+    let w = c .before .loop in
+    let e : lesser (c .before .before .before .before .args .n) (w .k * 64) ≡ c .before .before .before .before .args .n = omega (arith, c .loop-test .left) in
+    rw e at (w .inv .2)
 
 pub gather-spec : {M : Type 1} → statement M
 gather-spec =
@@ -60,16 +53,10 @@ gather-spec =
     Inv-loop
     μ-loop
     loop-holds
-    contains-requires
-    cast-stack
-    mul-stack
-    slice-write-stack
-    (λ c. search needs)
-    (λ c. search needs)
+    mul-loop
+    gather-word-requires
+    add-k
     (λ c. search needs)
     loop-again
     (λ c. search needs)
-    (λ c. search needs)
-    loop-again-2
-    same-length
     returns)
