@@ -5,27 +5,16 @@
 mod common;
 mod coverage;
 
-use common::{option, shown};
+use common::{built, in_folder, option, shown};
 use coverage::Tally;
 use oracle::generate::{self, Random};
 use oracle::{check, marks};
-use std::fs;
-use std::path::{Path, PathBuf};
-use std::process::Command;
 
 const CASES: u64 = 4_000;
 
 /// The first line of an output, or its first word.
 const FIRST: [&str; 7] =
     ["marks", "refused 2", "refused 3", "refused 4", "refused 5", "refused 9", "refused 10"];
-
-/// The check program, built where it isn't: `./check` does that.
-fn built() -> PathBuf {
-    let root = Path::new(env!("CARGO_MANIFEST_DIR")).join("..");
-    let output = Command::new("./check").arg("examples/p").current_dir(&root).output();
-    assert!(output.expect("./check runs").status.success());
-    root.canonicalize().expect("the root is there").join("target/bin/check_rewrites")
-}
 
 /// Lines of good statements or marks until the file has over so many bytes.
 fn long(line: &str, bytes: usize) -> Vec<u8> {
@@ -58,22 +47,21 @@ fn files(random: &mut Random) -> [Option<Vec<u8>>; 2] {
 
 #[test]
 fn outputs_are_as_by_the_oracle() {
-    let (program, folder) = (built(), Path::new(env!("CARGO_TARGET_TMPDIR")).join("check"));
+    let program = built("check_rewrites");
     let mut first = Tally::new("first lines of the outputs", FIRST);
     let mut missing = Tally::new("missing files", ["given", "marks"]);
     let seed = option("DIFFERENTIAL_SEED", 1);
     for case in 0..option("CHECK_CASES", CASES) {
         let random = &mut Random::new(Random::new(seed).bits() ^ case);
         let contents = files(random);
-        let _ = fs::remove_dir_all(&folder);
-        fs::create_dir_all(&folder).expect("a folder is made");
-        for (name, content) in ["given", "marks"].into_iter().zip(&contents) {
-            match content {
-                Some(bytes) => fs::write(folder.join(name), bytes).expect("a file is written"),
-                None => missing.met(name),
-            }
+        let names = ["given", "marks"];
+        let there = names.into_iter().zip(&contents);
+        let files: Vec<_> =
+            there.filter_map(|(name, file)| file.as_deref().map(|bytes| (name, bytes))).collect();
+        for name in names.into_iter().filter(|&name| files.iter().all(|file| file.0 != name)) {
+            missing.met(name);
         }
-        let output = Command::new(&program).current_dir(&folder).output().expect("it runs");
+        let output = in_folder(&program, "check", &files, &[]);
         let [given, list] = contents.map(Option::unwrap_or_default);
         let expected = check::check(&given, &list);
         assert!(output.status.success() && output.stderr.is_empty(), "seed {seed} case {case}");

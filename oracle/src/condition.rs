@@ -224,9 +224,14 @@ impl Condition {
     }
 
     pub fn text(&self) -> Vec<u8> {
+        self.text_of(self.parts.len() - 1).into_bytes()
+    }
+
+    /// The text of a part.
+    pub fn text_of(&self, part: usize) -> String {
         let mut text = String::new();
-        self.spell(self.parts.len() - 1, &mut text);
-        text.into_bytes()
+        self.spell(part, &mut text);
+        text
     }
 
     fn spell(&self, part: usize, text: &mut String) {

@@ -6,6 +6,7 @@
 
 pub mod check;
 pub mod condition;
+pub mod desk;
 pub mod generate;
 pub mod machine;
 pub mod marks;

@@ -1,9 +1,9 @@
 //! What the tests share. Each test file uses a part of it.
 #![allow(dead_code)]
 
-use std::env;
 use std::path::{Path, PathBuf};
-use std::process::Command;
+use std::process::{Command, Output};
+use std::{env, fs};
 
 /// The program to check against.
 pub const P: &str = "\
@@ -89,4 +89,23 @@ pub fn linked(name: &str, sources: &[PathBuf]) -> PathBuf {
         .expect("cc runs");
     assert!(status.success());
     program
+}
+
+/// A program of the repository, built where it isn't.
+pub fn built(name: &str) -> PathBuf {
+    let script = Path::new(env!("CARGO_MANIFEST_DIR")).join("../.ci/program");
+    let output = Command::new("bash").arg(script).arg(name).output().expect("bash runs");
+    assert!(output.status.success());
+    PathBuf::from(String::from_utf8(output.stdout).expect("a path").trim_end())
+}
+
+/// Runs a program in a folder of its own that has these files, with these arguments.
+pub fn in_folder(program: &Path, name: &str, files: &[(&str, &[u8])], words: &[&str]) -> Output {
+    let folder = Path::new(env!("CARGO_TARGET_TMPDIR")).join(name);
+    let _ = fs::remove_dir_all(&folder);
+    fs::create_dir_all(&folder).expect("a folder is made");
+    for (file, bytes) in files {
+        fs::write(folder.join(file), bytes).expect("a file is written");
+    }
+    Command::new(program).args(words).current_dir(&folder).output().expect("the program runs")
 }

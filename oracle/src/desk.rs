@@ -1,0 +1,225 @@
+//! What the desk's programs print: the viewer, the runner, and the comparison of two runs.
+
+use crate::condition::{Checker, Condition};
+use crate::machine::{self, Outcome, Run, State, Values};
+use crate::marks::{self, TEXT_BYTES, VERDICT_BYTES};
+use crate::program::{Program, Statement};
+use crate::steps::Steps;
+use std::ops::RangeInclusive;
+
+// Refusals in words
+
+/// The first line of a program's text, counted from 1, at which it is refused 2, 4 or 5.
+fn line_of(program: &[u8], number: u8) -> usize {
+    let lines: Vec<&[u8]> = program.split_inclusive(|&byte| byte == b'\n').collect();
+    let read = |line: &&[u8]| line.strip_suffix(b"\n").and_then(Statement::read);
+    let wrong = |(at, line): (usize, &&[u8])| match (number, read(line)) {
+        (2, statement) => statement.is_none(),
+        (4, Some(Statement::Read(_))) => at != 0,
+        (4, Some(Statement::Write(_))) => at + 1 != lines.len(),
+        (4, _) => at == 0 || at + 1 == lines.len(),
+        (_, Some(Statement::Branch { then, other, .. })) => {
+            [then, other].iter().any(|&target| target < 2 || target as usize > lines.len())
+        }
+        _ => false,
+    };
+    lines.iter().enumerate().position(wrong).expect("a refused line") + 1
+}
+
+fn refused(number: u8, program: &[u8]) -> String {
+    let line = || line_of(program, number);
+    let words = match number {
+        2 => format!("line {} isn't spelled as a statement, or lacks its byte 10", line()),
+        3 => "under 2 or over 256 lines".into(),
+        4 => {
+            format!("line {}: read or write missing from its place or standing elsewhere", line())
+        }
+        5 => format!("line {}: a target outside 2 to N", line()),
+        6 => "longer than 1,024 bytes".into(),
+        7 => "misspelled".into(),
+        8 => "over 64 parts".into(),
+        9 => "some line misspelled, or the last without its byte 10".into(),
+        10 => "over 256 lines".into(),
+        _ => "budget over 1,000,000".into(),
+    };
+    let author = match number {
+        2..=5 => "the author of the shift program",
+        6..=8 => "the author of the condition",
+        9 | 10 => "the optimiser",
+        _ => "the host program",
+    };
+    format!("refused {number}\n{author}: {words}\n")
+}
+
+// The viewer
+
+/// One byte a part, that of the last set off.
+fn columns(parts: usize, byte: impl FnMut(usize) -> char) -> String {
+    let mut row: String = (0..parts).map(byte).collect();
+    row.insert_str(parts - 1, "  ");
+    row
+}
+
+/// What the viewer prints for a program and a condition.
+pub fn view(program: &[u8], condition: &[u8]) -> String {
+    let given = match Program::read(program) {
+        Ok(given) => given,
+        Err(number) => return refused(number, program),
+    };
+    let condition = match Condition::read(condition) {
+        Ok(condition) => condition,
+        Err(number) => return refused(number, program),
+    };
+    let (steps, parts) = (Steps::new(&given), condition.parts().len());
+    let mut checker = Checker::new(&given, &steps, &condition);
+    let mut text = String::new();
+    for part in 0..parts {
+        text += &format!("{:2}  {}\n", part + 1, condition.text_of(part));
+    }
+    let digit = |number: usize| char::from(b'0' + (number % 10) as u8);
+    let tens = |part| if part < 9 { ' ' } else { digit((part + 1) / 10) };
+    text += &format!("{:37}{}\n", "", columns(parts, tens));
+    text += &format!("{:37}{}\n", "", columns(parts, |part| digit(part + 1)));
+    let mut satisfied = Vec::new();
+    for (at, statement) in given.statements().iter().enumerate() {
+        let marks = columns(parts, |part| if checker.holds(part, at) { '*' } else { '.' });
+        text += &format!("{:3}  {:30}  {marks}\n", at + 1, statement.to_string());
+        if marks.ends_with('*') {
+            satisfied.push(at + 1);
+        }
+    }
+    let first = satisfied.first().unwrap_or(&0);
+    text + &format!("parts {parts} satisfied {} first {first}\n", satisfied.len())
+}
+
+// Runs
+
+struct Start {
+    input: u32,
+    budget: u32,
+    values: Values,
+}
+
+const INTEGERS: RangeInclusive<i64> = i32::MIN as i64..=i32::MAX as i64;
+const BUDGETS: RangeInclusive<i64> = 0..=i32::MAX as i64;
+
+/// The number that a line spells exactly.
+fn number(line: &[u8], range: &RangeInclusive<i64>) -> Option<i64> {
+    let body = std::str::from_utf8(line.strip_suffix(b"\n")?).ok()?;
+    body.parse().ok().filter(|number: &i64| range.contains(number) && number.to_string() == body)
+}
+
+/// The start that a text is, or what is printed of one that is wrong.
+fn read_start(text: &[u8]) -> Result<Start, String> {
+    let refused = |words: String| format!("refused start\nthe start: {words}\n");
+    let mut numbers = Vec::new();
+    for (at, line) in text.split_inclusive(|&byte| byte == b'\n').enumerate() {
+        if at == 34 {
+            return Err(refused("over 34 lines".into()));
+        }
+        let range = if at == 1 { BUDGETS } else { INTEGERS };
+        let (low, high) = (range.start(), range.end());
+        let wrong = || format!("line {} isn't a whole number from {low} to {high}", at + 1);
+        numbers.push(number(line, &range).ok_or_else(|| refused(wrong()))? as u32);
+    }
+    if numbers.len() < 2 {
+        return Err(refused("under 2 lines".into()));
+    }
+    let mut values = [0; 32];
+    values[..numbers.len() - 2].copy_from_slice(&numbers[2..]);
+    Ok(Start { input: numbers[0], budget: numbers[1], values })
+}
+
+/// The statement and the values before each step of a run, with the values after it.
+fn walk(program: &Program, start: &Start) -> Vec<(u32, Values, Values)> {
+    let mut run = Run::start(program, start.values, start.input);
+    let mut steps = Vec::new();
+    while let State::Before { statement, values } = *run.state() {
+        if steps.len() == start.budget as usize {
+            break;
+        }
+        run.step();
+        let after = match *run.state() {
+            State::Before { values, .. } => values,
+            State::Ended { .. } => values,
+        };
+        steps.push((statement, values, after));
+    }
+    steps
+}
+
+fn spelled(program: &Program, statement: u32) -> String {
+    program.statements()[statement as usize - 1].to_string()
+}
+
+/// What the runner prints for a program and a start, with every step if `trace` says so.
+pub fn run(program: &[u8], start: &[u8], trace: bool) -> String {
+    let start = match read_start(start) {
+        Ok(start) => start,
+        Err(words) => return words,
+    };
+    let outcome = match machine::run(program, start.values, start.input, start.budget) {
+        Ok(outcome) => outcome,
+        Err(number) => return refused(number, program),
+    };
+    let given = Program::read(program).expect("a program that ran is taken");
+    let mut text = String::new();
+    if trace {
+        for (k, (at, before, after)) in walk(&given, &start).iter().enumerate() {
+            text += &format!("{:7}  {at:3}  {:30}", k + 1, spelled(&given, *at));
+            for x in (0..32).filter(|&x| before[x] != after[x]) {
+                text += &format!("  i{x} = {}", after[x] as i32);
+            }
+            text.push('\n');
+        }
+    }
+    match outcome {
+        Outcome::Ended { value, steps } => text += &format!("ended {value} steps {steps}\n"),
+        Outcome::Spent { statement, values } => {
+            text += &format!("spent at {statement}\n");
+            for (x, &value) in values.iter().enumerate() {
+                text += &format!("i{x} = {}\n", value as i32);
+            }
+        }
+    }
+    text
+}
+
+/// What the comparison prints for a program, a list of marks and a start.
+pub fn compare(program: &[u8], list: &[u8], start: &[u8]) -> String {
+    let start = match read_start(start) {
+        Ok(start) => start,
+        Err(words) => return words,
+    };
+    let run = |text: &[u8]| machine::run(text, start.values, start.input, start.budget);
+    let given_ends = match run(program) {
+        Ok(outcome) => outcome,
+        Err(number) => return refused(number, program),
+    };
+    let (mut verdicts, mut new) = (vec![0; VERDICT_BYTES], vec![0; TEXT_BYTES]);
+    let (count, accepted, bytes) = match marks::judge(program, list, &mut verdicts, &mut new) {
+        Ok(answer) => answer,
+        Err(number) => return refused(number, program),
+    };
+    new.truncate(bytes as usize);
+    let given = Program::read(program).expect("a program that was judged is taken");
+    let rewritten = Program::read(&new).expect("a rewritten program is taken");
+    let mut text = format!("marks {count} accepted {accepted}\n");
+    let both = walk(&given, &start).into_iter().zip(walk(&rewritten, &start));
+    for (k, ((at, _, one), (there, _, other))) in both.enumerate() {
+        let (old, new) = (spelled(&given, at), spelled(&rewritten, there));
+        text += &format!("{:7}  {at:3}  {old:30}  {new:30}", k + 1);
+        for x in (0..32).filter(|&x| one[x] != other[x]) {
+            text += &format!("  i{x} {} {}", one[x] as i32, other[x] as i32);
+        }
+        text.push('\n');
+    }
+    let rewritten_ends = run(&new).expect("a rewritten program is taken");
+    for (name, outcome) in [("given", given_ends), ("rewritten", rewritten_ends)] {
+        text += &match outcome {
+            Outcome::Ended { value, steps } => format!("{name} ended {value} steps {steps}\n"),
+            Outcome::Spent { statement, .. } => format!("{name} spent at {statement}\n"),
+        };
+    }
+    text + "statements and outcome agree\n"
+}
