@@ -34,12 +34,17 @@ find-requires c κs = let p = program-taken (c .before .before .before .before .
 of-requires : tie.Need-of-requires
 of-requires c κs = let p = program-taken (c .before .before .before .before .before .before .before .before .before .before .before .before) in (p .1, (p .0 .program, c .before .blank2 .ensures))
 
+-- what is known of the program once its facts are found and its graph is drawn
+known : (c : tie.After-flow2) → Known (statements (c .before .before .before .before .before .before .before .before .before .before .before .before .before .before .before .before .read .result .program)) (c .before .before .before .before .before .before .before .before .before .before .before .before .before .before .before .before .read .result .program .count) (c .before .before .before .before .before .find .last .1 .0) (c .before .of .last .1 .0)
+known c =
+    let p = program-taken (c .before .before .before .before .before .before .before .before .before .before .before .before .before .before) in
+    known-program {flow = c .before .of .last .1 .0} (p .0) (p .1) (c .before .before .before .before .before .find .ensures) (c .before .of .ensures) (omega (arith, c .before .of .kept, c .before .before .before .blank2 .ensures))
+
 fill-requires : tie.Need-fill-requires
 fill-requires c κs =
     let h = condition-held (c .before .before .before .before .before .before .before .before .before .before .before .before .before) in
-    let p = program-taken (c .before .before .before .before .before .before .before .before .before .before .before .before .before .before .before .before .before) in
     let few = held-few (h .held) in
-    (record { P = _; known = known-program {flow = c .before .before .before .before .of .last .1 .0} (p .0) (p .1) (c .before .before .before .before .before .before .before .before .find .ensures) (c .before .before .before .before .of .ensures) (omega (arith, c .before .before .before .before .of .kept, c .before .before .before .before .before .before .blank2 .ensures)) }, (h, omega arith))
+    (record { P = _; known = known (c .before .before .before) }, (h, omega arith))
 
 sub-last : tie.Need-sub-last
 sub-last c = omega (arith, held-some (condition-held (c .before .before .before .before .before .before .before .before .before .before .before .before .before .before .before .before) .held))
@@ -47,10 +52,9 @@ sub-last c = omega (arith, held-some (condition-held (c .before .before .before 
 summary-of-requires : tie.Need-summary-of-requires
 summary-of-requires c κs =
     let h = condition-held (c .before .before .before .before .before .before .before .before .before .before .before .before .before .before .before .before .before) in
-    let p = program-taken (c .before .before .before .before .before .before .before .before .before .before .before .before .before .before .before .before .before .before .before .before .before) in
     let some = held-some (h .held) in
     let few = held-few (h .held) in
-    let same = c .before .before .before .fill .ensures _ (h .c) (known-program {flow = c .before .before .before .before .before .before .before .before .of .last .1 .0} (p .0) (p .1) (c .before .before .before .before .before .before .before .before .before .before .before .before .find .ensures) (c .before .before .before .before .before .before .before .before .of .ensures) (omega (arith, c .before .before .before .before .before .before .before .before .of .kept, c .before .before .before .before .before .before .before .before .before .before .blank2 .ensures))) (h .held) .same in
+    let same = c .before .before .before .fill .ensures _ (h .c) (known (c .before .before .before .before .before .before .before)) (h .held) .same in
     omega (arith, c .before .before .before .before .before .before .before .before .before .before .before .before .before .before .before .before .before .before .before .before .before .before .before .before .if1 .left)
 
 returns-3 : tie.Need-returns-3
@@ -60,9 +64,7 @@ returns-3 c =
 returns-4 : tie.Need-returns-4
 returns-4 c =
     let h = condition-held (c .before .before .before .before .before .before .before .before .before .before .before .before .before .before .before .before .before .before) in
-    let p = program-taken (c .before .before .before .before .before .before .before .before .before .before .before .before .before .before .before .before .before .before .before .before .before .before) in
-    let k = known-program {flow = c .before .before .before .before .before .before .before .before .before .of .last .1 .0} (p .0) (p .1) (c .before .before .before .before .before .before .before .before .before .before .before .before .before .find .ensures) (c .before .before .before .before .before .before .before .before .before .of .ensures) (omega (arith, c .before .before .before .before .before .before .before .before .before .of .kept, c .before .before .before .before .before .before .before .before .before .before .before .blank2 .ensures)) in
-    tabulated (h .held) (p .0) (c .before .before .before .before .before .before .before .before .before .before .before .before .before .before .before .before .before .before .before .before .before .before .before .before .before .if1 .left) (c .before .before .before .before .fill .ensures _ (h .c) k (h .held)) (c .summary-of .ensures)
+    tabulated (h .held) (program-taken (c .before .before .before .before .before .before .before .before .before .before .before .before .before .before .before .before .before .before .before .before .before .before) .0) (c .before .before .before .before .before .before .before .before .before .before .before .before .before .before .before .before .before .before .before .before .before .before .before .before .before .if1 .left) (c .before .before .before .before .fill .ensures _ (h .c) (known (c .before .before .before .before .before .before .before .before)) (h .held)) (c .summary-of .ensures)
 
 pub tabulate-spec : {M : Type 1} → statement M
 tabulate-spec =
