@@ -9,6 +9,7 @@ use Rattle.program.specs.Program.{text, Taken}
 use Rattle.language.specs.declared.Statement.{Statement}
 use Rattle.program.proofs.RoundTrip.{taken-unique, text-fits}
 use Rattle.report.proofs.Reports.{new-within}
+use Rattle.rewrites.specs.Demand.{Demand3}
 use Rattle.comparison.specs.Stepping.{InStep}
 use Rattle.comparison.specs.Closing.{Closes}
 use Rattle.comparison.specs.Heading.{HeadRefused, HeadJudged, Heads}
@@ -33,17 +34,10 @@ module _ (t u : List ℕ) (budget : ℕ) (old new o q : List ℕ) {r : Heading} 
   pub text-within : bytes ≤ length new
   text-within = rw (head .after) at (new-within (head .judged))
 
-  new-text : take bytes new ≡ text (head .judged .Q)
-  new-text =
-      let f = head .judged in
-      let d = f .demand .taken in
-      rw (head .after) at (put-front (f .written) (omega (arith, ap length (d .lines), text-fits (d .program), f .room .1)))
-
   pub paired : (vs : List ℕ) (input : ℕ) → length vs ≡ 32 → Pair t (take bytes new) vs input budget
   paired vs input l =
-      let d = head .judged .demand in
-      rw new-text
-      (record {
+      let d : Demand3 t u (head .left .verdicts) (take bytes new) = rw (head .after) at (head .judged .demand) in
+      record {
         P = d .P;
         Q = d .Q;
         given = d .given;
@@ -51,7 +45,7 @@ module _ (t u : List ℕ) (budget : ℕ) (old new o q : List ℕ) {r : Heading} 
         size = l;
         inStep = d .together;
         alike = d .alike vs l input budget (head .allowed);
-      })
+      }
 
 -- the programs that were read are those that are known
 pub read-in-step : {t w vs : List ℕ} {input budget : ℕ} (P Q : List Statement) → Pair t w vs input budget → Taken t P → Taken w Q → InStep P Q

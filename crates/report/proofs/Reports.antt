@@ -70,14 +70,14 @@ refused-printed {n = n} h room put =
     }
 
 module _ {t u : List ℕ} {o q : Lent} {count accepted bytes : ℕ} (f : JudgeFinished t u o q count accepted bytes) where
-  text-short : length (text (f .Q)) ≤ text-bytes
-  text-short = let d = f .demand .taken in omega (arith, ap length (d .lines), text-fits (d .program))
-
   new-text : take bytes (q .new) ≡ text (f .Q)
-  new-text = put-front (f .written) (omega (arith, text-short, f .room .1))
+  new-text = put-front (f .written) (f .fits)
+
+  text-short : length (text (f .Q)) ≤ text-bytes
+  text-short = let d = f .demand .taken in omega (arith, ap length new-text, ap length (d .lines), text-fits (d .program))
 
   pub new-within : bytes ≤ length (q .new)
-  new-within = put-within (f .written) (omega (arith, text-short, f .room .1))
+  new-within = put-within (f .written) (f .fits)
 
   abbrev printed : List ℕ
   printed = countsLine count accepted ++ (verdictLines (f .ms) (q .verdicts) ++ take bytes (q .new))

@@ -6,6 +6,7 @@ use native.Mathlib.Omega.{arith}
 use lib.ListN.{length, getD}
 use Rattle.language.specs.Writing.{Put}
 use Rattle.language.specs.declared.Statement.{Statement}
+use Rattle.language.proofs.Puts.{put-front}
 use Rattle.program.specs.Program.{text, Taken}
 use Rattle.program.specs.Reading.{statements}
 use Rattle.marks.specs.Reading as marks
@@ -25,7 +26,8 @@ module _ {t u : List ℕ} {P : List Statement} {ms : List Mark} (p : Taken t P) 
 
     pub finished : {before after : List ℕ} {count bytes : ℕ} → Room old before → count ≡ length ms → Put before 0 (text (statements (r .program))) after bytes
         → JudgeFinished t u (record { verdicts = old; new = before }) (record { verdicts = vs; new = after }) count (r .accepted) bytes
-    finished room n put =
+    finished {before} room n put =
+        let fits : length (text (statements (r .program))) ≤ length before = omega (arith, text-short, room .1) in
         record {
           P = P;
           ms = ms;
@@ -39,6 +41,7 @@ module _ {t u : List ℕ} {P : List Statement} {ms : List Mark} (p : Taken t P) 
           same = j .same;
           kept = λ i l. j .past i (omega (arith, n));
           rewritten = w .rewritten;
+          fits = fits;
           written = put;
-          demand = demand-3 p m vs (j .judged) (statements (r .program)) (w .rewritten);
+          demand = rw (put-front put fits) (demand-3 p m vs (j .judged) (statements (r .program)) (w .rewritten));
         }

@@ -55,10 +55,12 @@ pub record JudgeFinished (t u : List ℕ) (o q : Lent) (count accepted bytes : �
   pub judged : Verdicts P ms (q .verdicts)
   pub same : length (q .verdicts) ≡ length (o .verdicts)
   pub kept : (j : ℕ) → count ≤ j → getD (q .verdicts) j 0 ≡ getD (o .verdicts) j 0
-  -- the new text is that of the rewritten program, at the front of the lent bytes
+  -- the new text is that of the rewritten program; it fits, and stands at the front of the lent bytes
   pub rewritten : Rewritten P ms (q .verdicts) Q
+  pub fits : length (text Q) ≤ length (o .new)
   pub written : Put (o .new) 0 (text Q) (q .new) bytes
-  pub demand : Demand3 t u (q .verdicts) (text Q)
+  -- demand 3, of the bytes that the host holds
+  pub demand : Demand3 t u (q .verdicts) (take bytes (q .new))
 
 -- "A refused call answers only its number and keeps all lent memory."
 abbrev pub JudgeAnswers : List ℕ → List ℕ → Lent → Lent → JudgeAnswer → Type 0
