@@ -16,14 +16,13 @@ use Rattle.language.specs.declared.Expression.the-variants.{Single, Bina
 use Rattle.language.specs.declared.Statement.{Statement}
 use Rattle.language.specs.declared.Statement.the-variants.{Read, Write, Assign, Branch, Skip}
 use Rattle.language.specs.Spelling.{largest, digits, spellVariable, spellOperand, spellOperator, spellExpression, spell, ValidOperand, ValidExpression, Valid, read-word, write-word, becomes-word, if-word, goto-word, else-word, skip-word}
-use Rattle.language.specs.Parsing.{Parsed, found, misspelled, after, afterOr, where?, either, parseWord, digitOf, parseNumber, parseVariable, parseOperand, parseOperator, parseExpression, parseRead, parseWrite, parseSkip, parseAssign, parseBranch, parseStatement, parseLine}
-use lib.ListN.{drop}
+use Rattle.language.specs.Parsing.{Parsed, found, misspelled, after, afterOr, where?, either, pick, parseWord, digitOf, parseNumber, parseVariable, parseOperand, parseOperator, parseExpression, parseRead, parseWrite, parseSkip, parseAssign, parseBranch, parseAssignOrBranch, byFirst, parseStatement, parseLine, parsedStatement, statementEnd}
+use lib.ListN.{length, drop}
 use Rattle.language.specs.Reading.{LineRead}
-use Rattle.language.specs.Parsing.{parsedStatement}
 use Rattle.language.specs.declared.read.StatementRead.{StatementRead}
 use Rattle.language.specs.declared.read.StatementRead.the-variants as statement
 use Rattle.language.proofs.Numbers.{NoDigit, number-sound, number-complete}
-use Rattle.language.proofs.Parse.{after-inv, afterOr-inv, where-inv, either-inv, skip-sound}
+use Rattle.language.proofs.Parse.{after-inv, afterOr-inv, where-inv, either-inv, pick-inv, skip-sound}
 
 -- what is spelled is read
 pub variable-complete : (x : ℕ) (rest : List ℕ) → x < 32 → NoDigit rest → parseVariable (spellVariable x ++ rest) ≡ found x rest
@@ -53,7 +52,8 @@ pub expression-complete : (e : Expression) (rest : List ℕ) → ValidExpression
 unfolding parseExpression spellExpression parseWord digitOf
 expression-complete (Single a) rest v h n = rw (operand-complete a rest v h, n)
 expression-complete (Binary a o b) rest v h n =
-    ap parseExpression (binary-text a o b rest) ∙ rw (operand-complete a (32 ∷ spellOperator o ∷ 32 ∷ spellOperand b ++ rest) (v .0) refl, operator-complete o (32 ∷ spellOperand b ++ rest), operand-complete b rest (v .1) h)
+    let t = 32 ∷ spellOperand b ++ rest in
+    ap parseExpression (binary-text a o b rest) ∙ rw (operand-complete a (32 ∷ spellOperator o ∷ t) (v .0) refl, operator-complete o t, operand-complete b rest (v .1) h)
 
 -- the text of a line and what follows it, grouped as it is read
 assign-text : (x : ℕ) (e : Expression) (rest : List ℕ) → spell (Assign x e) ++ rest ≡ spellVariable x ++ (becomes-word ++ (spellExpression e ++ rest))
@@ -79,14 +79,17 @@ branch-complete : (x n m : ℕ) (rest : List ℕ) → Valid (Branch x n m) → N
     → parseBranch (if-word ++ (spellVariable x ++ (goto-word ++ (digits n ++ (else-word ++ (digits m ++ rest)))))) ≡ found (Branch x n m) rest
 unfolding parseBranch parseWord digitOf
 branch-complete x n m rest v h =
-    rw (variable-complete x (goto-word ++ (digits n ++ (else-word ++ (digits m ++ rest)))) (v .0) refl, number-complete n (else-word ++ (digits m ++ rest)) (v .1) refl, number-complete m rest (v .2) h)
+    let t = else-word ++ (digits m ++ rest) in
+    rw (variable-complete x (goto-word ++ (digits n ++ t)) (v .0) refl, number-complete n t (v .1) refl, number-complete m rest (v .2) h)
 
 pub statement-complete : (s : Statement) (rest : List ℕ) → Valid s → NoDigit rest → parseWord (32 ∷ []) rest ≡ misspelled → parseStatement (spell s ++ rest) ≡ found s rest
-unfolding parseStatement parseRead parseWrite parseSkip spell spellVariable parseWord digitOf
+unfolding parseStatement byFirst parseAssignOrBranch parseRead parseWrite parseSkip spell spellVariable parseWord digitOf
 statement-complete (Read x) rest v h n = rw (variable-complete x rest v h)
 statement-complete (Write x) rest v h n = rw (variable-complete x rest v h)
 statement-complete (Assign x e) rest v h n = ap parseStatement (assign-text x e rest) ∙ rw (assign-complete x e rest v h n)
-statement-complete (Branch x n m) rest v h k = ap parseStatement (branch-text x n m rest) ∙ rw (assign-if (spellVariable x ++ (goto-word ++ (digits n ++ (else-word ++ (digits m ++ rest))))), branch-complete x n m rest v h)
+statement-complete (Branch x n m) rest v h k =
+    let t = goto-word ++ (digits n ++ (else-word ++ (digits m ++ rest))) in
+    ap parseStatement (branch-text x n m rest) ∙ rw (assign-if (spellVariable x ++ t), branch-complete x n m rest v h)
 statement-complete Skip rest v h n = refl
 
 pub line-complete : (s : Statement) (rest : List ℕ) → Valid s → parseLine (spell s ++ 10 ∷ rest) ≡ found s rest
@@ -221,12 +224,14 @@ branch-sound l s u h =
     rw (← p, ← q) (t ∙ sym (branch-text x n m w), (i .1, j .1, k .1))
 
 pub statement-sound : (l : List ℕ) (s : Statement) (u : List ℕ) → parseStatement l ≡ found s u → Spelled l s u
-unfolding parseStatement
-statement-sound l s u h =
-    either-inv (parseRead l) _ h (read-sound l s u) λ h₁.
-    either-inv (parseWrite l) _ h₁ (write-sound l s u) λ h₂.
-    either-inv (parseSkip l) _ h₂ (idle-sound l s u) λ h₃.
-    either-inv (parseAssign l) (parseBranch l) h₃ (assign-sound l s u) (branch-sound l s u)
+unfolding parseStatement byFirst parseAssignOrBranch
+statement-sound [] s u h = let z : _≡_ {A = ℕ} 0 1 = cc in absurd (omega arith)
+statement-sound (c ∷ l) s u h =
+    pick-inv (eqb c 114) _ _ h (read-sound (c ∷ l) s u) λ h₁.
+    pick-inv (eqb c 119) _ _ h₁ (write-sound (c ∷ l) s u) λ h₂.
+    pick-inv (eqb c 115) _ _ h₂ (idle-sound (c ∷ l) s u) λ h₃.
+    where-inv (eqb c 105) _ h₃ λ _ h₄.
+    either-inv (parseAssign (c ∷ l)) (parseBranch (c ∷ l)) h₄ (assign-sound (c ∷ l) s u) (branch-sound (c ∷ l) s u)
 
 pub line-sound : (l : List ℕ) (s : Statement) (u : List ℕ) → parseLine l ≡ found s u → (l ≡ spell s ++ 10 ∷ u) × Valid s
 unfolding parseLine
@@ -238,7 +243,7 @@ line-sound l s u h =
     let i = statement-sound l r t e₁ in
     rw (← p, ← q) (i .0 ∙ rw (skip-sound (10 ∷ []) t e₂), i .1)
 
--- the answer of `read_line` means what it should
-pub line-right : (s : List ℕ) (at : ℕ) (r : StatementRead) → parsedStatement s r ≡ parseLine (drop at s) → LineRead s at r
-line-right s at (statement.Found e k) h = line-sound (drop at s) e (drop k s) (sym h)
-line-right s at statement.Misspelled h = λ e rest v t. let z : _≡_ {A = ℕ} 0 1 = cc (line-complete e rest v) in omega arith
+-- the answer of `line` means what it should
+pub line-right : (s : List ℕ) (at : ℕ) (r : StatementRead) → statementEnd r ≤ length s → parsedStatement s r ≡ parseLine (drop at s) → LineRead s at r
+line-right s at (statement.Found e k) w h = let l = line-sound (drop at s) e (drop k s) (sym h) in record { stands = l .0; within = w; valid = l .1 }
+line-right s at statement.Misspelled w h = λ e rest v t. let z : _≡_ {A = ℕ} 0 1 = cc (line-complete e rest v) in omega arith

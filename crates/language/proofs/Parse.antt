@@ -6,7 +6,7 @@ use Prim.Native.Nat.{ℕ}
 use native.Mathlib.Omega.{arith}
 use lib.Dec.{eqb}
 use borrow.Author.Tests.{eqb-true}
-use Rattle.language.specs.Parsing.{Parsed, found, misspelled, after, afterOr, where?, either, parseWord}
+use Rattle.language.specs.Parsing.{Parsed, found, misspelled, after, afterOr, where?, either, pick, parseWord}
 
 -- in each, the last argument goes on with what was found
 module _ {A B C : Type 0} where
@@ -28,6 +28,10 @@ module _ {A C : Type 0} where
   pub either-inv : (p q : Parsed A) {a : A} {u : List ℕ} → either p q ≡ found a u → (p ≡ found a u → C) → (q ≡ found a u → C) → C
   either-inv (found a t) q e k m = k e
   either-inv misspelled q e k m = m e
+
+  pub pick-inv : (t : Bool) (p q : Parsed A) {a : A} {u : List ℕ} → pick t p q ≡ found a u → (p ≡ found a u → C) → (q ≡ found a u → C) → C
+  pick-inv true p q e k m = k e
+  pick-inv false p q e k m = m e
 
 -- what is skipped stood there
 pub skip-sound : (w l : List ℕ) {x : Unit} {t : List ℕ} → parseWord w l ≡ found x t → l ≡ w ++ t

@@ -14,6 +14,6 @@ use Rattle.language.proofs.Lines.{line-unique}
 pub line-read-written : (s : Statement) (rest : List ℕ) → Valid s → (r : StatementRead) → LineRead (spell s ++ 10 ∷ rest) 0 r
     → (k : ℕ) × (r ≡ Found s k) × (drop k (spell s ++ 10 ∷ rest) ≡ rest)
 line-read-written s rest v (Found e k) l =
-    let u = line-unique s e rest (drop k (spell s ++ 10 ∷ rest)) v (l .1) (l .0) in
+    let u = line-unique s e rest (drop k (spell s ++ 10 ∷ rest)) v (l .valid) (l .stands) in
     (k, ap (λ (x : Statement). Found x k) (sym (u .0)), sym (u .1))
 line-read-written s rest v Misspelled l = absurd (l s rest v refl)

@@ -12,7 +12,7 @@ use native.Mathlib.Omega.{arith}
 use Rattle.language.specs.Spelling.{largest}
 use Rattle.language.specs.declared.read.Digit.{Digit}
 use Rattle.language.specs.declared.read.Digit.the-variants.{Value, Other}
-use Rattle.language.specs.Parsing.{Parsed, found, misspelled, parseWord, pickDigit, digitOf, parseZero, parseDigits, fromFirst, parseNumber}
+use Rattle.language.specs.Parsing.{Parsed, found, misspelled, parseWord, pickDigit, digitOf, parseZero, parseDigits, fromFirst, parseNumber, byFirst, parseStatement}
 
 pub at-end : (s : List ℕ) (k : ℕ) → length s ≤ k → drop k s ≡ []
 at-end s k h = drop-of-length-le s h
@@ -74,3 +74,7 @@ first-zero d l e = rw e
 pub first-more : (d : ℕ) (l : List ℕ) → (d ≡ 0 → ⊥) → fromFirst d l ≡ parseDigits d l
 first-more zero l f = absurd (f refl)
 first-more (suc d) l f = refl
+
+pub statement-first : (s : List ℕ) (k : ℕ) → k < length s → parseStatement (drop k s) ≡ byFirst (getD s k 0) (drop k s)
+unfolding parseStatement
+statement-first s k h = rw (at-byte s k h)

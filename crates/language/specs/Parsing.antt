@@ -56,6 +56,11 @@ abbrev pub either : {A : Type 0} → Parsed A → Parsed A → Parsed A
 either (found a t) q = found a t
 either misspelled q = q
 
+-- the first reader where the test holds, else the second
+abbrev pub pick : {A : Type 0} → Bool → Parsed A → Parsed A → Parsed A
+pick true p q = p
+pick false p q = q
+
 -- past the word
 unfoldable pub parseWord : List ℕ → List ℕ → Parsed Unit
 parseWord [] l = found tt l
@@ -66,6 +71,11 @@ parseWord (w ∷ ws) (c ∷ l) = where? (eqb c w) (parseWord ws l)
 abbrev pub parsedWord : List ℕ → WordRead → Parsed Unit
 parsedWord s (word.Found k) = found tt (drop k s)
 parsedWord s word.Misspelled = misspelled
+
+-- in each `..End`: the position after what was found
+abbrev pub wordEnd : WordRead → ℕ
+wordEnd (word.Found k) = k
+wordEnd word.Misspelled = 0
 
 abbrev pub pickDigit : Bool → Digit → Digit
 pickDigit true d = d
@@ -101,6 +111,10 @@ abbrev pub parsedNumber : List ℕ → NumberRead → Parsed ℕ
 parsedNumber s (number.Found n k) = found n (drop k s)
 parsedNumber s number.Misspelled = misspelled
 
+abbrev pub numberEnd : NumberRead → ℕ
+numberEnd (number.Found a k) = k
+numberEnd number.Misspelled = 0
+
 abbrev pub parseConstant : List ℕ → Parsed ℕ
 parseConstant l = parseNumber l
 
@@ -117,6 +131,10 @@ abbrev pub parsedVariable : List ℕ → VariableRead → Parsed ℕ
 parsedVariable s (variable.Found x k) = found x (drop k s)
 parsedVariable s variable.Misspelled = misspelled
 
+abbrev pub variableEnd : VariableRead → ℕ
+variableEnd (variable.Found a k) = k
+variableEnd variable.Misspelled = 0
+
 unfoldable pub parseOperand : List ℕ → Parsed Operand
 parseOperand l =
     either
@@ -126,6 +144,10 @@ parseOperand l =
 abbrev pub parsedOperand : List ℕ → OperandRead → Parsed Operand
 parsedOperand s (operand.Found a k) = found a (drop k s)
 parsedOperand s operand.Misspelled = misspelled
+
+abbrev pub operandEnd : OperandRead → ℕ
+operandEnd (operand.Found a k) = k
+operandEnd operand.Misspelled = 0
 
 unfoldable pub parseOperator : List ℕ → Parsed Operator
 parseOperator [] = misspelled
@@ -139,6 +161,10 @@ parseOperator (c ∷ l) =
 abbrev pub parsedOperator : List ℕ → OperatorRead → Parsed Operator
 parsedOperator s (operator.Found o k) = found o (drop k s)
 parsedOperator s operator.Misspelled = misspelled
+
+abbrev pub operatorEnd : OperatorRead → ℕ
+operatorEnd (operator.Found a k) = k
+operatorEnd operator.Misspelled = 0
 
 unfoldable pub parseExpression : List ℕ → Parsed Expression
 parseExpression l =
@@ -155,9 +181,17 @@ abbrev pub parsedExpression : List ℕ → ExpressionRead → Parsed Expression
 parsedExpression s (expression.Found e k) = found e (drop k s)
 parsedExpression s expression.Misspelled = misspelled
 
+abbrev pub expressionEnd : ExpressionRead → ℕ
+expressionEnd (expression.Found a k) = k
+expressionEnd expression.Misspelled = 0
+
 abbrev pub parsedStatement : List ℕ → StatementRead → Parsed Statement
 parsedStatement s (statement.Found e k) = found e (drop k s)
 parsedStatement s statement.Misspelled = misspelled
+
+abbrev pub statementEnd : StatementRead → ℕ
+statementEnd (statement.Found a k) = k
+statementEnd statement.Misspelled = 0
 
 unfoldable pub parseRead : List ℕ → Parsed Statement
 parseRead l = after (parseWord read-word l) λ _ t. after (parseVariable t) λ x u. found (Read x) u
@@ -185,8 +219,20 @@ parseBranch l =
     after (parseStatementNumber y) λ m z.
     found (Branch x n m) z
 
+unfoldable pub parseAssignOrBranch : List ℕ → Parsed Statement
+parseAssignOrBranch l = either (parseAssign l) (parseBranch l)
+
+-- a statement by its first byte: `r`, `w`, `s` or `i`
+unfoldable pub byFirst : ℕ → List ℕ → Parsed Statement
+byFirst c l =
+    pick (eqb c 114) (parseRead l)
+    (pick (eqb c 119) (parseWrite l)
+    (pick (eqb c 115) (parseSkip l)
+    (where? (eqb c 105) (parseAssignOrBranch l))))
+
 unfoldable pub parseStatement : List ℕ → Parsed Statement
-parseStatement l = either (parseRead l) (either (parseWrite l) (either (parseSkip l) (either (parseAssign l) (parseBranch l))))
+parseStatement [] = misspelled
+parseStatement (c ∷ l) = byFirst c (c ∷ l)
 
 -- a statement with its byte 10
 unfoldable pub parseLine : List ℕ → Parsed Statement

@@ -1,10 +1,10 @@
 // Small readers: each takes what stands at a position of a text, and answers the value and the position after it.
 ghost use mathlib.Core.Path.{_≡_};
-ghost use lib.ListN.{drop};
-ghost use Prim.Native.Nat.{_≤_};
+ghost use lib.ListN.{length, drop};
+ghost use Prim.Native.Nat.{_≤_, _<_};
 ghost use Rattle.language.specs.Spelling.{largest};
 ghost use Rattle.language.specs.Reading.{LineRead};
-ghost use Rattle.language.specs.Parsing.{parseWord, parsedWord, digitOf, parseZero, parseDigits, parseNumber, parsedNumber, parseConstant, parseStatementNumber, parseVariable, parsedVariable, parseOperand, parsedOperand, parseOperator, parsedOperator, parseExpression, parsedExpression, parseRead, parseWrite, parseSkip, parseAssign, parseBranch, parseStatement, parseLine, parsedStatement};
+ghost use Rattle.language.specs.Parsing.{parseWord, parsedWord, wordEnd, digitOf, parseZero, parseDigits, parseNumber, parsedNumber, numberEnd, parseConstant, parseStatementNumber, parseVariable, parsedVariable, variableEnd, parseOperand, parsedOperand, operandEnd, parseOperator, parsedOperator, operatorEnd, parseExpression, parsedExpression, expressionEnd, parseRead, parseWrite, parseSkip, parseAssign, parseBranch, parseAssignOrBranch, parseStatement, parseLine, parsedStatement, statementEnd};
 use crate::Expression;
 use crate::LARGEST;
 use crate::Operand;
@@ -55,6 +55,7 @@ pub enum StatementRead {
 // The position after the word w, where it stands at the position.
 pub fn word(s: &[u8], at: usize, w: &[u8]) -> WordRead
     ensures { λ r. ⌜ parsedWord (now (s .entry)) r ≡ parseWord (now (w .entry)) (drop at (now (s .entry))) ⌝ }
+    ensures { λ r. ⌜ (0 < length (now (w .entry)) → wordEnd r ≤ length (now (s .entry))) ⌝ }
 {
     let mut k = at;
     let mut i: usize = 0;
@@ -87,6 +88,7 @@ fn digit_of(c: u8) -> Digit
 // A decimal number of document 01, with all the digits that follow one another there.
 pub fn number(s: &[u8], at: usize) -> NumberRead
     ensures { λ r. ⌜ parsedNumber (now (s .entry)) r ≡ parseNumber (drop at (now (s .entry))) ⌝ }
+    ensures { λ r. ⌜ numberEnd r ≤ length (now (s .entry)) ⌝ }
 {
     if s.len() <= at {
         return NumberRead::Misspelled;
@@ -102,7 +104,9 @@ pub fn number(s: &[u8], at: usize) -> NumberRead
 
 // The number 0, unless a digit follows.
 fn zero(s: &[u8], at: usize) -> NumberRead
+    requires { ⌜ at ≤ length (now s) ⌝ }
     ensures { λ r. ⌜ parsedNumber (now (s .entry)) r ≡ parseZero (drop at (now (s .entry))) ⌝ }
+    ensures { λ r. ⌜ numberEnd r ≤ length (now (s .entry)) ⌝ }
 {
     if s.len() <= at {
         return NumberRead::Found(0, at);
@@ -115,8 +119,10 @@ fn zero(s: &[u8], at: usize) -> NumberRead
 
 // The digits that follow the number read so far.
 fn digits(s: &[u8], at: usize, first: u64) -> NumberRead
+    requires { ⌜ at ≤ length (now s) ⌝ }
     requires { ⌜ first ≤ largest ⌝ }
     ensures { λ r. ⌜ parsedNumber (now (s .entry)) r ≡ parseDigits first (drop at (now (s .entry))) ⌝ }
+    ensures { λ r. ⌜ numberEnd r ≤ length (now (s .entry)) ⌝ }
 {
     let mut n = first;
     let mut k = at;
@@ -133,20 +139,23 @@ fn digits(s: &[u8], at: usize, first: u64) -> NumberRead
     NumberRead::Found(n as u32, k)
 }
 
-pub fn constant(s: &[u8], at: usize) -> NumberRead
+fn constant(s: &[u8], at: usize) -> NumberRead
     ensures { λ r. ⌜ parsedNumber (now (s .entry)) r ≡ parseConstant (drop at (now (s .entry))) ⌝ }
+    ensures { λ r. ⌜ numberEnd r ≤ length (now (s .entry)) ⌝ }
 {
     number(s, at)
 }
 
 pub fn statement_number(s: &[u8], at: usize) -> NumberRead
     ensures { λ r. ⌜ parsedNumber (now (s .entry)) r ≡ parseStatementNumber (drop at (now (s .entry))) ⌝ }
+    ensures { λ r. ⌜ numberEnd r ≤ length (now (s .entry)) ⌝ }
 {
     number(s, at)
 }
 
 pub fn variable(s: &[u8], at: usize) -> VariableRead
     ensures { λ r. ⌜ parsedVariable (now (s .entry)) r ≡ parseVariable (drop at (now (s .entry))) ⌝ }
+    ensures { λ r. ⌜ variableEnd r ≤ length (now (s .entry)) ⌝ }
 {
     let WordRead::Found(k) = word(s, at, b"i") else {
         return VariableRead::Misspelled;
@@ -163,18 +172,20 @@ pub fn variable(s: &[u8], at: usize) -> VariableRead
 
 pub fn operand(s: &[u8], at: usize) -> OperandRead
     ensures { λ r. ⌜ parsedOperand (now (s .entry)) r ≡ parseOperand (drop at (now (s .entry))) ⌝ }
+    ensures { λ r. ⌜ operandEnd r ≤ length (now (s .entry)) ⌝ }
 {
-    if let NumberRead::Found(n, k) = constant(s, at) {
-        return OperandRead::Found(Operand::Constant(n), k);
-    }
-    let VariableRead::Found(x, k) = variable(s, at) else {
-        return OperandRead::Misspelled;
+    let NumberRead::Found(n, k) = constant(s, at) else {
+        let VariableRead::Found(x, j) = variable(s, at) else {
+            return OperandRead::Misspelled;
+        };
+        return OperandRead::Found(Operand::Variable(x), j);
     };
-    OperandRead::Found(Operand::Variable(x), k)
+    OperandRead::Found(Operand::Constant(n), k)
 }
 
-pub fn operator(s: &[u8], at: usize) -> OperatorRead
+fn operator(s: &[u8], at: usize) -> OperatorRead
     ensures { λ r. ⌜ parsedOperator (now (s .entry)) r ≡ parseOperator (drop at (now (s .entry))) ⌝ }
+    ensures { λ r. ⌜ operatorEnd r ≤ length (now (s .entry)) ⌝ }
 {
     if s.len() <= at {
         return OperatorRead::Misspelled;
@@ -193,6 +204,7 @@ pub fn operator(s: &[u8], at: usize) -> OperatorRead
 
 pub fn expression(s: &[u8], at: usize) -> ExpressionRead
     ensures { λ r. ⌜ parsedExpression (now (s .entry)) r ≡ parseExpression (drop at (now (s .entry))) ⌝ }
+    ensures { λ r. ⌜ expressionEnd r ≤ length (now (s .entry)) ⌝ }
 {
     let OperandRead::Found(a, k) = operand(s, at) else {
         return ExpressionRead::Misspelled;
@@ -214,6 +226,7 @@ pub fn expression(s: &[u8], at: usize) -> ExpressionRead
 
 fn read_statement(s: &[u8], at: usize) -> StatementRead
     ensures { λ r. ⌜ parsedStatement (now (s .entry)) r ≡ parseRead (drop at (now (s .entry))) ⌝ }
+    ensures { λ r. ⌜ statementEnd r ≤ length (now (s .entry)) ⌝ }
 {
     let WordRead::Found(k) = word(s, at, b"read ") else {
         return StatementRead::Misspelled;
@@ -226,6 +239,7 @@ fn read_statement(s: &[u8], at: usize) -> StatementRead
 
 fn write_statement(s: &[u8], at: usize) -> StatementRead
     ensures { λ r. ⌜ parsedStatement (now (s .entry)) r ≡ parseWrite (drop at (now (s .entry))) ⌝ }
+    ensures { λ r. ⌜ statementEnd r ≤ length (now (s .entry)) ⌝ }
 {
     let WordRead::Found(k) = word(s, at, b"write ") else {
         return StatementRead::Misspelled;
@@ -238,6 +252,7 @@ fn write_statement(s: &[u8], at: usize) -> StatementRead
 
 fn skip_statement(s: &[u8], at: usize) -> StatementRead
     ensures { λ r. ⌜ parsedStatement (now (s .entry)) r ≡ parseSkip (drop at (now (s .entry))) ⌝ }
+    ensures { λ r. ⌜ statementEnd r ≤ length (now (s .entry)) ⌝ }
 {
     let WordRead::Found(k) = word(s, at, b"skip") else {
         return StatementRead::Misspelled;
@@ -247,6 +262,7 @@ fn skip_statement(s: &[u8], at: usize) -> StatementRead
 
 fn assignment(s: &[u8], at: usize) -> StatementRead
     ensures { λ r. ⌜ parsedStatement (now (s .entry)) r ≡ parseAssign (drop at (now (s .entry))) ⌝ }
+    ensures { λ r. ⌜ statementEnd r ≤ length (now (s .entry)) ⌝ }
 {
     let VariableRead::Found(x, k) = variable(s, at) else {
         return StatementRead::Misspelled;
@@ -262,6 +278,7 @@ fn assignment(s: &[u8], at: usize) -> StatementRead
 
 fn branch(s: &[u8], at: usize) -> StatementRead
     ensures { λ r. ⌜ parsedStatement (now (s .entry)) r ≡ parseBranch (drop at (now (s .entry))) ⌝ }
+    ensures { λ r. ⌜ statementEnd r ≤ length (now (s .entry)) ⌝ }
 {
     let WordRead::Found(k) = word(s, at, b"if ") else {
         return StatementRead::Misspelled;
@@ -284,27 +301,38 @@ fn branch(s: &[u8], at: usize) -> StatementRead
     StatementRead::Found(Statement::Branch(x, n, m), k5)
 }
 
+// What begins with `i`: an assignment, or else a branch.
+fn assignment_or_branch(s: &[u8], at: usize) -> StatementRead
+    ensures { λ r. ⌜ parsedStatement (now (s .entry)) r ≡ parseAssignOrBranch (drop at (now (s .entry))) ⌝ }
+    ensures { λ r. ⌜ statementEnd r ≤ length (now (s .entry)) ⌝ }
+{
+    let StatementRead::Found(e, k) = assignment(s, at) else {
+        return branch(s, at);
+    };
+    StatementRead::Found(e, k)
+}
+
 pub fn statement(s: &[u8], at: usize) -> StatementRead
     ensures { λ r. ⌜ parsedStatement (now (s .entry)) r ≡ parseStatement (drop at (now (s .entry))) ⌝ }
+    ensures { λ r. ⌜ statementEnd r ≤ length (now (s .entry)) ⌝ }
 {
-    if let StatementRead::Found(e, k) = read_statement(s, at) {
-        return StatementRead::Found(e, k);
+    if s.len() <= at {
+        return StatementRead::Misspelled;
     }
-    if let StatementRead::Found(e, k) = write_statement(s, at) {
-        return StatementRead::Found(e, k);
+    let c = s[at];
+    match c {
+        b'r' => read_statement(s, at),
+        b'w' => write_statement(s, at),
+        b's' => skip_statement(s, at),
+        b'i' => assignment_or_branch(s, at),
+        _ => StatementRead::Misspelled,
     }
-    if let StatementRead::Found(e, k) = skip_statement(s, at) {
-        return StatementRead::Found(e, k);
-    }
-    if let StatementRead::Found(e, k) = assignment(s, at) {
-        return StatementRead::Found(e, k);
-    }
-    branch(s, at)
 }
 
 // A statement and its byte 10.
 fn ended_statement(s: &[u8], at: usize) -> StatementRead
     ensures { λ r. ⌜ parsedStatement (now (s .entry)) r ≡ parseLine (drop at (now (s .entry))) ⌝ }
+    ensures { λ r. ⌜ statementEnd r ≤ length (now (s .entry)) ⌝ }
 {
     let StatementRead::Found(e, k) = statement(s, at) else {
         return StatementRead::Misspelled;

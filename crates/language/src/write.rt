@@ -43,14 +43,14 @@ pub fn number(out: &mut [u8], at: usize, n: u32) -> usize
     }
 }
 
-pub fn constant(out: &mut [u8], at: usize, n: u32) -> usize
+fn constant(out: &mut [u8], at: usize, n: u32) -> usize
     requires { ⌜ at + length (spellConstant n) ≤ length (now out) ⌝ }
     ensures { λ r. ⌜ Put (now (out .entry)) at (spellConstant n) (now (out .exit)) r ⌝ }
 {
     number(out, at, n)
 }
 
-pub fn statement_number(out: &mut [u8], at: usize, n: u32) -> usize
+fn statement_number(out: &mut [u8], at: usize, n: u32) -> usize
     requires { ⌜ at + length (spellStatementNumber n) ≤ length (now out) ⌝ }
     ensures { λ r. ⌜ Put (now (out .entry)) at (spellStatementNumber n) (now (out .exit)) r ⌝ }
 {
@@ -87,7 +87,7 @@ fn operator_byte(o: Operator) -> u8
     }
 }
 
-pub fn expression(out: &mut [u8], at: usize, e: Expression) -> usize
+fn expression(out: &mut [u8], at: usize, e: Expression) -> usize
     requires { ⌜ at + length (spellExpression e) ≤ length (now out) ⌝ }
     ensures { λ r. ⌜ Put (now (out .entry)) at (spellExpression e) (now (out .exit)) r ⌝ }
 {

@@ -4,7 +4,9 @@ use Rattle.language.proofs.read.line.Statement.{statement}
 use Rattle.language.proofs.read.line.Tie as tie
 
 returns : tie.Need-returns
-returns c = line-right (c .before .before .args .s .now) (c .before .before .args .at) (c .ended-statement .result) (c .ended-statement .ensures)
+returns c =
+    let a = c .before .before .args in
+    line-right (a .s .now) (a .at) (c .ended-statement .result) (c .ended-statement .ensures .1) (c .ended-statement .ensures .0)
 
 pub line-spec : {M : Type 1} → statement M
 line-spec = tie.close (tie.spec (λ c κs. search needs) returns)

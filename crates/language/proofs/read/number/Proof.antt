@@ -9,24 +9,34 @@ use Rattle.language.proofs.read.number.Tie as tie
 
 returns : tie.Need-returns
 unfolding parseNumber
-returns c = rw (at-end _ _ (c .if1 .taken))
+returns c = (rw (at-end _ _ (c .if1 .taken)), omega arith)
 
 returns-2 : tie.Need-returns-2
 unfolding parseNumber
-returns-2 c = rw (at-byte _ _ (c .before .before .before .before .if1 .left), sym (c .before .before .digit-of .ensures) ∙ c .enum-told .given .1)
+returns-2 c =
+    let l = c .before .before .before .before in
+    (rw (at-byte _ _ (l .if1 .left), sym (c .before .before .digit-of .ensures) ∙ c .enum-told .given .1), omega arith)
 
 returns-3 : tie.Need-returns-3
 unfolding parseNumber
-returns-3 c = rw (at-byte _ _ (c .before .before .before .before .before .before .before .if1 .left), sym (c .before .before .before .before .before .digit-of .ensures) ∙ c .before .before .before .first .given .1, first-zero _ _ (c .before .if2 .taken)) (c .zero .ensures)
+returns-3 c =
+    let d = c .before .before .before in
+    let l = d .before .before .before .before in
+    let e = sym (d .before .before .digit-of .ensures) ∙ d .first .given .1 in
+    (rw (at-byte _ _ (l .if1 .left), e, first-zero _ _ (c .before .if2 .taken)) (c .zero .ensures .0), c .zero .ensures .1)
 
 digits-requires : tie.Need-digits-requires
 digits-requires c κs =
     let d : c .before .before .first .given .0 .0 < 10 = digit-small _ _ (sym (c .before .before .first .given .1) ∙ c .before .before .before .before .digit-of .ensures) in
-    omega arith
+    (omega arith, omega arith)
 
 returns-4 : tie.Need-returns-4
 unfolding parseNumber
-returns-4 c = rw (at-byte _ _ (c .before .before .before .before .before .before .before .if1 .left), sym (c .before .before .before .before .before .digit-of .ensures) ∙ c .before .before .before .first .given .1, first-more _ _ (c .before .if2 .left)) (c .digits .ensures)
+returns-4 c =
+    let d = c .before .before .before in
+    let l = d .before .before .before .before in
+    let e = sym (d .before .before .digit-of .ensures) ∙ d .first .given .1 in
+    (rw (at-byte _ _ (l .if1 .left), e, first-more _ _ (c .before .if2 .left)) (c .digits .ensures .0), c .digits .ensures .1)
 
 pub number-spec : {M : Type 1} → statement M
 number-spec =

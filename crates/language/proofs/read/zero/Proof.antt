@@ -1,4 +1,5 @@
--- `read_nothing` meets its contract.
+-- `zero` meets its contract.
+use native.Mathlib.Omega.{arith}
 use borrow.Author.Needs.{needs}
 use mathlib.Core.Path.{sym, _∙_}
 use Rattle.language.specs.Parsing.{parseZero}
@@ -8,15 +9,19 @@ use Rattle.language.proofs.read.zero.Tie as tie
 
 returns : tie.Need-returns
 unfolding parseZero
-returns c = rw (at-end _ _ (c .if1 .taken))
+returns c = (rw (at-end _ _ (c .if1 .taken)), omega arith)
 
 returns-2 : tie.Need-returns-2
 unfolding parseZero
-returns-2 c = rw (at-byte _ _ (c .before .before .before .before .if1 .left), sym (c .before .before .digit-of .ensures) ∙ c .enum-told2 .given .1)
+returns-2 c =
+    let l = c .before .before .before .before in
+    (rw (at-byte _ _ (l .if1 .left), sym (c .before .before .digit-of .ensures) ∙ c .enum-told2 .given .1), omega arith)
 
 returns-3 : tie.Need-returns-3
 unfolding parseZero
-returns-3 c = rw (at-byte _ _ (c .before .before .before .before .if1 .left), sym (c .before .before .digit-of .ensures) ∙ c .enum-told .given .1)
+returns-3 c =
+    let l = c .before .before .before .before in
+    (rw (at-byte _ _ (l .if1 .left), sym (c .before .before .digit-of .ensures) ∙ c .enum-told .given .1), omega arith)
 
 pub zero-spec : {M : Type 1} → statement M
 zero-spec =
