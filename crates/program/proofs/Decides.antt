@@ -1,10 +1,10 @@
 -- Tests that answer the truth of a claim. Assumes nothing.
 use mathlib.Core.Path.{_≡_, refl}
-use mathlib.Core.Bool.{Bool, true, false, not}
+use mathlib.Core.Bool.{Bool, true, false}
 use Prim.Native.Nat.{ℕ, _+_, _≤_, _<_}
 use native.Mathlib.Omega.{arith}
-use lib.Dec.{eqb, leb}
-use borrow.Author.Tests.{eqb-true, eqb-false, leb-true, leb-false, not-true, not-false}
+use lib.Dec.{eqb, leb, ltb}
+use borrow.Author.Tests.{eqb-true, eqb-false, leb-true, leb-false, ltb-true, ltb-false}
 use Rattle.program.specs.Program.{Inner, IsTarget}
 use Rattle.program.specs.Reading.{Decides}
 
@@ -27,11 +27,8 @@ decides-same false f g d = λ y. d (g y)
 pub decides-eqb : (a b : ℕ) → Decides (eqb a b) (a ≡ b)
 decides-eqb a b = decides (eqb a b) (eqb-true a b) (eqb-false a b)
 
-pub decides-inner : (s n : ℕ) → s < n → (s ≡ 0 → ⊥) → Decides (not (eqb (s + 1) n)) (Inner n s)
-decides-inner s n h z =
-    decides (not (eqb (s + 1) n))
-    (λ e. let d : s + 1 ≡ n → ⊥ = eqb-false (s + 1) n (not-true _ e) in (omega arith, omega arith))
-    (λ e i. let d : s + 1 ≡ n = eqb-true (s + 1) n (not-false _ e) in omega arith)
+pub decides-inner : (s n : ℕ) → (s ≡ 0 → ⊥) → Decides (ltb (s + 1) n) (Inner n s)
+decides-inner s n z = decides (ltb (s + 1) n) (λ e. let l = ltb-true (s + 1) n e in (omega arith, l)) (λ e i. let l = ltb-false (s + 1) n e in omega arith)
 
 pub decides-target : (t n : ℕ) → 2 ≤ t → Decides (leb t n) (IsTarget n t)
 decides-target t n h = decides (leb t n) (λ e. (h, leb-true t n e)) (λ e i. let d : n < t = leb-false t n e in omega arith)

@@ -32,7 +32,7 @@ program-taken {P = P} w Target f = f .4 (rw (text-unique P (f .0) (w .valid) (f 
 -- whatever is read from the text of a program is that program
 pub read-written : {P : List Statement} → WellFormed P → (a : Answer) (p : Program) → ProgramRead (text P) a p → (a ≡ answer.Taken) × (statements p ≡ P)
 read-written w answer.Taken p r = (refl, taken-unique (r .0) (record { lines = refl; program = w }))
-read-written w (answer.Refused f) p r = absurd (program-taken w f r)
+read-written w (answer.Refused f) p r = absurd (program-taken w f (r .0))
 
 -- targets within a program of 256 lines have three digits at most
 near : (N : ℕ) (s : Statement) → N ≤ most → Targets N s → Near s

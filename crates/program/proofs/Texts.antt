@@ -85,17 +85,17 @@ module _ (t : List ℕ) (P : List Statement) (at : ℕ) (valid : AllValid P) (fr
     -- a line is shorter by at least its byte 10
     pub line-shorter : length t - k < length t - at
     line-shorter =
-        let f = ap length ((rw is at l) .0) in
+        let f = ap length ((rw is at l) .stands) in
         let g : length t - at ≡ length (spell s) + suc (length t - k) = simp (length-append, length-drop) at f in
         omega arith
 
     pub one-more : t ≡ text (P ++ s ∷ []) ++ drop k t
     unfolding text
     one-more =
-        front ∙ ap (λ (u : List ℕ). text P ++ u) ((rw is at l) .0) ∙ rw (text-append P (s ∷ [])) (simp append-assoc)
+        front ∙ ap (λ (u : List ℕ). text P ++ u) ((rw is at l) .stands) ∙ rw (text-append P (s ∷ [])) (simp append-assoc)
 
     pub one-more-valid : AllValid (P ++ s ∷ [])
-    one-more-valid = valid-append P (s ∷ []) valid ((rw is at l) .1, tt)
+    one-more-valid = valid-append P (s ∷ []) valid ((rw is at l) .valid, tt)
 
 map-append : (P Q : List Statement) → map entry (P ++ Q) ≡ map entry P ++ map entry Q
 map-append [] Q = refl

@@ -46,7 +46,7 @@ pub record Held (p : Program) : Type 0 where
 -- each answer, and what it says of the text and of the program beside it
 abbrev pub ProgramRead : List ℕ → Answer → Program → Type 0
 ProgramRead t answer.Taken p = Taken t (statements p) × Held p
-ProgramRead t (answer.Refused r) p = Refused t r
+ProgramRead t (answer.Refused r) p = Refused t r × (p .count ≡ 0)
 
 -- a test's answer is the truth of X
 abbrev pub Decides : Bool → Type 0 → Type 0

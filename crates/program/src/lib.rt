@@ -1,10 +1,9 @@
 // Programs: a text read whole, with refusals 2 to 5, and a program written back.
 ghost use mathlib.Core.Path.{_≡_};
-ghost use mathlib.Core.Bool.{true};
-ghost use Prim.Native.Nat.{ℕ, _≤_, _<_, _+_};
-ghost use lib.ListN.{length};
+ghost use Prim.Native.Nat.{_≤_, _+_};
+ghost use lib.ListN.{length, replicate};
 ghost use Rattle.program.specs.Program.{text, most, Inner, InPlace, Placed, IsTarget, Targets, Aimed};
-ghost use Rattle.program.specs.Reading.{Decides, statements, Held, LinesRead, ProgramRead, number};
+ghost use Rattle.program.specs.Reading.{Decides, entry, statements, Held, LinesRead, ProgramRead, number};
 ghost use Rattle.language.specs.Writing.{Put};
 use language::Statement;
 use language::read::StatementRead;
@@ -52,7 +51,7 @@ struct Lines {
 
 // An array to be filled.
 fn blank() -> [Entry; MOST]
-    ensures { λ r. ⌜ length r ≡ 256 ⌝ }
+    ensures { λ r. ⌜ r ≡ replicate most (entry Statement.Skip) ⌝ }
 {
     [Entry {
         statement: Statement::Skip,
@@ -87,25 +86,36 @@ fn read_lines(s: &[u8]) -> Lines
     }
 }
 
-// Neither first nor last.
+// Place s is the last of n.
+fn last(s: usize, n: usize) -> bool
+    ensures { λ r. ⌜ Decides r (s + 1 ≡ n) ⌝ }
+{
+    if n <= s {
+        return false;
+    }
+    s + 1 == n
+}
+
+// Place s is neither the first nor the last of n.
 fn inner(s: usize, n: usize) -> bool
-    requires { ⌜ s < n ⌝ }
     ensures { λ r. ⌜ Decides r (Inner n s) ⌝ }
 {
+    if n <= s {
+        return false;
+    }
     if s == 0 {
         return false;
     }
-    s + 1 != n
+    s + 1 < n
 }
 
 // Whether the statement may stand at place s of n.
-fn in_place(e: Statement, s: usize, n: usize) -> bool
-    requires { ⌜ s < n ⌝ }
+pub fn in_place(e: Statement, s: usize, n: usize) -> bool
     ensures { λ r. ⌜ Decides r (InPlace n s e) ⌝ }
 {
     match e {
         Statement::Read(_) => s == 0,
-        Statement::Write(_) => s + 1 == n,
+        Statement::Write(_) => last(s, n),
         Statement::Assign(_, _) => inner(s, n),
         Statement::Branch(_, _, _) => inner(s, n),
         Statement::Skip => inner(s, n),
@@ -131,18 +141,16 @@ fn all_in_place(p: Program) -> bool
 }
 
 fn is_target(t: u32, n: usize) -> bool
-    requires { ⌜ n ≤ most ⌝ }
     ensures { λ r. ⌜ Decides r (IsTarget n t) ⌝ }
 {
     if t < 2 {
         return false;
     }
-    t <= n as u32
+    t as usize <= n
 }
 
-// Whether the targets of a branch lie in the program.
-fn is_aimed(e: Statement, n: usize) -> bool
-    requires { ⌜ n ≤ most ⌝ }
+// Whether the targets of a branch lie in a program of n statements.
+pub fn is_aimed(e: Statement, n: usize) -> bool
     ensures { λ r. ⌜ Decides r (Targets n e) ⌝ }
 {
     match e {
@@ -177,12 +185,17 @@ fn all_aimed(p: Program) -> bool
     true
 }
 
-fn refused(r: Refusal, p: Program) -> Reading
+// A refusal, beside a program without statements.
+fn refused(r: Refusal) -> Reading
     ensures { λ q. ⌜ q .answer ≡ Answer.Refused r ⌝ }
+    ensures { λ q. ⌜ q .program .count ≡ 0 ⌝ }
 {
     Reading {
         answer: Answer::Refused(r),
-        program: p,
+        program: Program {
+            entries: blank(),
+            count: 0,
+        },
     }
 }
 
@@ -198,19 +211,19 @@ pub fn read(s: &[u8]) -> Reading
         count: count,
     };
     if !lines.spelled {
-        return refused(Refusal::Misspelled, p);
+        return refused(Refusal::Misspelled);
     }
     if count < FEWEST {
-        return refused(Refusal::LineCount, p);
+        return refused(Refusal::LineCount);
     }
     if MOST < count {
-        return refused(Refusal::LineCount, p);
+        return refused(Refusal::LineCount);
     }
     if !all_in_place(p) {
-        return refused(Refusal::Placement, p);
+        return refused(Refusal::Placement);
     }
     if !all_aimed(p) {
-        return refused(Refusal::Target, p);
+        return refused(Refusal::Target);
     }
     Reading {
         answer: Answer::Taken,

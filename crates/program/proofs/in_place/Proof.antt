@@ -1,5 +1,5 @@
+-- `in_place` meets its contract. Assumes nothing.
 use borrow.Author.Needs.{needs}
-use Prim.Native.Nat.{_+_}
 use Rattle.program.proofs.Decides.{decides-eqb}
 use Rattle.program.proofs.in_place.Statement.{statement}
 use Rattle.program.proofs.in_place.Tie as tie
@@ -8,7 +8,7 @@ returns : tie.Need-returns
 returns c = rw (c .enum-told .given .1) (decides-eqb (c .before .before .args .s) 0)
 
 returns-2 : tie.Need-returns-2
-returns-2 c = rw (c .enum-told2 .given .1) (decides-eqb (c .before .before .args .s + 1) (c .before .before .args .n))
+returns-2 c = rw (c .before .enum-told2 .given .1) (c .last .ensures)
 
 returns-3 : tie.Need-returns-3
 returns-3 c = rw (c .before .enum-told3 .given .1) (c .inner .ensures)
@@ -25,7 +25,7 @@ in-place-spec =
     (tie.spec
     (λ c. search needs)
     (λ c. search needs)
-    (λ c. search needs)
+    (λ c κs. search needs)
     (λ c. search needs)
     (λ c κs. search needs)
     (λ c. search needs)

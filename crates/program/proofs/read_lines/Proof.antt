@@ -6,8 +6,9 @@ use mathlib.Core.Logic.{⊎-elim}
 use Prim.Native.Nat.{ℕ, _+_, _-_, _≤_, _<_}
 use native.Mathlib.Omega.{arith}
 use borrow.Author.Needs.{needs}
-use lib.ListN.{length, take, drop, set, length-append, length-set, drop-of-length-le}
+use lib.ListN.{length, take, drop, set, length-append, length-set, length-replicate, drop-of-length-le}
 use Rattle.language.specs.declared.Statement.{Statement}
+use Rattle.language.specs.declared.Statement.the-variants.{Skip}
 use Rattle.program.specs.declared.Entry.{Entry}
 use Rattle.program.specs.Program.{text, AllValid, most}
 use Rattle.program.specs.Reading.{entry}
@@ -32,7 +33,7 @@ abbrev μ-loop : tie.MeasureT-loop
 
 loop-holds : tie.Need-loop-holds Inv-loop μ-loop
 unfolding text
-loop-holds c = record { P = []; front = refl; valid = tt; counted = refl; kept = refl; room = c .blank .ensures; paid = omega arith }
+loop-holds c = record { P = []; front = refl; valid = tt; counted = refl; kept = refl; room = ap length (c .blank .ensures) ∙ length-replicate most (entry Skip); paid = omega arith }
 
 returns : tie.Need-returns Inv-loop μ-loop
 returns c =
