@@ -1,4 +1,3 @@
 pub mod Lines
 pub mod Blames
-pub mod Places
 pub mod Unique

@@ -1,4 +1,4 @@
--- A refusal is about one line only. Assumes nothing.
+-- A refusal is about one line only, and one line is told of each text. Assumes nothing.
 use mathlib.Core.Path.{_≡_, refl, ap, sym, _∙_}
 use mathlib.Core.Bool.{Bool, true, false}
 use mathlib.Core.List.{List, [], _∷_, _++_, append-assoc}
@@ -14,7 +14,8 @@ use Rattle.program.specs.Program.{text, AllValid}
 use Rattle.program.specs.declared.Refusal.{Refusal}
 use Rattle.program.specs.declared.Refusal.the-variants.{Misspelled, LineCount, Placement, Target}
 use Rattle.program.proofs.Texts.{text-unique}
-use Rattle.blame.specs.Blame.{lineAt, FirstMisspelled, FirstBroken, Blames}
+use Rattle.blame.specs.Blame.{lineAt, FirstMisspelled, FirstBroken, Blames, LineTold, misspelled, broken, none}
+use Rattle.blame.proofs.Blames.{not-spelled, none-of}
 
 -- no line begins there
 abbrev Stops : List ℕ → Type 0
@@ -40,7 +41,7 @@ broken-before : {C : ℕ → ℕ → Statement → Type 0} {t : List ℕ} {m n :
 broken-before {C = C} a b e h = a .broken (rw e (b .before (a .s) h))
 
 broken-unique : {C : ℕ → ℕ → Statement → Type 0} {t : List ℕ} {m n : ℕ} → FirstBroken C t m → FirstBroken C t n → m ≡ n
-broken-unique a b = a .line ∙ ap (λ (s : ℕ). s + 1) (go (ltb (a .s) (b .s)) refl (ltb (b .s) (a .s)) refl) ∙ sym (b .line)
+broken-unique a b = a .line ∙ ap lineAt (go (ltb (a .s) (b .s)) refl (ltb (b .s) (a .s)) refl) ∙ sym (b .line)
   where
     e : a .P ≡ b .P
     e = text-unique (a .P) (b .P) (a .spells .valid) (b .spells .valid) (sym (a .spells .lines) ∙ b .spells .lines)
@@ -55,3 +56,15 @@ blames-unique t Misspelled a b = misspelled-unique a b
 blames-unique t LineCount a b = a ∙ sym b
 blames-unique t Placement a b = broken-unique a b
 blames-unique t Target a b = broken-unique a b
+
+-- one line only is told of a text
+pub told-unique : {t : List ℕ} {r : Refusal} {m n : ℕ} → LineTold t r m → LineTold t r n → m ≡ n
+told-unique (misspelled a) (misspelled b) = misspelled-unique a b
+told-unique (misspelled a) (broken b) = absurd (not-spelled a (b .P) (b .spells))
+told-unique (misspelled a) (none b i) = absurd (not-spelled a (b .P) (b .spells))
+told-unique (broken a) (misspelled b) = absurd (not-spelled b (a .P) (a .spells))
+told-unique (broken a) (broken b) = broken-unique a b
+told-unique (broken a) (none b i) = absurd (a .broken (none-of b (a .P) (a .spells) (a .s) (a .inside)))
+told-unique (none a i) (misspelled b) = absurd (not-spelled b (a .P) (a .spells))
+told-unique (none a i) (broken b) = absurd (b .broken (none-of a (b .P) (b .spells) (b .s) (b .inside)))
+told-unique (none a i) (none b j) = i ∙ sym j

@@ -6,6 +6,7 @@ use lib.ListN.{length}
 use Rattle.language.specs.Spelling.{spell, Valid}
 use Rattle.language.specs.declared.Statement.{Statement}
 use Rattle.program.specs.Program.{text, AllValid, Spells, at, InPlace, Targets}
+use Rattle.program.specs.Reading.{Refused, number}
 use Rattle.program.specs.declared.Refusal.{Refusal}
 use Rattle.program.specs.declared.Refusal.the-variants.{Misspelled, LineCount, Placement, Target}
 
@@ -34,7 +35,13 @@ pub record FirstBroken (Claim : ℕ → ℕ → Statement → Type 0) (t : List 
   pub inside : s < length P
   pub broken : Claim (length P) s (at P s) → ⊥
   pub before : (j : ℕ) → j < s → Claim (length P) j (at P j)
-  pub line : n ≡ s + 1
+  pub line : n ≡ lineAt s
+
+-- the claim holds of each statement
+pub record NoneBroken (Claim : ℕ → ℕ → Statement → Type 0) (t : List ℕ) : Type 0 where
+  pub P : List Statement
+  pub spells : Spells t P
+  pub each : (j : ℕ) → j < length P → Claim (length P) j (at P j)
 
 -- what each refusal asks of a statement; the first two ask it of the text
 abbrev pub Rule : Refusal → ℕ → ℕ → Statement → Type 0
@@ -49,3 +56,20 @@ Blames t Misspelled n = FirstMisspelled t n
 Blames t LineCount n = n ≡ 0
 Blames t Placement n = FirstBroken (Rule Placement) t n
 Blames t Target n = FirstBroken (Rule Target) t n
+
+-- the line told of any text for the refusal r, whether or not the text gets it: the first that isn't spelled; else the first whose
+-- statement isn't as r asks; else 0
+pub data LineTold (t : List ℕ) (r : Refusal) (n : ℕ) : Type 0 where
+  misspelled : FirstMisspelled t n → LineTold t r n
+  broken : FirstBroken (Rule r) t n → LineTold t r n
+  none : NoneBroken (Rule r) t → n ≡ 0 → LineTold t r n
+
+-- the line told of any text for the refusal with number n; 0 where no refusal of a program has it
+pub record NumberTold (t : List ℕ) (n line : ℕ) : Type 0 where
+  pub told : (r : Refusal) → n ≡ number r → LineTold t r line
+  pub other : ((r : Refusal) → n ≡ number r → ⊥) → line ≡ 0
+
+-- the refusal with number n of the text t is about this line; 0 where no refusal of a program has that number
+pub record Blamed (t : List ℕ) (n line : ℕ) : Type 0 where
+  pub about : (r : Refusal) → n ≡ number r → Refused t r → Blames t r line
+  pub other : ((r : Refusal) → n ≡ number r → ⊥) → line ≡ 0

@@ -1,12 +1,12 @@
 // Which line of a program's text a refusal is about.
 ghost use mathlib.Core.Path.{_≡_};
 ghost use mathlib.Core.List.{List};
-ghost use Prim.Native.Nat.{_+_};
 ghost use lib.ListN.{length};
 ghost use Rattle.language.specs.declared.Statement.{Statement as Meant};
-ghost use Rattle.program.specs.Program.{Spells, Inner, IsTarget};
-ghost use Rattle.program.specs.Reading.{Decides, Refused};
-ghost use Rattle.blame.specs.Blame.{lineAt, Rule, Blames};
+ghost use Rattle.program.specs.Program.{Spells};
+ghost use Rattle.program.specs.Reading.{Decides};
+ghost use Rattle.blame.specs.Blame.{lineAt, Rule, LineTold, NumberTold};
+ghost use Rattle.blame.specs.Counting.{CountTold};
 use language::Statement;
 use language::read::StatementRead;
 use program::Refusal;
@@ -25,81 +25,25 @@ fn line_at(s: usize) -> u32
     }
 }
 
-// How many lines a text has whose lines are all spelled.
-fn count_lines(s: &[u8]) -> usize
-    ensures { λ r. ⌜ ((P : List Meant) → Spells (now (s .entry)) P → r ≡ length P) ⌝ }
+// The number of a text's lines, or of the first that isn't spelled.
+pub enum Counted {
+    Lines(usize),
+    Misspelled(u32),
+}
+
+fn count_lines(s: &[u8]) -> Counted
+    ensures { λ r. ⌜ CountTold (now (s .entry)) r ⌝ }
 {
     let mut n: usize = 0;
     let mut at: usize = 0;
     while at < s.len() {
         let StatementRead::Found(_, k) = language::read::line(s, at) else {
-            return n;
+            return Counted::Misspelled(line_at(n));
         };
         n += 1;
         at = k;
     }
-    n
-}
-
-// Place s is the last of n.
-fn last(s: usize, n: usize) -> bool
-    ensures { λ r. ⌜ Decides r (s + 1 ≡ n) ⌝ }
-{
-    if n <= s {
-        return false;
-    }
-    s + 1 == n
-}
-
-// Place s is neither the first nor the last of n.
-fn inner(s: usize, n: usize) -> bool
-    ensures { λ r. ⌜ Decides r (Inner n s) ⌝ }
-{
-    if n <= s {
-        return false;
-    }
-    if s == 0 {
-        return false;
-    }
-    s + 1 < n
-}
-
-fn in_place(e: Statement, s: usize, n: usize) -> bool
-    ensures { λ r. ⌜ Decides r (Rule Refusal.Placement n s e) ⌝ }
-{
-    match e {
-        Statement::Read(_) => s == 0,
-        Statement::Write(_) => last(s, n),
-        Statement::Assign(_, _) => inner(s, n),
-        Statement::Branch(_, _, _) => inner(s, n),
-        Statement::Skip => inner(s, n),
-    }
-}
-
-fn is_target(t: u32, n: usize) -> bool
-    ensures { λ r. ⌜ Decides r (IsTarget n t) ⌝ }
-{
-    if t < 2 {
-        return false;
-    }
-    t as usize <= n
-}
-
-fn is_aimed(e: Statement, s: usize, n: usize) -> bool
-    ensures { λ r. ⌜ Decides r (Rule Refusal.Target n s e) ⌝ }
-{
-    match e {
-        Statement::Read(_) => true,
-        Statement::Write(_) => true,
-        Statement::Assign(_, _) => true,
-        Statement::Branch(_, a, b) => {
-            if !is_target(a, n) {
-                return false;
-            }
-            is_target(b, n)
-        }
-        Statement::Skip => true,
-    }
+    Counted::Lines(n)
 }
 
 // Whether the statement at place s of n is as the refusal asks.
@@ -109,16 +53,15 @@ fn keeps(r: Refusal, e: Statement, s: usize, n: usize) -> bool
     match r {
         Refusal::Misspelled => true,
         Refusal::LineCount => true,
-        Refusal::Placement => in_place(e, s, n),
-        Refusal::Target => is_aimed(e, s, n),
+        Refusal::Placement => program::in_place(e, s, n),
+        Refusal::Target => program::is_aimed(e, n),
     }
 }
 
-// The number of the line that the refusal of the text is about; 0 where it is about none.
-pub fn line_of(text: &[u8], r: Refusal) -> u32
-    ensures { λ n. ⌜ (Refused (now (text .entry)) r → Blames (now (text .entry)) r n) ⌝ }
+// The line of the first statement of n that isn't as the refusal asks; 0 where each is.
+fn first_broken(text: &[u8], r: Refusal, n: usize) -> u32
+    ensures { λ line. ⌜ ((P : List Meant) → Spells (now (text .entry)) P → n ≡ length P → LineTold (now (text .entry)) r line) ⌝ }
 {
-    let n = count_lines(text);
     let mut s: usize = 0;
     let mut at: usize = 0;
     while at < text.len() {
@@ -132,4 +75,28 @@ pub fn line_of(text: &[u8], r: Refusal) -> u32
         at = k;
     }
     0
+}
+
+// The number of the line that the refusal of the text is about; 0 where it is about none.
+pub fn line_of(text: &[u8], r: Refusal) -> u32
+    ensures { λ line. ⌜ LineTold (now (text .entry)) r line ⌝ }
+{
+    let counted = count_lines(text);
+    match counted {
+        Counted::Misspelled(line) => line,
+        Counted::Lines(n) => first_broken(text, r, n),
+    }
+}
+
+// The line that the refusal with number n is about; 0 where no refusal of a program has it.
+pub fn line_of_number(text: &[u8], n: u8) -> u32
+    ensures { λ line. ⌜ NumberTold (now (text .entry)) n line ⌝ }
+{
+    match n {
+        2 => line_of(text, Refusal::Misspelled),
+        3 => line_of(text, Refusal::LineCount),
+        4 => line_of(text, Refusal::Placement),
+        5 => line_of(text, Refusal::Target),
+        _ => 0,
+    }
 }

@@ -1,11 +1,10 @@
 -- `count_lines` meets its contract. The invariant: n lines end at the position. Assumes nothing.
-use mathlib.Core.Path.{ap, sym, _∙_}
 use Prim.Native.Nat.{_-_}
 use native.Mathlib.Omega.{arith}
 use lib.ListN.{length}
 use borrow.Author.Needs.{needs}
-use Rattle.program.proofs.Texts.{text-unique}
-use Rattle.blame.proofs.Lines.{SoFar, none-yet, whole, stuck, further, one-line}
+use Rattle.blame.proofs.Lines.{SoFar, none-yet, whole, further, one-line}
+use Rattle.blame.proofs.Blames.{first-misspelled}
 use Rattle.blame.proofs.count_lines.Statement.{statement}
 use Rattle.blame.proofs.count_lines.Tie as tie
 
@@ -19,7 +18,9 @@ loop-holds : tie.Need-loop-holds Inv-loop μ-loop
 loop-holds c = none-yet _
 
 returns : tie.Need-returns Inv-loop μ-loop
-returns c = λ P p. absurd (stuck (c .before .before .before .before .loop .inv) (c .before .before .line .ensures) (c .enum-told .given .1) (c .before .before .before .loop-test .taken) P p)
+returns c =
+    let l = c .before .before .before in
+    first-misspelled (l .before .before .loop .inv) (l .line .ensures) (c .before .enum-told .given .1) (l .before .loop-test .taken) (c .line-at .ensures)
 
 add-n : tie.Need-add-n Inv-loop μ-loop
 add-n c = let i = c .before .before .before .before .before .loop .inv in let p = i .paid in let f = further i (c .before .before .before .line .ensures) (c .before .k .given .1) in omega arith
@@ -31,10 +32,7 @@ loop-again : tie.Need-loop-again Inv-loop μ-loop
 loop-again c = one-line (c .before .before .before .before .before .loop .inv) (c .before .before .before .line .ensures) (c .before .k .given .1)
 
 returns-2 : tie.Need-returns-2 Inv-loop μ-loop
-returns-2 c = λ P p.
-    let i = c .before .loop .inv in
-    let w = whole i (c .loop-test .left) in
-    i .counted ∙ ap length (text-unique (i .P) P (i .valid) (p .valid) (sym (w .lines) ∙ p .lines))
+returns-2 c = let i = c .before .loop .inv in (i .P, whole i (c .loop-test .left), i .counted)
 
 pub count-lines-spec : {M : Type 1} → statement M
 count-lines-spec =
@@ -46,6 +44,7 @@ count-lines-spec =
     (λ c κs. search needs)
     (λ c. search needs)
     (λ c. search needs)
+    (λ c κs. search needs)
     returns
     add-n
     loop-less
