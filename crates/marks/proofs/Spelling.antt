@@ -1,17 +1,15 @@
 -- Reading undoes spelling, and the other way round: marks and their lines. Assumes nothing.
 use mathlib.Core.Path.{_≡_, refl, ap, sym, _∙_}
 use mathlib.Core.List.{List, [], _∷_, _++_, append-assoc}
-use Prim.Native.Nat.{ℕ, _+_, _≤_, _<_}
+use Prim.Native.Nat.{ℕ, _≤_}
 use native.Mathlib.Omega.{arith}
-use lib.ListN.{length, drop, getD}
+use lib.ListN.{length, drop}
 use Rattle.language.specs.declared.Operand.{Operand}
 use Rattle.language.specs.declared.Expression.{Expression}
 use Rattle.language.specs.Spelling.{digits, spellVariable, ValidVariable, spellOperand, ValidOperand, spellExpression, ValidExpression}
 use Rattle.language.specs.Parsing.{Parsed, found, misspelled, parseWord, digitOf, parseNumber, parseVariable, parseOperand, parseExpression}
-use Rattle.language.specs.declared.read.WordRead.the-variants as word
 use Rattle.language.proofs.Numbers.{number-sound, number-complete}
 use Rattle.language.proofs.Parse.{after-inv, either-inv, skip-sound}
-use Rattle.language.proofs.Steps.{skip-end, skip-other, skip-same, skip-done}
 use Rattle.language.proofs.Lines.{variable-sound, variable-complete, operand-sound, operand-complete, expression-sound, expression-complete}
 use Rattle.marks.specs.declared.Mark.{Mark}
 use Rattle.marks.specs.declared.Mark.the-variants.{Rm, Rpl}
@@ -19,7 +17,7 @@ use Rattle.marks.specs.declared.read.MarkRead.{MarkRead}
 use Rattle.marks.specs.declared.read.MarkRead.the-variants.{Found, Misspelled}
 use Rattle.marks.specs.Marks.{mark-word, rm-word, rpl-word, comma-word, spellMark, ValidMark}
 use Rattle.marks.specs.Reading.{MarkLineRead}
-use Rattle.marks.specs.Parsing.{parseFront, parseTail, parseRm, parseRpl, parseMark, parseMarkLine, EndTold, LineTold}
+use Rattle.marks.specs.Parsing.{parseFront, parseTail, parseRm, parseRpl, parseMark, parseMarkLine, parsedMark, markEnd}
 
 -- a mark's text after its `mark(`, with the word w and with y for E or A, and what follows it, grouped as it is read
 abbrev tail : List ℕ → ℕ → List ℕ → List ℕ → List ℕ
@@ -54,7 +52,8 @@ unfolding parseMark parseWord digitOf
 mark-complete (Rm n x e) rest v =
     ap parseMark (rm-text n x e rest) ∙ rw (number-complete n (mark-word ++ tail rm-word x (spellExpression e) rest) (v .0) refl, rm-complete n x e rest v)
 mark-complete (Rpl n x a) rest v =
-    ap parseMark (rpl-text n x a rest) ∙ rw (number-complete n (mark-word ++ tail rpl-word x (spellOperand a) rest) (v .0) refl, rm-rpl n (spellVariable x ++ (comma-word ++ (spellOperand a ++ 41 ∷ rest))), rpl-complete n x a rest v)
+    let t = spellVariable x ++ (comma-word ++ (spellOperand a ++ 41 ∷ rest)) in
+    ap parseMark (rpl-text n x a rest) ∙ rw (number-complete n (mark-word ++ (rpl-word ++ t)) (v .0) refl, rm-rpl n t, rpl-complete n x a rest v)
 
 pub line-complete : (m : Mark) (rest : List ℕ) → ValidMark m → parseMarkLine (spellMark m ++ 10 ∷ rest) ≡ found m rest
 unfolding parseMarkLine parseWord
@@ -109,23 +108,6 @@ line-sound l m u h =
     rw (← p, ← q) (i .0 ∙ rw (skip-sound (10 ∷ []) t e₂), i .1)
 
 -- the answer of `ended_mark` means what it should
-pub line-right : (s : List ℕ) (at : ℕ) (r : MarkRead) → LineTold s at r → MarkLineRead s at r
-line-right s at (Found m k) h =
-    let i = line-sound (drop at s) m (drop k s) (sym (h .told)) in
-    record { stands = i .0; within = h .within; valid = i .1 }
-line-right s at Misspelled h = λ m rest v t. let e = h .told in let z : _≡_ {A = ℕ} 0 1 = cc (line-complete m rest v) in omega arith
-
--- the byte 10 at a position of the text, as `line_end` looks for it
-module _ (s : List ℕ) (at : ℕ) where
-  pub end-missing : length s ≤ at → EndTold s at word.Misspelled
-  end-missing h = record { told = sym (skip-end (10 ∷ []) s 0 at (omega arith) h); within = tt }
-
-  pub end-other : at < length s → (getD s at 0 ≡ 10 → ⊥) → EndTold s at word.Misspelled
-  end-other h d = record { told = sym (skip-other (10 ∷ []) s 0 at (omega arith) h d); within = tt }
-
-  pub end-found : at < length s → getD s at 0 ≡ 10 → EndTold s at (word.Found (at + 1))
-  end-found h e =
-      record {
-        told = sym (skip-same (10 ∷ []) s 0 at (omega arith) h e ∙ skip-done (10 ∷ []) s 1 (at + 1) (omega arith));
-        within = omega arith;
-      }
+pub line-right : (s : List ℕ) (at : ℕ) (r : MarkRead) → markEnd r ≤ length s → parsedMark s r ≡ parseMarkLine (drop at s) → MarkLineRead s at r
+line-right s at (Found m k) w h = let i = line-sound (drop at s) m (drop k s) (sym h) in record { stands = i .0; within = w; valid = i .1 }
+line-right s at Misspelled w h = λ m rest v t. let z : _≡_ {A = ℕ} 0 1 = cc (line-complete m rest v) in omega arith

@@ -1,12 +1,9 @@
 -- What each reader of marks finds at the front of a text: the readers' common language, for proofs. It promises nothing by itself:
 -- proofs/Spelling.antt holds it to the spelling, both ways round.
-use mathlib.Core.Path.{_≡_}
 use mathlib.Core.List.{List, [], _∷_}
-use Prim.Native.Nat.{ℕ, _≤_}
-use lib.ListN.{length, drop}
-use Rattle.language.specs.Parsing.{Parsed, found, misspelled, after, either, parseWord, parsedWord, parseStatementNumber, parseVariable, parseOperand, parseExpression}
-use Rattle.language.specs.declared.read.WordRead.{WordRead}
-use Rattle.language.specs.declared.read.WordRead.the-variants as word
+use Prim.Native.Nat.{ℕ}
+use lib.ListN.{drop}
+use Rattle.language.specs.Parsing.{Parsed, found, misspelled, after, either, parseWord, parseStatementNumber, parseVariable, parseOperand, parseExpression}
 use Rattle.marks.specs.Marks.{mark-word, rm-word, rpl-word, comma-word}
 use Rattle.marks.specs.declared.Mark.{Mark}
 use Rattle.marks.specs.declared.Mark.the-variants.{Rm, Rpl}
@@ -53,20 +50,7 @@ abbrev pub parsedMark : List ℕ → MarkRead → Parsed Mark
 parsedMark s (Found m k) = found m (drop k s)
 parsedMark s Misspelled = misspelled
 
--- the position that is answered lies within the text
-abbrev pub EndWithin : List ℕ → WordRead → Type 0
-EndWithin s (word.Found k) = k ≤ length s
-EndWithin s word.Misspelled = Unit
-
-abbrev pub MarkWithin : List ℕ → MarkRead → Type 0
-MarkWithin s (Found m k) = k ≤ length s
-MarkWithin s Misspelled = Unit
-
--- the byte 10 was read right, and so was a mark's line
-pub record EndTold (s : List ℕ) (at : ℕ) (r : WordRead) : Type 0 where
-  pub told : parsedWord s r ≡ parseWord (10 ∷ []) (drop at s)
-  pub within : EndWithin s r
-
-pub record LineTold (s : List ℕ) (at : ℕ) (r : MarkRead) : Type 0 where
-  pub told : parsedMark s r ≡ parseMarkLine (drop at s)
-  pub within : MarkWithin s r
+-- the position after the mark
+abbrev pub markEnd : MarkRead → ℕ
+markEnd (Found m k) = k
+markEnd Misspelled = 0

@@ -1,9 +1,10 @@
 // The readers of marks: each takes what stands at a position of a text, and answers the position after it.
 ghost use mathlib.Core.Path.{_≡_};
-ghost use lib.ListN.{drop};
-ghost use Rattle.language.specs.Parsing.{parsedVariable};
+ghost use Prim.Native.Nat.{_≤_};
+ghost use lib.ListN.{length, drop};
+ghost use Rattle.language.specs.Parsing.{parsedVariable, variableEnd};
 ghost use Rattle.marks.specs.Reading.{MarkLineRead, ListRead};
-ghost use Rattle.marks.specs.Parsing.{parseFront, parseRm, parseRpl, parseMark, parsedMark, EndTold, LineTold};
+ghost use Rattle.marks.specs.Parsing.{parseFront, parseRm, parseRpl, parseMark, parseMarkLine, parsedMark, markEnd};
 use crate::Checked;
 use crate::MOST;
 use crate::Mark;
@@ -22,6 +23,7 @@ pub enum MarkRead {
 // The word w, the variable and `, `.
 fn front(s: &[u8], at: usize, w: &[u8]) -> VariableRead
     ensures { λ r. ⌜ parsedVariable (now (s .entry)) r ≡ parseFront (now (w .entry)) (drop at (now (s .entry))) ⌝ }
+    ensures { λ r. ⌜ variableEnd r ≤ length (now (s .entry)) ⌝ }
 {
     let WordRead::Found(k) = language::read::word(s, at, w) else {
         return VariableRead::Misspelled;
@@ -38,6 +40,7 @@ fn front(s: &[u8], at: usize, w: &[u8]) -> VariableRead
 // `rm, X, E)` of a mark on statement n.
 fn rm(s: &[u8], at: usize, n: u32) -> MarkRead
     ensures { λ r. ⌜ parsedMark (now (s .entry)) r ≡ parseRm n (drop at (now (s .entry))) ⌝ }
+    ensures { λ r. ⌜ markEnd r ≤ length (now (s .entry)) ⌝ }
 {
     let VariableRead::Found(x, k) = front(s, at, b"rm, ") else {
         return MarkRead::Misspelled;
@@ -54,6 +57,7 @@ fn rm(s: &[u8], at: usize, n: u32) -> MarkRead
 // `rpl, X, A)` of a mark on statement n.
 fn rpl(s: &[u8], at: usize, n: u32) -> MarkRead
     ensures { λ r. ⌜ parsedMark (now (s .entry)) r ≡ parseRpl n (drop at (now (s .entry))) ⌝ }
+    ensures { λ r. ⌜ markEnd r ≤ length (now (s .entry)) ⌝ }
 {
     let VariableRead::Found(x, k) = front(s, at, b"rpl, ") else {
         return MarkRead::Misspelled;
@@ -69,6 +73,7 @@ fn rpl(s: &[u8], at: usize, n: u32) -> MarkRead
 
 fn mark(s: &[u8], at: usize) -> MarkRead
     ensures { λ r. ⌜ parsedMark (now (s .entry)) r ≡ parseMark (drop at (now (s .entry))) ⌝ }
+    ensures { λ r. ⌜ markEnd r ≤ length (now (s .entry)) ⌝ }
 {
     let NumberRead::Found(n, k) = language::read::statement_number(s, at) else {
         return MarkRead::Misspelled;
@@ -76,34 +81,21 @@ fn mark(s: &[u8], at: usize) -> MarkRead
     let WordRead::Found(k1) = language::read::word(s, k, b": mark(") else {
         return MarkRead::Misspelled;
     };
-    if let MarkRead::Found(m, k2) = rm(s, k1, n) {
-        return MarkRead::Found(m, k2);
-    }
-    rpl(s, k1, n)
-}
-
-// The byte 10 that ends a line, and the position after it, which lies within the text.
-fn line_end(s: &[u8], at: usize) -> WordRead
-    ensures { λ r. ⌜ EndTold (now (s .entry)) at r ⌝ }
-{
-    if s.len() <= at {
-        return WordRead::Misspelled;
-    }
-    if s[at] == 10 {
-        WordRead::Found(at + 1)
-    } else {
-        WordRead::Misspelled
-    }
+    let MarkRead::Found(m, k2) = rm(s, k1, n) else {
+        return rpl(s, k1, n);
+    };
+    MarkRead::Found(m, k2)
 }
 
 // A mark and its byte 10.
 fn ended_mark(s: &[u8], at: usize) -> MarkRead
-    ensures { λ r. ⌜ LineTold (now (s .entry)) at r ⌝ }
+    ensures { λ r. ⌜ parsedMark (now (s .entry)) r ≡ parseMarkLine (drop at (now (s .entry))) ⌝ }
+    ensures { λ r. ⌜ markEnd r ≤ length (now (s .entry)) ⌝ }
 {
     let MarkRead::Found(m, k) = mark(s, at) else {
         return MarkRead::Misspelled;
     };
-    let WordRead::Found(k1) = line_end(s, k) else {
+    let WordRead::Found(k1) = language::read::word(s, k, b"\n") else {
         return MarkRead::Misspelled;
     };
     MarkRead::Found(m, k1)

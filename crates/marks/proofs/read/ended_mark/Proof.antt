@@ -1,28 +1,38 @@
 -- `ended_mark` meets its contract: at each return the readers that were called say what `parseMarkLine` finds. Assumes nothing.
 use Rattle.marks.specs.Parsing.{parseMarkLine, parsedMark}
-use Rattle.language.specs.Parsing.{parsedWord}
+use Rattle.language.specs.Parsing.{parsedWord, wordEnd}
 use mathlib.Core.Path.{sym, ap, _∙_}
 use borrow.Author.Needs.{needs}
+use native.Mathlib.Omega.{arith}
 use Rattle.marks.proofs.read.ended_mark.Statement.{statement}
 use Rattle.marks.proofs.read.ended_mark.Tie as tie
 
 returns : tie.Need-returns
 unfolding parseMarkLine
-returns c = record { told = rw (sym (c .before .before .mark .ensures) ∙ ap (parsedMark _) (c .enum-told .given .1)); within = tt }
+returns c = (rw (sym (c .before .before .mark .ensures .0) ∙ ap (parsedMark _) (c .enum-told .given .1)), omega arith)
 
 returns-2 : tie.Need-returns-2
 unfolding parseMarkLine
-returns-2 c = record {
-  told = rw (sym (c .before .before .before .before .before .before .mark .ensures) ∙ ap (parsedMark _) (c .before .before .before .before .m .given .1), sym (c .before .before .line-end .ensures .told) ∙ ap (parsedWord _) (c .enum-told2 .given .1));
-  within = tt;
-}
+returns-2 c =
+    let p₁ = c .before .before .before .before .before in (
+      rw (
+        sym (p₁ .before .before .mark .ensures .0) ∙ ap (parsedMark _) (p₁ .m .given .1),
+        sym (c .before .before .word .ensures .0) ∙ ap (parsedWord _) (c .enum-told2 .given .1),
+      ),
+      omega arith,
+    )
 
 returns-3 : tie.Need-returns-3
 unfolding parseMarkLine
-returns-3 c = record {
-  told = rw (sym (c .before .before .before .before .before .before .before .mark .ensures) ∙ ap (parsedMark _) (c .before .before .before .before .before .m .given .1), sym (c .before .before .before .line-end .ensures .told) ∙ ap (parsedWord _) (c .before .k1 .given .1));
-  within = rw (c .before .k1 .given .1) at (c .before .before .before .line-end .ensures .within);
-}
+returns-3 c =
+    let p₂ = c .before in
+    let p₁ = p₂ .before .before .before .before .before in (
+      rw (
+        sym (p₁ .before .before .mark .ensures .0) ∙ ap (parsedMark _) (p₁ .m .given .1),
+        sym (p₂ .before .before .word .ensures .0) ∙ ap (parsedWord _) (p₂ .k1 .given .1),
+      ),
+      omega (arith, p₂ .before .before .word .ensures .1 (omega arith), ap wordEnd (p₂ .k1 .given .1)),
+    )
 
 pub ended-mark-spec : {M : Type 1} → statement M
 ended-mark-spec =
@@ -32,6 +42,7 @@ ended-mark-spec =
     (λ c. search needs)
     (λ c. search needs)
     returns
+    (λ c. search needs)
     (λ c κs. search needs)
     (λ c. search needs)
     (λ c. search needs)

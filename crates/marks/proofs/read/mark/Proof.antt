@@ -1,37 +1,54 @@
 -- `mark` meets its contract: at each return the readers that were called say what `parseMark` finds. Assumes nothing.
-use Rattle.marks.specs.Parsing.{parseMark, parsedMark}
-use Rattle.language.specs.Parsing.{parsedWord, parsedNumber}
+use Rattle.marks.specs.Parsing.{parseMark, parsedMark, markEnd}
+use Rattle.language.specs.Parsing.{parsedNumber, parsedWord}
 use mathlib.Core.Path.{sym, ap, _∙_}
 use borrow.Author.Needs.{needs}
+use native.Mathlib.Omega.{arith}
 use Rattle.marks.proofs.read.mark.Statement.{statement}
 use Rattle.marks.proofs.read.mark.Tie as tie
 
 returns : tie.Need-returns
 unfolding parseMark
-returns c = rw (sym (c .before .before .statement-number .ensures) ∙ ap (parsedNumber _) (c .enum-told .given .1))
+returns c = (rw (sym (c .before .before .statement-number .ensures .0) ∙ ap (parsedNumber _) (c .enum-told .given .1)), omega arith)
 
 returns-2 : tie.Need-returns-2
 unfolding parseMark
-returns-2 c = rw (
-  sym (c .before .before .before .before .before .before .before .statement-number .ensures) ∙ ap (parsedNumber _) (c .before .before .before .before .before .n .given .1),
-  sym (c .before .before .word .ensures) ∙ ap (parsedWord _) (c .enum-told2 .given .1),
-)
+returns-2 c =
+    let p₁ = c .before .before .before .before .before in (
+      rw (
+        sym (p₁ .before .before .statement-number .ensures .0) ∙ ap (parsedNumber _) (p₁ .n .given .1),
+        sym (c .before .before .word .ensures .0) ∙ ap (parsedWord _) (c .enum-told2 .given .1),
+      ),
+      omega arith,
+    )
 
 returns-3 : tie.Need-returns-3
 unfolding parseMark
-returns-3 c = rw (
-  sym (c .before .before .before .before .before .before .before .before .before .before .before .before .statement-number .ensures) ∙ ap (parsedNumber _) (c .before .before .before .before .before .before .before .before .before .before .n .given .1),
-  sym (c .before .before .before .before .before .before .before .word .ensures) ∙ ap (parsedWord _) (c .before .before .before .before .before .k1 .given .1),
-  sym (c .before .before .before .rm .ensures) ∙ ap (parsedMark _) (c .before .m .given .1),
-)
+returns-3 c =
+    let p₃ = c .before in
+    let p₂ = p₃ .before .before .before .before in
+    let p₁ = p₂ .before .before .before .before .before in (
+      rw (
+        sym (p₁ .before .before .statement-number .ensures .0) ∙ ap (parsedNumber _) (p₁ .n .given .1),
+        sym (p₂ .before .before .word .ensures .0) ∙ ap (parsedWord _) (p₂ .k1 .given .1),
+        sym (p₃ .before .before .rm .ensures .0) ∙ ap (parsedMark _) (p₃ .enum-told3 .given .1),
+      ) (c .rpl .ensures .0),
+      c .rpl .ensures .1,
+    )
 
 returns-4 : tie.Need-returns-4
 unfolding parseMark
-returns-4 c = rw (
-  sym (c .before .before .before .before .before .before .before .before .before .before .before .before .statement-number .ensures) ∙ ap (parsedNumber _) (c .before .before .before .before .before .before .before .before .before .before .n .given .1),
-  sym (c .before .before .before .before .before .before .before .word .ensures) ∙ ap (parsedWord _) (c .before .before .before .before .before .k1 .given .1),
-  sym (c .before .before .before .rm .ensures) ∙ ap (parsedMark _) (c .before .enum-told3 .given .1),
-) (c .rpl .ensures)
+returns-4 c =
+    let p₃ = c .before in
+    let p₂ = p₃ .before .before .before .before in
+    let p₁ = p₂ .before .before .before .before .before in (
+      rw (
+        sym (p₁ .before .before .statement-number .ensures .0) ∙ ap (parsedNumber _) (p₁ .n .given .1),
+        sym (p₂ .before .before .word .ensures .0) ∙ ap (parsedWord _) (p₂ .k1 .given .1),
+        sym (p₃ .before .before .rm .ensures .0) ∙ ap (parsedMark _) (p₃ .m .given .1),
+      ),
+      omega (arith, p₃ .before .before .rm .ensures .1, ap markEnd (p₃ .m .given .1)),
+    )
 
 pub mark-spec : {M : Type 1} → statement M
 mark-spec =
@@ -48,7 +65,7 @@ mark-spec =
     returns-2
     (λ c κs. search needs)
     (λ c. search needs)
-    returns-3
     (λ c. search needs)
     (λ c κs. search needs)
+    returns-3
     returns-4)
