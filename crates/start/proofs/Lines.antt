@@ -5,7 +5,7 @@ use mathlib.Core.List.{List, [], _∷_, _++_, append-assoc, append-nil}
 use Prim.Native.Nat.{ℕ, zero, suc, _+_, _-_, _≤_, _<_}
 use native.Mathlib.Decide.{decLt}
 use native.Mathlib.Omega.{arith}
-use lib.ListN.{length, getD, set, drop, length-append, length-drop, length-set, drop-of-length-le, List·getD-append, List·getD-eq-default}
+use lib.ListN.{length, getD, set, drop, length-append, length-drop, length-set, length-replicate, replicate, getD-replicate, drop-of-length-le, List·getD-append, List·getD-eq-default}
 use borrow.Author.Count.{below-more}
 use lib.Seq.{getD-set-same, getD-set-other, getD-append-seam}
 use Rattle.language.specs.declared.read.NumberRead.{NumberRead}
@@ -34,25 +34,25 @@ pub record SoFar (t ns : List ℕ) (at k : ℕ) : Type 0 where
   pub room : length ns ≡ most
   pub kept : (j : ℕ) → getD ns j 0 ≡ getD ls j 0
 
-pub none-read : (t ns : List ℕ) → length ns ≡ most → ((j : ℕ) → j < most → getD ns j 0 ≡ 0) → SoFar t ns 0 0
+pub none-read : (t : List ℕ) {ns : List ℕ} → ns ≡ replicate most 0 → SoFar t ns 0 0
 unfolding startLines
-none-read t ns l z =
+none-read t {ns} e =
     record {
       ls = [];
       begins = record { lines = refl; right = tt };
       counted = refl;
       few = omega arith;
-      room = l;
+      room = ap length e ∙ length-replicate {A = ℕ} most 0;
       kept = λ j. go j (decLt j most);
     }
   where
     go : (j : ℕ) → Dec (j < most) → getD ns j 0 ≡ 0
-    go j (yes h) = z j h
-    go j (no h) = List·getD-eq-default ns 0 {n = j} (omega arith)
+    go j (yes h) = rw e (getD-replicate most j 0 0 h)
+    go j (no h) = List·getD-eq-default ns 0 {n = j} (omega (arith, ap length e, length-replicate {A = ℕ} most 0))
 
 module _ {t ns : List ℕ} {at k : ℕ} (i : SoFar t ns at k) where
-  pub too-many : k ≡ most → at < length t → (ls : List ℕ) × (rest : List ℕ) × Begins t ls rest × (length ls ≡ most) × (0 < length rest)
-  too-many e h = (i .ls, drop at t, i .begins, omega (arith, i .counted), rw (length-drop at t) (omega arith))
+  pub too-many : {X : Type 0} → k ≡ most → at < length t → X → (ls : List ℕ) × (rest : List ℕ) × Begins t ls rest × (length ls ≡ most) × (0 < length rest) × X
+  too-many e h z = (i .ls, drop at t, i .begins, omega (arith, i .counted), rw (length-drop at t) (omega arith), z)
 
   module _ {r : NumberRead} where
     pub wrong-line : (k ≡ most → ⊥) → at < length t → r ≡ Misspelled → LineRead t at k r → WrongLine t (k + 1)
@@ -70,7 +70,7 @@ module _ {t ns : List ℕ} {at k : ℕ} (i : SoFar t ns at k) where
     module _ {v next : ℕ} (is : r ≡ Found v next) (l : LineRead t at k r) where
       pub further : length t - next < length t - at
       further =
-          let f = ap length ((rw is at l) .0) in
+          let f = ap length ((rw is at l) .stands) in
           let g : length t - at ≡ length (spellLine k v) + suc (length t - next) = simp (length-append, length-drop) at f in
           omega arith
 
@@ -78,7 +78,7 @@ module _ {t ns : List ℕ} {at k : ℕ} (i : SoFar t ns at k) where
       one-more m =
           record {
             ls = i .ls ++ v ∷ [];
-            begins = record { lines = text; right = right-append 0 (i .ls) v (i .begins .right) (rw (← n) ((rw is at l) .1)) };
+            begins = record { lines = text; right = right-append 0 (i .ls) v (i .begins .right) (rw (← n) ((rw is at l) .right)) };
             counted = omega (arith, i .counted, length-append (i .ls) (v ∷ []));
             few = omega (arith, i .few);
             room = length-set ns k v ∙ i .room;
@@ -90,7 +90,7 @@ module _ {t ns : List ℕ} {at k : ℕ} (i : SoFar t ns at k) where
 
           text : t ≡ startLines 0 (i .ls ++ v ∷ []) ++ drop next t
           text =
-              i .begins .lines ∙ ap (λ (u : List ℕ). startLines 0 (i .ls) ++ u) ((rw is at l) .0)
+              i .begins .lines ∙ ap (λ (u : List ℕ). startLines 0 (i .ls) ++ u) ((rw is at l) .stands)
               ∙ rw (lines-append 0 (i .ls) v, ← n) (simp append-assoc)
 
           held : (j : ℕ) → Dec (j < k) → Dec (k < j) → getD (set ns k v) j 0 ≡ getD (i .ls ++ v ∷ []) j 0
@@ -112,8 +112,8 @@ module _ {t ns : List ℕ} {at k : ℕ} (i : SoFar t ns at k) where
     all-read : Begins t (i .ls) []
     all-read = rw (drop-of-length-le t h) at (i .begins)
 
-    pub too-few : k < fewest → (ls : List ℕ) × Begins t ls [] × (length ls < fewest)
-    too-few f = (i .ls, all-read, omega (arith, i .counted))
+    pub too-few : {X : Type 0} → k < fewest → X → (ls : List ℕ) × Begins t ls [] × (length ls < fewest) × X
+    too-few f z = (i .ls, all-read, omega (arith, i .counted), z)
 
     pub taken : (vs : List ℕ) → fewest ≤ k → (length vs ≡ 32) × ((x : ℕ) → x < 32 → getD vs x 0 ≡ getD ns (2 + x) 0) → StartTaken t (getD ns 0 0) (getD ns 1 0) vs
     taken vs f v =

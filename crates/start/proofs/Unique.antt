@@ -9,7 +9,7 @@ use lib.ListN.{length, getD, length-append}
 use lib.Seq.{ext-getD}
 use borrow.Author.Tests.{lt-ltb, le-ltb, eq-eqb, ne-eqb}
 use Rattle.language.specs.Parsing.{found}
-use Rattle.start.specs.Start.{spellLine, RightLine, startLines, AllRight, fewest, most, Begins, StartTaken, WrongLine, StartRead}
+use Rattle.start.specs.Start.{spellLine, RightLine, startLines, AllRight, fewest, most, Begins, StartTaken, WrongLine, Nothing, StartRead}
 use Rattle.start.specs.Parsing.{parseStartLine}
 use Rattle.start.specs.declared.Answer.{Answer}
 use Rattle.start.specs.declared.Answer.the-variants.{Taken, Few, Many, Line}
@@ -82,12 +82,14 @@ settled Many input budget vs h =
     }
 settled (Line n) input budget vs h =
     record {
-      ls = h .ls;
-      rest = h .rest;
-      begins = h .begins;
-      few = omega (arith, h .counted, h .within);
-      stuck = λ l v u r e. h .wrong v u r e;
-      is = rw (ne-eqb (length (h .rest)) 0 (λ e. omega (arith, e, h .some)), ne-eqb (length (h .ls)) most (λ e. omega (arith, e, h .counted, h .within))) (ap Line (h .counted));
+      ls = h .0 .ls;
+      rest = h .0 .rest;
+      begins = h .0 .begins;
+      few = omega (arith, h .0 .counted, h .0 .within);
+      stuck = λ l v u r e. h .0 .wrong v u r e;
+      is =
+          rw (ne-eqb (length (h .0 .rest)) 0 (λ e. omega (arith, e, h .0 .some)), ne-eqb (length (h .0 .ls)) most (λ e. omega (arith, e, h .0 .counted, h .0 .within)))
+          (ap Line (h .0 .counted));
     }
 
 settled-unique : {t : List ℕ} {a b : Answer} (x : Settled t a) (y : Settled t b) → (x .ls ≡ y .ls) × (x .rest ≡ y .rest)
@@ -113,3 +115,13 @@ start-unique {i = i} {j = j} {m = m} {n = n} {vs = vs} {ws = ws} h l =
       h .second ∙ ap (λ (ls : List ℕ). getD ls 1 0) e ∙ sym (l .second),
       ext-getD 0 vs ws (h .size ∙ sym (l .size)) (λ x k. h .others x (omega (arith, h .size)) ∙ ap (λ (ls : List ℕ). getD ls (2 + x) 0) e ∙ sym (l .others x (omega (arith, h .size)))),
     )
+
+nothing-unique : {i j m n : ℕ} {vs ws : List ℕ} → Nothing i m vs → Nothing j n ws → (i ≡ j) × (m ≡ n) × (vs ≡ ws)
+nothing-unique h l = (h .no-input ∙ sym (l .no-input), h .no-budget ∙ sym (l .no-budget), h .no-values ∙ sym (l .no-values))
+
+-- whatever the answer, one start only stands beside it
+pub beside-unique : (t : List ℕ) (a : Answer) (i j m n : ℕ) (vs ws : List ℕ) → StartRead t a i m vs → StartRead t a j n ws → (i ≡ j) × (m ≡ n) × (vs ≡ ws)
+beside-unique t Taken i j m n vs ws h l = start-unique h l
+beside-unique t Few i j m n vs ws h l = nothing-unique (h .3) (l .3)
+beside-unique t Many i j m n vs ws h l = nothing-unique (h .5) (l .5)
+beside-unique t (Line k) i j m n vs ws h l = nothing-unique (h .1) (l .1)

@@ -6,10 +6,10 @@ use Prim.Native.Nat.{ℕ, suc, _+_, _-_, _^_, _≤_, _<_}
 use native.Mathlib.Decide.{decLt}
 use native.Mathlib.Omega.{arith}
 use lib.Dec.{ltb, eqb}
-use lib.ListN.{drop}
+use lib.ListN.{length, drop}
 use borrow.Author.Tests.{lt-ltb, le-ltb, ltb-true}
 use Rattle.language.specs.Spelling.{largest, digits, digitsBy, pickList}
-use Rattle.language.specs.Parsing.{Parsed, found, misspelled, after, afterOr, where?, either, parseWord, digitOf, parseDigits, parseNumber, parsedNumber}
+use Rattle.language.specs.Parsing.{Parsed, found, misspelled, after, afterOr, where?, either, pick as pickParsed, parseWord, digitOf, parseDigits, parseNumber, parsedNumber, numberEnd}
 use Rattle.language.specs.declared.read.NumberRead.{NumberRead}
 use Rattle.language.specs.declared.read.NumberRead.the-variants.{Found, Misspelled}
 use Rattle.language.proofs.Numbers.{NoDigit, number-sound, number-complete}
@@ -17,7 +17,7 @@ use Rattle.language.proofs.Parse.{after-inv, afterOr-inv, where-inv, either-inv
 use Rattle.machine.specs.Machine.{pick}
 use Rattle.desk.specs.Columns.{signedDigits}
 use Rattle.start.specs.Start.{spellValue, spellLine, RightLine, LineRead}
-use Rattle.start.specs.Parsing.{least-word, parseNegative, parseSigned, pickParsed, parseField, parseStartLine}
+use Rattle.start.specs.Parsing.{least-word, parseNegative, parseSigned, parseField, parseStartLine}
 
 -- the lower half is spelled without sign, the upper one with `-` before its distance from 2 ^ 32
 value-low : (v : ℕ) → v < 2 ^ 31 → spellValue v ≡ digits v
@@ -127,9 +127,9 @@ unfolding parseStartLine parseWord digitOf
 line-complete k v rest r = rw (field-complete k v (10 ∷ rest) r refl)
 
 -- a reader that finds what `parseStartLine` finds reads the line right
-pub line-right : (s : List ℕ) (at k : ℕ) (r : NumberRead) → parsedNumber s r ≡ parseStartLine k (drop at s) → LineRead s at k r
-line-right s at k (Found v next) e = line-sound k (drop at s) v (drop next s) (sym e)
-line-right s at k Misspelled e = λ v u w p.
+pub line-right : (s : List ℕ) (at k : ℕ) (r : NumberRead) → numberEnd r ≤ length s → parsedNumber s r ≡ parseStartLine k (drop at s) → LineRead s at k r
+line-right s at k (Found v next) b e = let l = line-sound k (drop at s) v (drop next s) (sym e) in record { stands = l .0; within = b; right = l .1 }
+line-right s at k Misspelled b e = λ v u w p.
     let f : misspelled ≡ found v u = e ∙ ap (parseStartLine k) p ∙ line-complete k v u w in
     let z : _≡_ {A = ℕ} 0 1 = cc in
     omega arith

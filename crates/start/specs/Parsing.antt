@@ -1,9 +1,8 @@
 -- What each reader of a start finds at the front of a text: a proof device. proofs/Values.antt holds it to the spelling, both ways round.
 use mathlib.Core.List.{List, [], _∷_}
-use mathlib.Core.Bool.{Bool, true, false}
 use Prim.Native.Nat.{ℕ, _-_, _^_}
 use lib.Dec.{ltb, eqb}
-use Rattle.language.specs.Parsing.{Parsed, found, misspelled, after, afterOr, where?, either, parseWord, parseNumber}
+use Rattle.language.specs.Parsing.{Parsed, found, misspelled, after, afterOr, where?, either, pick, parseWord, parseNumber}
 
 -- 2147483648, which is no constant
 abbrev pub least-word : List ℕ
@@ -19,12 +18,8 @@ parseNegative l =
 unfoldable pub parseSigned : List ℕ → Parsed ℕ
 parseSigned l = either (parseNumber l) (after (parseWord (45 ∷ []) l) λ _ t. parseNegative t)
 
-abbrev pub pickParsed : Bool → Parsed ℕ → Parsed ℕ → Parsed ℕ
-pickParsed true p q = p
-pickParsed false p q = q
-
 unfoldable pub parseField : ℕ → List ℕ → Parsed ℕ
-parseField k l = pickParsed (eqb k 1) (parseNumber l) (parseSigned l)
+parseField k l = pick (eqb k 1) (parseNumber l) (parseSigned l)
 
 -- a number with its byte 10
 unfoldable pub parseStartLine : ℕ → List ℕ → Parsed ℕ

@@ -3,7 +3,7 @@ use mathlib.Core.Path.{_≡_}
 use mathlib.Core.List.{List, [], _∷_, _++_}
 use Prim.Native.Nat.{ℕ, suc, _+_, _^_, _≤_, _<_}
 use lib.Dec.{eqb}
-use lib.ListN.{length, getD, drop}
+use lib.ListN.{length, getD, drop, replicate}
 use mir.Syntax.{w32}
 use mir.Val.{toZ}
 use Rattle.language.specs.Spelling.{variables, digits, pickList}
@@ -65,14 +65,27 @@ pub record WrongLine (t : List ℕ) (n : ℕ) : Type 0 where
   pub some : 0 < length rest
   pub wrong : (v : ℕ) (u : List ℕ) → RightLine (length ls) v → rest ≡ spellLine (length ls) v ++ 10 ∷ u → ⊥
 
+-- the start beside a refusal: all is 0
+pub record Nothing (input budget : ℕ) (values : List ℕ) : Type 0 where
+  pub no-input : input ≡ 0
+  pub no-budget : budget ≡ 0
+  pub no-values : values ≡ replicate variables 0
+
 -- each answer, and what it says of the text and of the start beside it
 abbrev pub StartRead : List ℕ → Answer → ℕ → ℕ → List ℕ → Type 0
 StartRead t Taken input budget values = StartTaken t input budget values
-StartRead t Few input budget values = (ls : List ℕ) × Begins t ls [] × (length ls < fewest)
-StartRead t Many input budget values = (ls : List ℕ) × (rest : List ℕ) × Begins t ls rest × (length ls ≡ most) × (0 < length rest)
-StartRead t (Line n) input budget values = WrongLine t n
+StartRead t Few input budget values = (ls : List ℕ) × Begins t ls [] × (length ls < fewest) × Nothing input budget values
+StartRead t Many input budget values =
+    (ls : List ℕ) × (rest : List ℕ) × Begins t ls rest × (length ls ≡ most) × (0 < length rest) × Nothing input budget values
+StartRead t (Line n) input budget values = WrongLine t n × Nothing input budget values
 
--- what is read at a position as line k: the number and the text after its byte 10, or that no right line stands there
+-- the text from `at` on is the right line k of the number v and then the text from `next` on
+pub record LineOf (s : List ℕ) (at k v next : ℕ) : Type 0 where
+  pub stands : drop at s ≡ spellLine k v ++ 10 ∷ drop next s
+  pub within : next ≤ length s
+  pub right : RightLine k v
+
+-- misspelled: no right line stands there
 abbrev pub LineRead : List ℕ → ℕ → ℕ → NumberRead → Type 0
-LineRead s at k (Found v next) = (drop at s ≡ spellLine k v ++ 10 ∷ drop next s) × RightLine k v
+LineRead s at k (Found v next) = LineOf s at k v next
 LineRead s at k Misspelled = (v : ℕ) (u : List ℕ) → RightLine k v → drop at s ≡ spellLine k v ++ 10 ∷ u → ⊥

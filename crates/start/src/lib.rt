@@ -1,9 +1,10 @@
 // A start: the input, the budget and up to 32 starting values, one a line, read from any bytes.
 ghost use mathlib.Core.Path.{_≡_};
 ghost use Prim.Native.Nat.{ℕ, _≤_, _<_, _+_};
-ghost use lib.ListN.{length, getD, drop};
-ghost use Rattle.language.specs.Parsing.{parsedNumber};
-ghost use Rattle.start.specs.Start.{StartRead, LineRead, most};
+ghost use lib.ListN.{length, getD, drop, replicate};
+ghost use Rattle.language.specs.Spelling.{variables};
+ghost use Rattle.language.specs.Parsing.{parsedNumber, numberEnd};
+ghost use Rattle.start.specs.Start.{StartRead, Nothing, LineRead, most};
 ghost use Rattle.start.specs.Parsing.{parseNegative, parseSigned, parseField, parseStartLine};
 use language::read::NumberRead;
 use language::read::WordRead;
@@ -33,35 +34,38 @@ pub struct Start {
 // The bits of the number whose digits follow a `-`.
 fn negative(s: &[u8], at: usize) -> NumberRead
     ensures { λ r. ⌜ parsedNumber (now (s .entry)) r ≡ parseNegative (drop at (now (s .entry))) ⌝ }
+    ensures { λ r. ⌜ numberEnd r ≤ length (now (s .entry)) ⌝ }
 {
-    if let NumberRead::Found(n, k) = language::read::number(s, at) {
-        if n == 0 {
+    let NumberRead::Found(n, k) = language::read::number(s, at) else {
+        let WordRead::Found(j) = language::read::word(s, at, b"2147483648") else {
             return NumberRead::Misspelled;
-        }
-        return NumberRead::Found(4294967295 - n + 1, k);
-    }
-    let WordRead::Found(k) = language::read::word(s, at, b"2147483648") else {
-        return NumberRead::Misspelled;
+        };
+        return NumberRead::Found(2147483648, j);
     };
-    NumberRead::Found(2147483648, k)
+    if n == 0 {
+        return NumberRead::Misspelled;
+    }
+    NumberRead::Found(4294967295 - n + 1, k)
 }
 
 // The bits of a whole number from -2147483648 to 2147483647.
 fn signed(s: &[u8], at: usize) -> NumberRead
     ensures { λ r. ⌜ parsedNumber (now (s .entry)) r ≡ parseSigned (drop at (now (s .entry))) ⌝ }
+    ensures { λ r. ⌜ numberEnd r ≤ length (now (s .entry)) ⌝ }
 {
-    if let NumberRead::Found(n, k) = language::read::number(s, at) {
-        return NumberRead::Found(n, k);
-    }
-    let WordRead::Found(k) = language::read::word(s, at, b"-") else {
-        return NumberRead::Misspelled;
+    let NumberRead::Found(n, k) = language::read::number(s, at) else {
+        let WordRead::Found(j) = language::read::word(s, at, b"-") else {
+            return NumberRead::Misspelled;
+        };
+        return negative(s, j);
     };
-    negative(s, k)
+    NumberRead::Found(n, k)
 }
 
 // The number that line k has, without its byte 10.
 fn field(s: &[u8], at: usize, k: usize) -> NumberRead
     ensures { λ r. ⌜ parsedNumber (now (s .entry)) r ≡ parseField k (drop at (now (s .entry))) ⌝ }
+    ensures { λ r. ⌜ numberEnd r ≤ length (now (s .entry)) ⌝ }
 {
     if k == 1 {
         return language::read::number(s, at);
@@ -71,6 +75,7 @@ fn field(s: &[u8], at: usize, k: usize) -> NumberRead
 
 fn ended_field(s: &[u8], at: usize, k: usize) -> NumberRead
     ensures { λ r. ⌜ parsedNumber (now (s .entry)) r ≡ parseStartLine k (drop at (now (s .entry))) ⌝ }
+    ensures { λ r. ⌜ numberEnd r ≤ length (now (s .entry)) ⌝ }
 {
     let NumberRead::Found(v, end) = field(s, at, k) else {
         return NumberRead::Misspelled;
@@ -89,13 +94,13 @@ fn line(s: &[u8], at: usize, k: usize) -> NumberRead
 }
 
 fn no_numbers() -> [u32; MOST]
-    ensures { λ r. ⌜ (length r ≡ most) × ((j : ℕ) → j < most → getD r j 0 ≡ 0) ⌝ }
+    ensures { λ r. ⌜ r ≡ replicate most 0 ⌝ }
 {
     [0; MOST]
 }
 
 fn no_values() -> [u32; VALUES]
-    ensures { λ r. ⌜ length r ≡ 32 ⌝ }
+    ensures { λ r. ⌜ r ≡ replicate variables 0 ⌝ }
 {
     [0; VALUES]
 }
@@ -115,6 +120,7 @@ fn values_of(numbers: [u32; MOST]) -> [u32; VALUES]
 
 fn refused(a: Answer) -> Start
     ensures { λ r. ⌜ r .answer ≡ a ⌝ }
+    ensures { λ r. ⌜ Nothing (r .input) (r .budget) (r .values) ⌝ }
 {
     Start {
         answer: a,

@@ -6,11 +6,11 @@ use Rattle.start.proofs.field.Tie as tie
 
 returns : tie.Need-returns
 unfolding parseField
-returns c = rw (eq-eqb _ _ (c .before .if1 .taken)) (c .number .ensures)
+returns c = (rw (eq-eqb _ _ (c .before .if1 .taken)) (c .number .ensures .0), c .number .ensures .1)
 
 returns-2 : tie.Need-returns-2
 unfolding parseField
-returns-2 c = rw (ne-eqb _ _ (c .before .if1 .left)) (c .signed .ensures)
+returns-2 c = (rw (ne-eqb _ _ (c .before .if1 .left)) (c .signed .ensures .0), c .signed .ensures .1)
 
 pub field-spec : {M : Type 1} → statement M
 field-spec = tie.close (tie.spec (λ c κs. search needs) returns (λ c κs. search needs) returns-2)

@@ -1,5 +1,7 @@
+-- `signed` meets its contract: at each return the readers that were called say what `parseSigned` finds. Assumes nothing.
 use mathlib.Core.Path.{sym, ap, _∙_}
-use Rattle.language.specs.Parsing.{parsedWord, parsedNumber}
+use native.Mathlib.Omega.{arith}
+use Rattle.language.specs.Parsing.{parsedWord, parsedNumber, numberEnd}
 use Rattle.start.specs.Parsing.{parseSigned}
 use borrow.Author.Needs.{needs}
 use Rattle.start.proofs.signed.Statement.{statement}
@@ -7,23 +9,33 @@ use Rattle.start.proofs.signed.Tie as tie
 
 returns : tie.Need-returns
 unfolding parseSigned
-returns c = rw (sym (c .before .before .before .number .ensures) ∙ ap (parsedNumber _) (c .before .n .given .1))
+returns c =
+    let p₁ = c .before .before .before .before in (
+      rw (
+        sym (p₁ .before .before .number .ensures .0) ∙ ap (parsedNumber _) (p₁ .enum-told .given .1),
+        sym (c .before .before .word .ensures .0) ∙ ap (parsedWord _) (c .enum-told2 .given .1),
+      ),
+      omega arith,
+    )
 
 returns-2 : tie.Need-returns-2
 unfolding parseSigned
 returns-2 c =
-    rw (
-      sym (c .before .before .before .before .before .before .number .ensures) ∙ ap (parsedNumber _) (c .before .before .before .before .enum-told .given .1),
-      sym (c .before .before .word .ensures) ∙ ap (parsedWord _) (c .enum-told2 .given .1),
+    let p₂ = c .before .before in
+    let p₁ = p₂ .before .before .before .before in (
+      rw (
+        sym (p₁ .before .before .number .ensures .0) ∙ ap (parsedNumber _) (p₁ .enum-told .given .1),
+        sym (p₂ .before .before .word .ensures .0) ∙ ap (parsedWord _) (p₂ .j .given .1),
+      ) (c .negative .ensures .0),
+      c .negative .ensures .1,
     )
 
 returns-3 : tie.Need-returns-3
 unfolding parseSigned
 returns-3 c =
-    rw (
-      sym (c .before .before .before .before .before .before .before .before .number .ensures) ∙ ap (parsedNumber _) (c .before .before .before .before .before .before .enum-told .given .1),
-      sym (c .before .before .before .before .word .ensures) ∙ ap (parsedWord _) (c .before .before .k .given .1),
-    ) (c .negative .ensures)
+    let p₁ = c .before in
+    let a = p₁ .before .before .number .ensures in
+    (rw (sym (a .0) ∙ ap (parsedNumber _) (p₁ .n .given .1)), omega (arith, a .1, ap numberEnd (p₁ .n .given .1)))
 
 pub signed-spec : {M : Type 1} → statement M
 signed-spec =
@@ -31,12 +43,12 @@ signed-spec =
     (tie.spec
     (λ c κs. search needs)
     (λ c. search needs)
+    (λ c. search needs)
+    (λ c. search needs)
+    (λ c κs. search needs)
+    (λ c. search needs)
+    (λ c. search needs)
     returns
-    (λ c. search needs)
-    (λ c. search needs)
     (λ c κs. search needs)
-    (λ c. search needs)
-    (λ c. search needs)
     returns-2
-    (λ c κs. search needs)
     returns-3)

@@ -1,5 +1,7 @@
 -- `values_of` meets its contract. The invariant: the values before x are copied. Assumes nothing.
-use Prim.Native.Nat.{_-_}
+use mathlib.Core.Path.{ap, _∙_}
+use Prim.Native.Nat.{ℕ, _-_}
+use lib.ListN.{length, length-replicate}
 use native.Mathlib.Omega.{arith}
 use Rattle.start.proofs.Lines.{Copied, copied-more}
 use borrow.Author.Needs.{needs}
@@ -13,7 +15,7 @@ abbrev μ-loop : tie.MeasureT-loop
 μ-loop numbers values₀ x₀ values x = 32 - x
 
 loop-holds : tie.Need-loop-holds Inv-loop μ-loop
-loop-holds c = record { size = c .no-values .ensures; within = omega arith; same = λ j h. absurd (omega arith) }
+loop-holds c = record { size = ap length (c .no-values .ensures) ∙ length-replicate {A = ℕ} 32 0; within = omega arith; same = λ j h. absurd (omega arith) }
 
 loop-again : tie.Need-loop-again Inv-loop μ-loop
 loop-again c = copied-more (c .before .loop .inv) (c .loop-test .taken)
