@@ -137,7 +137,7 @@ fn in_operand(x: u8, a: Operand) -> bool
 }
 
 // Whether x is a variable of the expression.
-pub fn in_expression(x: u8, e: Expression) -> bool
+fn in_expression(x: u8, e: Expression) -> bool
     ensures { λ r. ⌜ Decides r (In x e) ⌝ }
 {
     match e {

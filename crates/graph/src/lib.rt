@@ -62,7 +62,7 @@ pub fn add(edges: &mut [u16], count: usize, s: usize, t: usize) -> usize
 }
 
 // Whether some step of s leads to a place that is in the set, or to one that is not: as `want` says.
-pub fn meets(head: &[u16], link: &[u16], to: &[u16], s: usize, set: &[u64], want: bool) -> bool
+fn meets(head: &[u16], link: &[u16], to: &[u16], s: usize, set: &[u64], want: bool) -> bool
     requires { ⌜ Linked (now head) (now link) (now to) ⌝ }
     requires { ⌜ (s < length (now head)) × (length (now head) ≤ length (now set) * 64) ⌝ }
     ensures { λ r. ⌜ (r ≡ true) ↔ ((t : ℕ) × (step (now (head .entry)) (now (link .entry)) (now (to .entry)) s t ≡ true) × (member (now (set .entry)) t ≡ want)) ⌝ }
