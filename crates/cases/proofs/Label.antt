@@ -21,7 +21,7 @@ use Rattle.flow.specs.Flow.{some, Direction, steps}
 use Rattle.flow.proofs.Model.{steps-graph}
 use Rattle.condition.specs.Condition.{PathUnary, next, finally, globally, PathBinary, until, weak, Unary, negation, Binary, conjunction, disjunction, Condition, atom, unary, binary}
 use Rattle.condition.specs.Truth.{SaidOne, SaidTwo, Sat}
-use Rattle.table.proofs.Rows.{decides-iff}
+use Rattle.atoms.proofs.Truths.{decides-iff}
 use Rattle.cases.proofs.Atoms.{holds, holds-decides}
 
 -- a set made by a test has the places at which the test holds

@@ -1,19 +1,13 @@
 -- The rows of the operators that look at one place only. Assumes nothing.
-use mathlib.Core.Path.{_≡_, refl, sym, ap, ap₂, _∙_}
-use mathlib.Core.Bool.{Bool, true, false, not, _&&_, _||_}
-use mathlib.Core.Logic.{_↔_, _⊎_, ⊎-elim}
+use mathlib.Core.Path.{_≡_, sym, ap, ap₂, _∙_}
+use mathlib.Core.Bool.{Bool, false, not, _&&_, _||_}
+use mathlib.Core.Logic.{_⊎_, ⊎-elim}
 use Prim.Native.Nat.{ℕ, _≤_}
 use lib.Dec.{ltb}
 use borrow.Author.Tests.{lt-ltb, le-ltb}
 use Rattle.bits.proofs.Tests.{split, clash, and-left, and-right, and-both, or-case, or-left, or-right, not-of-false, false-of-not}
 use Rattle.ctl.specs.Paths.{So}
 use Rattle.labelling.specs.Labels.{Labelled}
-use Rattle.program.specs.Reading.{Decides}
-
--- a test that decides a claim is true exactly where the claim is
-pub decides-iff : {X : Type 0} (b : Bool) → Decides b X → (b ≡ true) ↔ X
-decides-iff true d = (λ _. d, λ _. refl)
-decides-iff false d = (λ e. clash e refl, λ x. absurd (d x))
 
 module _ (n : ℕ) (y : ℕ → Bool) where
   pub negation-row : (p places : ℕ → Bool) → ((j : ℕ) → places j ≡ ltb j n) → ((j : ℕ) → y j ≡ (places j && not (p j))) → Labelled n y (λ s. So p s → ⊥)
