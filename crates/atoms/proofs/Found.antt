@@ -3,11 +3,11 @@ use mathlib.Core.Path.{_≡_, refl, sym, ap, _∙_, subst}
 use mathlib.Core.Bool.{Bool, true, false, _&&_, _||_, or-false}
 use mathlib.Core.List.{List, []}
 use mathlib.Core.Logic.{_↔_, _⊎_, inl, inr, ⊎-elim}
-use Prim.Native.Nat.{ℕ, zero, suc, _+_, _/_, _%_, _≤_, _<_}
+use Prim.Native.Nat.{ℕ, _+_, _≤_, _<_}
 use native.Mathlib.Decide.{ℕ-discrete}
 use native.Mathlib.Omega.{arith}
 use lib.Dec.{eqb}
-use lib.ListN.{length, getD, set, length-set, replicate, getD-replicate}
+use lib.ListN.{length, getD, set, length-set}
 use lib.Seq.{getD-set-same, getD-set-other}
 use borrow.Author.Count.{below-more}
 use borrow.Author.Tests.{eq-eqb, ne-eqb, eqb-true}
@@ -22,14 +22,14 @@ use Rattle.program.specs.Program.{at, most, WellFormed}
 use Rattle.program.specs.Reading.{statements, Held}
 use Rattle.program.specs.declared.Program.{Program}
 use Rattle.program.proofs.Held.{held, at-held, held-valid, length-held}
-use Rattle.bits.specs.Row.{bit, member}
-use Rattle.bits.proofs.Words.{bit-zero}
+use Rattle.bits.specs.Row.{member, ZeroRows}
+use Rattle.bits.proofs.Rows.{zeros-member}
 use Rattle.bits.proofs.Tests.{split, clash, or-case, or-left, or-right}
 use Rattle.labelling.specs.Labels.{Labelled}
 use Rattle.labelling.proofs.Labels.{label-skip, label-join}
 use Rattle.condition.specs.Truth.{InOperand, In, Defines, Uses}
 use Rattle.atoms.specs.Codes.{statementCode}
-use Rattle.atoms.specs.Facts.{row-words, defined-rows, used-rows, code-rows, fact-rows, codeWords, FactsBelow, Blank, notedOperand, notedExpression, noted, Marked}
+use Rattle.atoms.specs.Facts.{row-words, defined-rows, used-rows, code-rows, fact-rows, codeWords, FactsBelow, notedOperand, notedExpression, noted, Marked}
 use Rattle.atoms.proofs.Rows.{label-same}
 
 -- ---- one place in some rows
@@ -114,26 +114,11 @@ noted-used Skip x v = (λ e. clash e refl, λ d. absurd d)
 
 -- ---- statement by statement
 
-getD-zero : (n i : ℕ) → _≡_ {A = ℕ} (getD (replicate n 0) i 0) 0
-getD-zero zero i = refl
-getD-zero (suc n) zero = refl
-getD-zero (suc n) (suc i) = getD-zero n i
-
-zero-row : (n j : ℕ) → member (replicate n 0) j ≡ false
-unfolding member
-zero-row n j = ap (λ (x : ℕ). bit x (j % 64)) (getD-zero n (j / 64)) ∙ bit-zero (j % 64)
-
-pub blank-rows : Blank (replicate fact-rows (replicate row-words 0))
-blank-rows = record {
-  many = refl;
-  none = λ r j l. ap (λ (w : List ℕ). member w j) (getD-replicate fact-rows r (replicate row-words 0) [] (omega arith)) ∙ zero-row row-words j;
-}
-
-pub facts-none : (P : List Statement) (facts : List (List ℕ)) → Blank facts → FactsBelow P 0 facts
+pub facts-none : (P : List Statement) (facts : List (List ℕ)) → ZeroRows fact-rows row-words facts → FactsBelow P 0 facts
 facts-none P facts b = record {
   many = b .many;
-  defined = λ x l. record { exact = λ s h. absurd (omega arith); beyond = λ s h. b .none (defined-rows + x) s (omega arith) };
-  used = λ x l. record { exact = λ s h. absurd (omega arith); beyond = λ s h. b .none (used-rows + x) s (omega arith) };
+  defined = λ x l. record { exact = λ s h. absurd (omega arith); beyond = λ s h. zeros-member (b .zero (defined-rows + x) (omega arith)) s };
+  used = λ x l. record { exact = λ s h. absurd (omega arith); beyond = λ s h. zeros-member (b .zero (used-rows + x) (omega arith)) s };
   coded = λ s h. absurd (omega arith);
 }
 

@@ -51,11 +51,6 @@ pub record FactsBelow (P : List Statement) (n : ℕ) (facts : List (List ℕ)) :
 abbrev pub FactsOf : List Statement → List (List ℕ) → Type 0
 FactsOf P facts = FactsBelow P (length P) facts
 
--- no place defines or uses a variable
-pub record Blank (facts : List (List ℕ)) : Type 0 where
-  pub many : length facts ≡ fact-rows
-  pub none : (r j : ℕ) → r < code-rows → member (getD facts r []) j ≡ false
-
 -- whether a statement has its place in row r: the row of the variable that it defines, or of one that it uses
 abbrev pub notedOperand : Operand → ℕ → Bool
 notedOperand (Variable y) r = eqb (used-rows + y) r

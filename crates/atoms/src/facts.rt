@@ -9,13 +9,13 @@ ghost use Rattle.language.specs.Spelling.{ValidOperand, ValidExpression, Valid}
 ghost use Rattle.language.specs.declared.Statement.{Statement as StatementOf};
 ghost use Rattle.program.specs.Program.{at, most, WellFormed};
 ghost use Rattle.program.specs.Reading.{Decides, statements, Held};
-ghost use Rattle.bits.specs.Row.{member};
+ghost use Rattle.bits.specs.Row.{member, Zeros, ZeroRows};
 ghost use Rattle.ctl.specs.Paths.{So};
 ghost use Rattle.labelling.specs.Labels.{Labelled};
 ghost use Rattle.condition.specs.Condition.{ValidAtom};
 ghost use Rattle.condition.specs.Truth.{InOperand, In, Defines, Holds};
 ghost use Rattle.atoms.specs.Codes.{statementCode};
-ghost use Rattle.atoms.specs.Facts.{row-words, code-rows, fact-rows, codeWords, FactsBelow, FactsOf, Blank, notedOperand, notedExpression, noted, Marked};
+ghost use Rattle.atoms.specs.Facts.{row-words, code-rows, fact-rows, codeWords, FactsBelow, FactsOf, notedOperand, notedExpression, noted, Marked};
 use crate::Code;
 use condition::Atom;
 use language::Expression;
@@ -37,7 +37,7 @@ pub const FACTS: usize = CODE_ROWS + program::MOST;
 
 // Rows to be filled.
 pub fn blank() -> [[u64; WORDS]; FACTS]
-    ensures { λ r. ⌜ Blank r ⌝ }
+    ensures { λ r. ⌜ ZeroRows fact-rows row-words r ⌝ }
 {
     [[0; WORDS]; FACTS]
 }
@@ -104,7 +104,7 @@ fn code_row(i: Statement) -> [u64; WORDS]
 pub fn find(p: Program, facts: &mut [[u64; WORDS]])
     requires { ⌜ Held p ⌝ }
     requires { ⌜ WellFormed (statements p) ⌝ }
-    requires { ⌜ Blank (now facts) ⌝ }
+    requires { ⌜ ZeroRows fact-rows row-words (now facts) ⌝ }
     ensures { λ _. ⌜ FactsOf (statements p) (now (facts .exit)) ⌝ }
 {
     let n = p.count;
@@ -121,8 +121,8 @@ pub fn find(p: Program, facts: &mut [[u64; WORDS]])
 }
 
 // Room for a row.
-fn blank_row() -> [u64; WORDS]
-    ensures { λ r. ⌜ length r ≡ row-words ⌝ }
+pub fn blank_row() -> [u64; WORDS]
+    ensures { λ r. ⌜ Zeros row-words r ⌝ }
 {
     [0; WORDS]
 }

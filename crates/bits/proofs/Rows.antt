@@ -1,19 +1,19 @@
 -- The members of a row: word by word, past its end, after one more, and where it is filled a word at a time. Assumes nothing.
-use mathlib.Core.Path.{_≡_, refl, sym, ap, ap₂, _∙_}
-use mathlib.Core.List.{List}
+use mathlib.Core.Path.{_≡_, refl, sym, ap, ap₂, _∙_, subst}
+use mathlib.Core.List.{List, []}
 use mathlib.Core.Bool.{Bool, false, _||_, or-false}
-use Prim.Native.Nat.{ℕ, _+_, _*_, _/_, _%_, _^_, _≤_, _<_}
+use Prim.Native.Nat.{ℕ, zero, suc, _+_, _*_, _/_, _%_, _^_, _≤_, _<_}
 use native.Mathlib.Nat.{mod-lt, zero-lt-suc, div-add-mod'}
 use native.Mathlib.Decide.{decLt, ℕ-discrete}
 use native.Mathlib.Omega.{arith}
 use lib.Dec.{eqb}
-use lib.ListN.{length, getD, set, length-set, List·getD-eq-default}
+use lib.ListN.{length, getD, set, length-set, List·getD-eq-default, replicate, length-replicate, getD-replicate}
 use lib.Arith.{digits-div, digits-mod}
 use lib.Bits.{bitOr}
 use lib.Seq.{getD-set-same, getD-set-other}
 use borrow.Author.Count.{below-more}
 use borrow.Author.Tests.{eq-eqb, ne-eqb}
-use Rattle.bits.specs.Row.{bit, member, Alike}
+use Rattle.bits.specs.Row.{bit, member, Zeros, ZeroRows, Alike}
 use Rattle.bits.proofs.Words.{bit-zero, bit-or, bit-pow}
 
 -- place 64 k + b is bit b of word k
@@ -24,6 +24,22 @@ word-member row k b l = ap₂ (λ (w c : ℕ). bit (getD row w 0) c) (digits-div
 pub member-beyond : (row : List ℕ) (j : ℕ) → length row * 64 ≤ j → member row j ≡ false
 unfolding member
 member-beyond row j l = let past : length row ≤ j / 64 = omega arith in ap (λ (x : ℕ). bit x (j % 64)) (List·getD-eq-default row 0 past) ∙ bit-zero (j % 64)
+
+-- zeros, and no place
+getD-zero : (n i : ℕ) → _≡_ {A = ℕ} (getD (replicate n 0) i 0) 0
+getD-zero zero i = refl
+getD-zero (suc n) zero = refl
+getD-zero (suc n) (suc i) = getD-zero n i
+
+pub zeros : (n : ℕ) → Zeros n (replicate n 0)
+zeros n = record { size = length-replicate n 0; zero = getD-zero n }
+
+pub zero-rows : (n k : ℕ) → ZeroRows n k (replicate n (replicate k 0))
+zero-rows n k = record { many = length-replicate n (replicate k 0); zero = λ r l. subst (Zeros k) (sym (getD-replicate n r (replicate {A = ℕ} k 0) [] l)) (zeros k) }
+
+pub zeros-member : {n : ℕ} {row : List ℕ} → Zeros n row → (j : ℕ) → member row j ≡ false
+unfolding member
+zeros-member z j = ap (λ (x : ℕ). bit x (j % 64)) (z .zero (j / 64)) ∙ bit-zero (j % 64)
 
 -- one place more
 pub insert-member : (row : List ℕ) (i j : ℕ) → i / 64 < length row

@@ -1,7 +1,7 @@
 -- Sets of places as rows of 64-bit words. Document 01 counts statements from 1, a row counts places from 0: "bit b of word w of those
 -- four is statement 64w+b+1" is place 64w+b here.
 use mathlib.Core.Path.{_≡_}
-use mathlib.Core.List.{List}
+use mathlib.Core.List.{List, []}
 use mathlib.Core.Bool.{Bool, true, false}
 use Prim.Native.Nat.{ℕ, zero, suc, _+_, _/_, _%_, _^_, _≤_, _<_}
 use lib.ListN.{length, getD}
@@ -35,6 +35,16 @@ pub record First (f : ℕ → Bool) (n r : ℕ) : Type 0 where
   pub within : r ≤ n
   pub before : (j : ℕ) → j < r → f j ≡ false
   pub found : r < n → f r ≡ true
+
+-- n zeros
+pub record Zeros (n : ℕ) (row : List ℕ) : Type 0 where
+  pub size : length row ≡ n
+  pub zero : (i : ℕ) → getD row i 0 ≡ 0
+
+-- n rows of k zeros
+pub record ZeroRows (n k : ℕ) (rows : List (List ℕ)) : Type 0 where
+  pub many : length rows ≡ n
+  pub zero : (r : ℕ) → r < n → Zeros k (getD rows r [])
 
 -- two rows and a third are equally long
 pub record Alike (a b out : List ℕ) : Type 0 where

@@ -4,14 +4,14 @@ ghost use mathlib.Core.Bool.{false, _||_, _&&_, not};
 ghost use Prim.Native.Nat.{ℕ, _-_, _*_, _≤_, _<_};
 ghost use lib.ListN.{length};
 ghost use lib.Dec.{eqb, ltb};
-ghost use Rattle.bits.specs.Row.{words, bit, member, countBelow, First, Alike};
+ghost use Rattle.bits.specs.Row.{words, bit, member, countBelow, First, Zeros, Alike};
 
 // The most words of a row whose members are counted.
 pub const WORDS: usize = 16;
 
 // Room for a row of any length up to WORDS.
 pub fn blank() -> [u64; WORDS]
-    ensures { λ r. ⌜ length r ≡ words ⌝ }
+    ensures { λ r. ⌜ Zeros words r ⌝ }
 {
     [0; WORDS]
 }

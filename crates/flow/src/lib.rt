@@ -4,6 +4,7 @@ ghost use Prim.Native.Nat.{ℕ, _+_, _-_, _*_, _≤_, _<_};
 ghost use lib.ListN.{length};
 ghost use Rattle.program.specs.Program.{most, Targets, WellFormed};
 ghost use Rattle.program.specs.Reading.{statements, Held};
+ghost use Rattle.bits.specs.Row.{Zeros};
 ghost use Rattle.graph.specs.Graphs.{places, edgesAt, stepOf, ListsAt, Room};
 ghost use Rattle.flow.specs.FlowOf.{flow-entries, flowAt, FlowOf};
 ghost use Rattle.flow.specs.Edges.{Follow, Inside, Space, Holds, turn, withEdge, stepsBelow, withSelf, stepsBack, BothDrawn};
@@ -16,7 +17,7 @@ pub const ENTRIES: usize = graph::ENTRIES + graph::ENTRIES;
 
 // Room for a control-flow graph.
 pub fn blank() -> [u16; ENTRIES]
-    ensures { λ r. ⌜ length r ≡ flow-entries ⌝ }
+    ensures { λ r. ⌜ Zeros flow-entries r ⌝ }
 {
     [0; ENTRIES]
 }
@@ -148,7 +149,7 @@ fn draw(n: usize, first: &[u16], second: &[u16], flow: &mut [u16])
 
 // Room for a number for each place.
 fn row() -> [u16; PLACES]
-    ensures { λ r. ⌜ length r ≡ places ⌝ }
+    ensures { λ r. ⌜ Zeros places r ⌝ }
 {
     [0; PLACES]
 }

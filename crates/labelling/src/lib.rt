@@ -4,7 +4,7 @@ mod worklist;
 ghost use mathlib.Core.Path.{_≡_};
 ghost use Prim.Native.Nat.{_*_, _≤_};
 ghost use lib.ListN.{length};
-ghost use Rattle.bits.specs.Row.{member};
+ghost use Rattle.bits.specs.Row.{Zeros, member};
 ghost use Rattle.ctl.specs.Paths.{Paths, quant, So};
 ghost use Rattle.ctl.specs.Tables.{Onto, Grown};
 ghost use Rattle.graph.specs.Lists.{step, Linked};
@@ -58,7 +58,7 @@ fn next(all: bool, n: usize, steps: &[u16], p: &[u64], out: &mut [u64])
 
 // Room for a number for each place.
 fn blank() -> [u16; PLACES]
-    ensures { λ r. ⌜ length r ≡ places ⌝ }
+    ensures { λ r. ⌜ Zeros places r ⌝ }
 {
     [0; PLACES]
 }

@@ -93,13 +93,6 @@ fn path_row(
     }
 }
 
-// Room for a row.
-fn blank() -> [u64; WORDS]
-    ensures { λ r. ⌜ length r ≡ 4 ⌝ }
-{
-    [0; WORDS]
-}
-
 // The row of the operator that the rule is of, from the rows of its operands.
 fn operator_row(rule: Rule, n: usize, flow: &[u16], p: &[u64], q: &[u64], out: &mut [u64])
     requires { ⌜ BothWays n (now flow) ⌝ }
@@ -109,7 +102,7 @@ fn operator_row(rule: Rule, n: usize, flow: &[u16], p: &[u64], q: &[u64], out: &
 {
     match rule {
         Rule::Negation => {
-            let mut places = blank();
+            let mut places = atoms::facts::blank_row();
             bits::below(n, &mut places);
             bits::difference(&places, p, out);
         }
@@ -126,7 +119,7 @@ pub fn row_of(table: &[u64], k: usize) -> [u64; WORDS]
     ensures { λ r. ⌜ r ≡ row (now (table .entry)) k ⌝ }
 {
     let at = WORDS * k;
-    let mut words = blank();
+    let mut words = atoms::facts::blank_row();
     let mut i: usize = 0;
     while i < WORDS {
         words[i] = table[at + i];

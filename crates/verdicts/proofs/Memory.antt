@@ -10,10 +10,11 @@ use lib.ListN.{length, getD, set, length-set}
 use lib.Seq.{getD-set-same, getD-set-other}
 use Rattle.language.specs.declared.Operand.the-variants.{Variable, Constant}
 use Rattle.language.specs.declared.Statement.{Statement}
-use Rattle.bits.specs.Row.{member}
+use Rattle.bits.specs.Row.{member, Zeros, ZeroRows}
 use Rattle.labelling.specs.Labels.{Labelled}
 use Rattle.condition.specs.Condition.{Condition}
 use Rattle.condition.specs.Truth.{Sat}
+use Rattle.table.specs.Table.{part-words}
 use Rattle.marks.specs.Marks.{ValidMark}
 use Rattle.marks.specs.declared.Mark.{Mark}
 use Rattle.marks.specs.declared.Mark.the-variants.{Rm, Rpl}
@@ -38,9 +39,8 @@ key-tells (Rpl n x (Constant k)) (Rpl n′ x′ (Variable y)) v w h = absurd (om
 key-tells (Rpl n x (Constant k)) (Rpl n′ x′ (Constant l)) v w h = ap₂ (λ (a b : ℕ). copiedBefore a (Constant b)) (omega arith) (omega arith)
 
 -- where no key is set nothing is remembered
-pub remembers-none : {P : List Statement} {keys : List ℕ} {rows : List (List ℕ)} → (length keys ≡ slots) × ((i : ℕ) → i < slots → getD keys i 0 ≡ 0)
-    → length rows ≡ slots → Remembers P keys rows
-remembers-none k r = record { many-keys = k .0; many-rows = r; right = λ i l m v e. absurd (key-some m (sym e ∙ k .1 i l)) }
+pub remembers-none : {P : List Statement} {keys : List ℕ} {rows : List (List ℕ)} → Zeros slots keys → ZeroRows slots part-words rows → Remembers P keys rows
+remembers-none k r = record { many-keys = k .size; many-rows = r .many; right = λ i l m v e. absurd (key-some m (sym e ∙ k .zero i)) }
 
 -- one row more
 pub remembers-more : {P : List Statement} {keys : List ℕ} {rows : List (List ℕ)} → Remembers P keys rows → (m : Mark) → ValidMark m → (k : ℕ) → k ≡ keyOf m

@@ -3,10 +3,12 @@ ghost use mathlib.Core.Path.{_≡_};
 ghost use mathlib.Core.List.{List};
 ghost use mathlib.Core.Logic.{_↔_};
 ghost use Prim.Native.Nat.{ℕ, _≤_, _<_};
-ghost use lib.ListN.{length, getD};
+ghost use lib.ListN.{length};
 ghost use Rattle.language.specs.declared.Statement.{Statement as StatementOf};
 ghost use Rattle.program.specs.Program.{most as statements-most};
 ghost use Rattle.program.specs.Reading.{Decides, statements, Held};
+ghost use Rattle.bits.specs.Row.{Zeros, ZeroRows};
+ghost use Rattle.table.specs.Table.{part-words};
 ghost use Rattle.table.specs.Known.{Known, SomeKnown};
 ghost use Rattle.marks.specs.Reading.{most, Taken};
 ghost use Rattle.marks.specs.Marks.{ValidMark, names};
@@ -29,21 +31,15 @@ use table::WORDS;
 const PUBLISHED_WORDS: usize = 40;
 
 fn blank_text() -> [u8; PUBLISHED_ROOM]
-    ensures { λ r. ⌜ length r ≡ published-room ⌝ }
+    ensures { λ r. ⌜ Zeros published-room r ⌝ }
 {
     [0; PUBLISHED_ROOM]
 }
 
 fn blank_rows() -> [u64; PUBLISHED_WORDS]
-    ensures { λ r. ⌜ length r ≡ published-words ⌝ }
+    ensures { λ r. ⌜ Zeros published-words r ⌝ }
 {
     [0; PUBLISHED_WORDS]
-}
-
-fn blank_row() -> [u64; WORDS]
-    ensures { λ r. ⌜ length r ≡ 4 ⌝ }
-{
-    [0; WORDS]
 }
 
 // The places at which the condition with this text is true, of the n statements that the facts and the graph are of: it is read and
@@ -56,7 +52,7 @@ fn row_of(text: &[u8], n: usize, facts: &[[u64; WORDS]], flow: &[u16]) -> [u64; 
     let reading = condition::read::read(text);
     let answer = reading.answer;
     let condition::Answer::Taken(parts) = answer else {
-        return blank_row();
+        return atoms::facts::blank_row();
     };
     let words = reading.words;
     let count = parts as usize;
@@ -81,13 +77,13 @@ fn published_row(m: Mark, n: usize, facts: &[[u64; WORDS]], flow: &[u16]) -> [u6
 const SLOTS: usize = 251;
 
 fn blank_keys() -> [u64; SLOTS]
-    ensures { λ r. ⌜ (length r ≡ slots) × ((i : ℕ) → i < slots → getD r i 0 ≡ 0) ⌝ }
+    ensures { λ r. ⌜ Zeros slots r ⌝ }
 {
     [0; SLOTS]
 }
 
 fn blank_memory() -> [[u64; WORDS]; SLOTS]
-    ensures { λ r. ⌜ length r ≡ slots ⌝ }
+    ensures { λ r. ⌜ ZeroRows slots part-words r ⌝ }
 {
     [[0; WORDS]; SLOTS]
 }
@@ -208,7 +204,7 @@ pub fn judge(marks: &[u8], p: Program, facts: &[[u64; WORDS]], flow: &[u16], ver
     ensures { λ _. ⌜ ((ms : List MarkOf) → Taken (now (marks .entry)) ms → VerdictsOf (statements p) ms (now (verdicts .entry)) (now (verdicts .exit))) ⌝ }
 {
     let n = p.count;
-    let mut named = blank_row();
+    let mut named = atoms::facts::blank_row();
     bits::clear(&mut named);
     let mut keys = blank_keys();
     let mut rows = blank_memory();

@@ -34,37 +34,37 @@ successors-of-requires c κs =
     (omega (arith, pre .0 .few), held-targets (p .entries) (p .count) (c .before .before .loop .s) (rw (statements-size p (pre .0)) (c .before .loop-test .taken)) (pre .1 .0))
 
 array-write-first : tie.Need-array-write-first Inv-loop μ-loop
-array-write-first c = let few = c .before .before .before .before .before .before .before .pre .0 .few in omega (arith, c .before .before .before .loop .inv .1 .first-size, c .before .before .before .before .before .row .ensures)
+array-write-first c = let few = c .before .before .before .before .before .before .before .pre .0 .few in omega (arith, c .before .before .before .loop .inv .1 .first-size, c .before .before .before .before .before .row .ensures .size)
 
 array-write-second : tie.Need-array-write-second Inv-loop μ-loop
-array-write-second c = let few = c .before .before .before .before .before .before .before .pre .0 .few in omega (arith, c .before .before .before .loop .inv .1 .second-size, c .before .before .before .before .row2 .ensures)
+array-write-second c = let few = c .before .before .before .before .before .before .before .pre .0 .few in omega (arith, c .before .before .before .loop .inv .1 .second-size, c .before .before .before .before .row2 .ensures .size)
 
 loop-again : tie.Need-loop-again Inv-loop μ-loop
 loop-again c =
     let p = c .before .before .before .before .before .before .before .args .t1 in
     let pre = c .before .before .before .before .before .before .before .pre in
     let w = c .before .before .before .loop in
-    (omega arith, listed-more p (pre .0) _ _ (c .before .before .before .before .before .row .ensures) (c .before .before .before .before .row2 .ensures) _ _ (w .s) (w .inv .1) _ _ (c .before .before .loop-test .taken) (c .successors-of .ensures))
+    (omega arith, listed-more p (pre .0) _ _ (c .before .before .before .before .before .row .ensures .size) (c .before .before .before .before .row2 .ensures .size) _ _ (w .s) (w .inv .1) _ _ (c .before .before .loop-test .taken) (c .successors-of .ensures))
 
 slice-aggregate-draw : tie.Need-slice-aggregate-draw Inv-loop μ-loop
-slice-aggregate-draw c = sym (c .before .before .loop .inv .1 .first-size ∙ c .before .before .before .before .row .ensures)
+slice-aggregate-draw c = sym (c .before .before .loop .inv .1 .first-size ∙ c .before .before .before .before .row .ensures .size)
 
 slice-aggregate-draw-2 : tie.Need-slice-aggregate-draw-2 Inv-loop μ-loop
-slice-aggregate-draw-2 c = sym (c .before .before .before .loop .inv .1 .second-size ∙ c .before .before .before .before .row2 .ensures)
+slice-aggregate-draw-2 c = sym (c .before .before .before .loop .inv .1 .second-size ∙ c .before .before .before .before .row2 .ensures .size)
 
 draw-requires : tie.Need-draw-requires Inv-loop μ-loop
 draw-requires c κs =
     let p = c .before .before .before .before .before .before .before .before .args .t1 in
     let pre = c .before .before .before .before .before .before .before .before .pre in
     let size = statements-size p (pre .0) in
-    ((omega (arith, size, pre .1 .0 .counted .0), pre .0 .few, pre .1 .1), rw size at (successors-inside _ _ _ (pre .1 .0) (listed-all p (pre .0) _ _ (c .before .before .before .before .before .before .row .ensures) (c .before .before .before .before .before .row2 .ensures) _ _ (c .before .before .before .before .loop .s) (c .before .before .before .before .loop .inv .1) (c .before .before .before .loop-test .left))))
+    ((omega (arith, size, pre .1 .0 .counted .0), pre .0 .few, pre .1 .1), rw size at (successors-inside _ _ _ (pre .1 .0) (listed-all p (pre .0) _ _ (c .before .before .before .before .before .before .row .ensures .size) (c .before .before .before .before .before .row2 .ensures .size) _ _ (c .before .before .before .before .loop .s) (c .before .before .before .before .loop .inv .1) (c .before .before .before .loop-test .left))))
 
 returns : tie.Need-returns Inv-loop μ-loop
 returns c =
     let p = c .before .before .before .before .before .before .before .before .before .before .before .args .t1 in
     let pre = c .before .before .before .before .before .before .before .before .before .before .before .pre in
     let d = c .before .before .draw .ensures in
-    flow-of (statements p) (pre .1 .0) _ _ (listed-all p (pre .0) _ _ (c .before .before .before .before .before .before .before .before .before .row .ensures) (c .before .before .before .before .before .before .before .before .row2 .ensures) _ _ (c .before .before .before .before .before .before .before .loop .s) (c .before .before .before .before .before .before .before .loop .inv .1) (c .before .before .before .before .before .before .loop-test .left)) _ (sym (statements-size p (pre .0))) _ _ (d .ahead) (d .behind)
+    flow-of (statements p) (pre .1 .0) _ _ (listed-all p (pre .0) _ _ (c .before .before .before .before .before .before .before .before .before .row .ensures .size) (c .before .before .before .before .before .before .before .before .row2 .ensures .size) _ _ (c .before .before .before .before .before .before .before .loop .s) (c .before .before .before .before .before .before .before .loop .inv .1) (c .before .before .before .before .before .before .loop-test .left)) _ (sym (statements-size p (pre .0))) _ _ (d .ahead) (d .behind)
 
 pub of-spec : {M : Type 1} → statement M
 of-spec =

@@ -12,19 +12,19 @@ use Rattle.labelling.proofs.label.Statement.{statement}
 use Rattle.labelling.proofs.label.Tie as tie
 
 slice-aggregate-below : tie.Need-slice-aggregate-below
-slice-aggregate-below c = sym (length-take-le _ _ (omega (arith, c .before .before .blank .ensures, c .before .before .before .before .before .before .before .before .pre .1 .short)))
+slice-aggregate-below c = sym (length-take-le _ _ (omega (arith, c .before .before .blank .ensures .size, c .before .before .before .before .before .before .before .before .pre .1 .short)))
 
 below-requires : tie.Need-below-requires
 below-requires c κs = omega (arith, slice-aggregate-below c, c .before .before .before .before .before .before .before .before .pre .1 .room)
 
 array-share-prefix-places : tie.Need-array-share-prefix-places
-array-share-prefix-places c = rw (length-front _ _ _ (c .before .below .kept .1 .0)) (omega (arith, c .before .before .before .before .blank .ensures, c .before .before .before .before .before .before .before .before .before .before .pre .1 .short))
+array-share-prefix-places c = rw (length-front _ _ _ (c .before .below .kept .1 .0)) (omega (arith, c .before .before .before .before .blank .ensures .size, c .before .before .before .before .before .before .before .before .before .before .pre .1 .short))
 
 slice-aggregate-apply : tie.Need-slice-aggregate-apply
 slice-aggregate-apply c = sym (length-take-le _ _ (array-share-prefix-places (c .before)))
 
 slice-aggregate-apply-2 : tie.Need-slice-aggregate-apply-2
-slice-aggregate-apply-2 c = sym (length-take-le _ _ (omega (arith, c .before .before .before .before .before .blank2 .ensures, c .before .before .before .before .before .before .before .before .before .before .before .before .pre .1 .short)))
+slice-aggregate-apply-2 c = sym (length-take-le _ _ (omega (arith, c .before .before .before .before .before .blank2 .ensures .size, c .before .before .before .before .before .before .before .before .before .before .before .before .pre .1 .short)))
 
 apply-requires : tie.Need-apply-requires
 apply-requires c κs =

@@ -16,19 +16,19 @@ slice-aggregate-entry : tie.Need-slice-aggregate-entry
 slice-aggregate-entry c = sym (head-size (c .before .before .before .before .before .before .before .before .args .opposite .now) (c .before .before .before .before .before .before .before .before .pre .0 .opposite-size))
 
 slice-aggregate-copy-2 : tie.Need-slice-aggregate-copy-2
-slice-aggregate-copy-2 c = sym (length-take-le _ _ (omega (arith, c .before .before .before .before .before .before .before .before .before .before .before .before .before .before .pre .0 .directions .few, c .before .before .before .blank .ensures)))
+slice-aggregate-copy-2 c = sym (length-take-le _ _ (omega (arith, c .before .before .before .before .before .before .before .before .before .before .before .before .before .before .pre .0 .directions .few, c .before .before .before .blank .ensures .size)))
 
 copy-requires : tie.Need-copy-requires
 copy-requires c κs = sym (slice-aggregate-copy-2 c) ∙ sym (c .before .before .before .before .before .before .before .before .before .before .before .before .before .before .pre .0 .directions .head-size)
 
 array-borrow-prefix-rest-2 : tie.Need-array-borrow-prefix-rest-2
-array-borrow-prefix-rest-2 c = rw (length-front _ _ _ (c .before .before .before .before .copy .kept .1 .0)) (omega (arith, c .before .before .before .before .before .before .before .before .before .before .before .before .before .before .before .before .before .before .before .pre .0 .directions .few, c .before .before .before .before .before .before .before .before .blank .ensures))
+array-borrow-prefix-rest-2 c = rw (length-front _ _ _ (c .before .before .before .before .copy .kept .1 .0)) (omega (arith, c .before .before .before .before .before .before .before .before .before .before .before .before .before .before .before .before .before .before .before .pre .0 .directions .few, c .before .before .before .before .before .before .before .before .blank .ensures .size))
 
 slice-aggregate-close-3 : tie.Need-slice-aggregate-close-3
 slice-aggregate-close-3 c = sym (length-take-le _ _ (array-borrow-prefix-rest-2 (c .before)))
 
 slice-aggregate-close-4 : tie.Need-slice-aggregate-close-4
-slice-aggregate-close-4 c = sym (length-take-le _ _ (omega (arith, c .before .before .before .before .before .before .before .before .before .before .before .before .before .before .before .before .before .before .before .before .before .pre .0 .directions .few, c .before .before .before .before .before .before .before .before .before .blank2 .ensures)))
+slice-aggregate-close-4 c = sym (length-take-le _ _ (omega (arith, c .before .before .before .before .before .before .before .before .before .before .before .before .before .before .before .before .before .before .before .before .before .pre .0 .directions .few, c .before .before .before .before .before .before .before .before .before .blank2 .ensures .size)))
 
 close-requires : tie.Need-close-requires
 close-requires c κs =

@@ -35,10 +35,10 @@ find-requires : tie.Need-find-requires
 find-requires c κs = let p = program-taken (c .before .before .before .before .before .before .before) in (p .1, (p .0 .program, c .before .blank .ensures))
 
 of-requires : tie.Need-of-requires
-of-requires c κs = let p = program-taken (c .before .before .before .before .before .before .before .before .before .before .before) in (p .1, (p .0 .program, c .before .blank2 .ensures))
+of-requires c κs = let p = program-taken (c .before .before .before .before .before .before .before .before .before .before .before) in (p .1, (p .0 .program, c .before .blank2 .ensures .size))
 
 judge-requires : tie.Need-judge-requires
-judge-requires c κs = let p = program-taken (c .before .before .before .before .before .before .before .before .before .before .before .before .before .before .before .before) in let m = marks-taken (c .before .before .before .before .before .before .before .before .before .before .before .before) in ((p .1, known-program {flow = c .before .before .before .before .of .last .1 .0} (p .0) (p .1) (c .before .before .before .before .before .before .before .before .find .ensures) (c .before .before .before .before .of .ensures) (omega (arith, c .before .before .before .before .of .kept, c .before .before .before .before .before .before .blank2 .ensures))), (record { ms = m .0; taken = m .1 }, c .before .before .before .before .before .before .before .before .before .before .before .before .before .before .before .before .before .before .before .before .if1 .left))
+judge-requires c κs = let p = program-taken (c .before .before .before .before .before .before .before .before .before .before .before .before .before .before .before .before) in let m = marks-taken (c .before .before .before .before .before .before .before .before .before .before .before .before) in ((p .1, known-program {flow = c .before .before .before .before .of .last .1 .0} (p .0) (p .1) (c .before .before .before .before .before .before .before .before .find .ensures) (c .before .before .before .before .of .ensures) (omega (arith, c .before .before .before .before .of .kept, c .before .before .before .before .before .before .blank2 .ensures .size))), (record { ms = m .0; taken = m .1 }, c .before .before .before .before .before .before .before .before .before .before .before .before .before .before .before .before .before .before .before .before .if1 .left))
 
 rewrite-requires : tie.Need-rewrite-requires
 rewrite-requires c κs = let p = program-taken (c .before .before .before .before .before .before .before .before .before .before .before .before .before .before .before .before .before .before .before .before) in let m = marks-taken (c .before .before .before .before .before .before .before .before .before .before .before .before .before .before .before .before) in (p .1, some-judged (p .0) (m .1) (c .before .before .before .judge .ensures (m .0) (m .1)) (c .before .before .before .before .before .before .before .before .before .before .before .before .before .before .before .before .before .before .before .before .before .before .before .before .if1 .left))

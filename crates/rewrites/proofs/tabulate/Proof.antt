@@ -32,13 +32,13 @@ find-requires : tie.Need-find-requires
 find-requires c κs = let p = program-taken (c .before .before .before .before .before .before .before .before) in (p .1, (p .0 .program, c .before .blank .ensures))
 
 of-requires : tie.Need-of-requires
-of-requires c κs = let p = program-taken (c .before .before .before .before .before .before .before .before .before .before .before .before) in (p .1, (p .0 .program, c .before .blank2 .ensures))
+of-requires c κs = let p = program-taken (c .before .before .before .before .before .before .before .before .before .before .before .before) in (p .1, (p .0 .program, c .before .blank2 .ensures .size))
 
 -- what is known of the program once its facts are found and its graph is drawn
 known : (c : tie.After-flow2) → Known (statements (c .before .before .before .before .before .before .before .before .before .before .before .before .before .before .before .before .read .result .program)) (c .before .before .before .before .before .before .before .before .before .before .before .before .before .before .before .before .read .result .program .count) (c .before .before .before .before .before .find .last .1 .0) (c .before .of .last .1 .0)
 known c =
     let p = program-taken (c .before .before .before .before .before .before .before .before .before .before .before .before .before .before) in
-    known-program {flow = c .before .of .last .1 .0} (p .0) (p .1) (c .before .before .before .before .before .find .ensures) (c .before .of .ensures) (omega (arith, c .before .of .kept, c .before .before .before .blank2 .ensures))
+    known-program {flow = c .before .of .last .1 .0} (p .0) (p .1) (c .before .before .before .before .before .find .ensures) (c .before .of .ensures) (omega (arith, c .before .of .kept, c .before .before .before .blank2 .ensures .size))
 
 fill-requires : tie.Need-fill-requires
 fill-requires c κs =

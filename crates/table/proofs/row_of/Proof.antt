@@ -20,7 +20,7 @@ mul-at : tie.Need-mul-at Inv-loop μ-loop
 mul-at c = search needs
 
 loop-holds : tie.Need-loop-holds Inv-loop μ-loop
-loop-holds c = (omega arith, c .blank .ensures, refl)
+loop-holds c = (omega arith, c .blank-row .ensures .size, refl)
 
 loop-again : tie.Need-loop-again Inv-loop μ-loop
 loop-again c =

@@ -23,7 +23,7 @@ abbrev μ-loop : tie.MeasureT-loop
 μ-loop marks facts flow verdicts₀ p n named₀ keys₀ rows₀ j₀ at₀ verdicts named keys rows j at = length marks - at
 
 loop-holds : tie.Need-loop-holds Inv-loop μ-loop
-loop-holds c = (refl, omega (arith, c .before .before .before .clear .kept .0, c .before .before .before .before .before .blank-row .ensures), (λ ms t. judged-none _ (t .spells) (c .before .before .before .clear .ensures)), λ P k. remembers-none (c .before .blank-keys .ensures) (c .blank-memory .ensures))
+loop-holds c = (refl, omega (arith, c .before .before .before .clear .kept .0, c .before .before .before .before .before .blank-row .ensures .size), (λ ms t. judged-none _ (t .spells) (c .before .before .before .clear .ensures)), λ P k. remembers-none (c .before .blank-keys .ensures) (c .blank-memory .ensures))
 
 returns : tie.Need-returns Inv-loop μ-loop
 returns c = λ ms t. absurd (never-misspelled (c .before .before .before .before .loop .inv .2 ms t .begins) (c .before .before .before .loop-test .taken) (c .enum-told .given .1) (c .before .before .line .ensures))

@@ -21,14 +21,14 @@ row-of-requires : tie.Need-row-of-requires
 row-of-requires c κs =
     let i = c .before .before .before .before .before .before .before .before .before .before .before .before .pre in
     let h = read-held (i .1) _ _ (c .before .before .before .before .before .before .before .before .before .read .ensures) _ (c .before .before .before .before .before .before .before .answer .given .1) in
-    omega (arith, held-room (i .1) h, held-some h, c .before .before .fill .ensures (i .0 .P) (i .1 .c) (i .0 .known) h .same, c .before .before .before .before .blank-rows .ensures)
+    omega (arith, held-room (i .1) h, held-some h, c .before .before .fill .ensures (i .0 .P) (i .1 .c) (i .0 .known) h .same, c .before .before .before .before .blank-rows .ensures .size)
 
 returns-2 : tie.Need-returns-2
 returns-2 c = λ P k.
     let i = c .before .before .before .before .before .before .before .before .before .before .before .before .before .pre in
     let h = read-held (i .1) _ _ (c .before .before .before .before .before .before .before .before .before .before .read .ensures) _ (c .before .before .before .before .before .before .before .before .answer .given .1) in
     let t = c .before .before .before .fill .ensures P (i .1 .c) k h in
-    rw (c .row-of .ensures) (whole-row (i .1) h (omega (arith, t .same, c .before .before .before .before .before .blank-rows .ensures)) t)
+    rw (c .row-of .ensures) (whole-row (i .1) h (omega (arith, t .same, c .before .before .before .before .before .blank-rows .ensures .size)) t)
 
 pub row-of-spec : {M : Type 1} → statement M
 row-of-spec =

@@ -1,10 +1,11 @@
 -- `facts::blank` meets its contract: the rows are zeros. Assumes nothing.
-use Rattle.atoms.proofs.Found.{blank-rows}
+use Rattle.bits.proofs.Rows.{zero-rows}
+use Rattle.atoms.specs.Facts.{row-words, fact-rows}
 use Rattle.atoms.proofs.facts.blank.Statement.{statement}
 use Rattle.atoms.proofs.facts.blank.Tie as tie
 
 returns : tie.Need-returns
-returns c = blank-rows
+returns c = zero-rows fact-rows row-words
 
 pub blank-spec : {M : Type 1} → statement M
 blank-spec = tie.close (tie.spec returns)
