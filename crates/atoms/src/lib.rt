@@ -105,8 +105,8 @@ fn same_code(a: Code, b: Code) -> bool
     a.third == b.third
 }
 
-// The first number of a statement's code: most statements differ there.
-fn first_code(s: Statement) -> u8
+// The variable that a statement names first, or 0: the first number of its code. Most statements differ there.
+pub fn variable_of(s: Statement) -> u8
     ensures { λ r. ⌜ r ≡ statementCode s .first ⌝ }
 {
     match s {
@@ -121,7 +121,7 @@ fn first_code(s: Statement) -> u8
 pub fn same_statement(s: Statement, t: Statement) -> bool
     ensures { λ r. ⌜ Decides r (s ≡ t) ⌝ }
 {
-    if first_code(s) != first_code(t) {
+    if variable_of(s) != variable_of(t) {
         return false;
     }
     same_code(statement_code(s), statement_code(t))

@@ -144,11 +144,12 @@ fn replace_variable(x: u8, a: Operand, y: u8) -> u8
 fn replace(x: u8, a: Operand, i: Statement) -> Statement
     ensures { λ r. ⌜ r ≡ replaceStatement x a i ⌝ }
 {
+    let z = replace_variable(x, a, atoms::variable_of(i));
     match i {
         Statement::Read(y) => Statement::Read(y),
-        Statement::Write(y) => Statement::Write(replace_variable(x, a, y)),
+        Statement::Write(_) => Statement::Write(z),
         Statement::Assign(y, e) => Statement::Assign(y, replace_in(x, a, e)),
-        Statement::Branch(y, n, m) => Statement::Branch(replace_variable(x, a, y), n, m),
+        Statement::Branch(_, n, m) => Statement::Branch(z, n, m),
         Statement::Skip => Statement::Skip,
     }
 }

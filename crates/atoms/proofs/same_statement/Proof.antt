@@ -7,7 +7,7 @@ use Rattle.atoms.proofs.same_statement.Statement.{statement}
 use Rattle.atoms.proofs.same_statement.Tie as tie
 
 returns : tie.Need-returns
-returns c = λ e. c .if1 .taken (c .before .before .first-code .ensures ∙ ap (λ z. statementCode z .first) e ∙ sym (c .before .first-code2 .ensures))
+returns c = λ e. c .if1 .taken (c .before .before .variable-of .ensures ∙ ap (λ z. statementCode z .first) e ∙ sym (c .before .variable-of2 .ensures))
 
 returns-2 : tie.Need-returns-2
 returns-2 c =
