@@ -1,7 +1,7 @@
 -- Laws of Boolean tests, and the search below a bound for a number at which a test fails or holds. Assumes nothing.
 use mathlib.Core.Path.{_≡_, refl, sym, _∙_}
 use mathlib.Core.Bool.{Bool, true, false, not, _&&_, _||_, true≢false}
-use mathlib.Core.Logic.{_⊎_, inl, inr, ⊎-elim}
+use mathlib.Core.Logic.{_⊎_, inl, inr, ⊎-elim, _↔_}
 use Prim.Native.Nat.{ℕ, zero, suc, _<_, suc-le-suc}
 use native.Mathlib.Omega.{arith}
 use native.Mathlib.Nat.{not-suc-le-zero, le-of-suc-le-suc}
@@ -63,6 +63,13 @@ imply-make false b f = refl
 pub imply-fail : (a b : Bool) → (not a || b) ≡ false → (a ≡ true) × (b ≡ false)
 imply-fail true b e = (refl, e)
 imply-fail false b e = clash refl e
+
+-- two tests of the same claim
+pub tests-agree : {X : Type 0} (a b : Bool) → (a ≡ true) ↔ X → (b ≡ true) ↔ X → a ≡ b
+tests-agree true true f g = refl
+tests-agree true false f g = sym (g .1 (f .0 refl))
+tests-agree false true f g = f .1 (g .0 refl)
+tests-agree false false f g = refl
 
 -- a number below n + 1 is n, or below n
 pub last-or-below : (n : ℕ) (P : ℕ → Type 0) → P n → ((k : ℕ) → k < n → P k) → (k : ℕ) → k < suc n → P k

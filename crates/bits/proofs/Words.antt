@@ -13,6 +13,7 @@ use lib.Bits.{bitAnd, bitOr, bitXor, and-shr, or-shr, xor-shr, and-mod, or-mod, 
 use lib.Count.{trailingZeros, under}
 use borrow.Author.Tests.{eq-eqb, ne-eqb, lt-ltb, le-ltb}
 use Rattle.bits.specs.Row.{bit}
+use Rattle.bits.proofs.Tests.{clash}
 
 pub bit-zero : (b : ℕ) → bit 0 b ≡ false
 unfolding bit
@@ -28,6 +29,9 @@ two-digits P a b c d (suc zero) (suc zero) h k = d
 two-digits P a b c d zero (suc (suc v)) h k = absurd (omega arith)
 two-digits P a b c d (suc zero) (suc (suc v)) h k = absurd (omega arith)
 two-digits P a b c d (suc (suc u)) v h k = absurd (omega arith)
+
+digit-unique : (u v : ℕ) → u < 2 → v < 2 → eqb u 1 ≡ eqb v 1 → u ≡ v
+digit-unique = two-digits (λ u v. eqb u 1 ≡ eqb v 1 → u ≡ v) (λ _. refl) (λ e. clash e refl) (λ e. clash refl e) (λ _. refl)
 
 module _ (op : ℕ → ℕ → ℕ) (g : Bool → Bool → Bool) where
   -- the operation says the same of two digits as g of two tests
@@ -99,6 +103,15 @@ bit-pow b c = go (decLt b c) (decLt c b)
 bit-suc : (x b : ℕ) → bit x (suc b) ≡ bit (x / 2) b
 unfolding bit
 bit-suc x b = ap (λ (z : ℕ). eqb (x / 2 ^ z % 2) 1) (sym (one-add b)) ∙ ap (λ (z : ℕ). eqb (z % 2) 1) (sym (shr-shr x 1 b))
+
+-- a word is its bits
+pub word-unique : (k x y : ℕ) → x < 2 ^ k → y < 2 ^ k → ((b : ℕ) → b < k → bit x b ≡ bit y b) → x ≡ y
+unfolding bit
+word-unique zero x y h l e = lt-one h ∙ sym (lt-one l)
+word-unique (suc k) x y h l e =
+    let halves = word-unique k (x / 2) (y / 2) (shr-lt k 1 (rw add-one h)) (shr-lt k 1 (rw add-one l)) (λ b i. sym (bit-suc x b) ∙ e (suc b) (omega arith) ∙ bit-suc y b) in
+    let low = digit-unique (x / 2 ^ 0 % 2) (y / 2 ^ 0 % 2) (mod-lt _ (zero-lt-suc 1)) (mod-lt _ (zero-lt-suc 1)) (e 0 (omega arith)) in
+    omega arith
 
 pub lowest-set : (k x : ℕ) → x < 2 ^ k → (x ≡ 0 → ⊥) → (trailingZeros k x < k) × (bit x (trailingZeros k x) ≡ true)
 unfolding trailingZeros bit

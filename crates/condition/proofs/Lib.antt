@@ -3,3 +3,4 @@ pub mod Operators
 pub mod Readers
 pub mod Whole
 pub mod Words
+pub mod Unique

@@ -6,14 +6,15 @@ use native.Mathlib.Omega.{arith}
 use lib.ListN.{length, take, drop, length-drop, drop-of-length-le}
 use lib.Seq.{sets, sets-eq, length-sets, take-at}
 use Rattle.language.specs.Parsing.{Parsed, found, misspelled}
-use Rattle.condition.specs.declared.Refusal.the-variants.{Length, Misspelled, PartCount}
+use Rattle.condition.specs.declared.Refusal.the-variants.{Misspelled, PartCount}
 use Rattle.condition.specs.declared.Answer.{Answer}
 use Rattle.condition.specs.declared.Answer.the-variants as answer
 use Rattle.condition.specs.declared.read.ConditionRead.the-variants as read
 use Rattle.condition.specs.Condition.{Condition, spellCondition, parts}
 use Rattle.condition.specs.Reading.{most-bytes, most-parts, Spells, Refused, Taken, words, Held, ConditionRead}
 use Rattle.condition.specs.Parsing.{parseCondition, Reads, TellsWhole}
-use Rattle.condition.proofs.Spelling.{condition-sound, whole-complete, condition-unique}
+use Rattle.condition.proofs.Spelling.{condition-sound, whole-complete}
+use Rattle.condition.proofs.Unique.{taken-unique, taken-refused}
 use Rattle.condition.proofs.Readers.{tells-found, tells-not, words-length}
 
 module _ (t o q : List ℕ) where
@@ -62,12 +63,7 @@ module _ (t o q : List ℕ) where
 -- the text of a condition that is to be taken is read, and gives it back
 pub read-back : (t : List ℕ) (c : Condition) → Taken t c → (a : Answer) (ws : List ℕ) → ConditionRead t a ws → (a ≡ answer.Taken (length (parts c))) × Held c (length (parts c)) ws
 read-back t c k (answer.Taken m) ws r =
-    let e : r .0 ≡ c = condition-unique t (r .0) c (r .1 .spells) (k .spells) in
+    let e : r .0 ≡ c = taken-unique (r .1) k in
     let h : Held c m ws = rw e at (r .2) in
     (ap answer.Taken (h .counted), rw (h .counted) at h)
-read-back t c k (answer.Refused Length) ws r = absurd (omega (arith, k .short))
-read-back t c k (answer.Refused Misspelled) ws r = absurd (r .1 c (k .spells))
-read-back t c k (answer.Refused PartCount) ws r =
-    let e : r .1 ≡ c = condition-unique t (r .1) c (r .2) (k .spells) in
-    let h : most-parts < length (parts c) = rw e at (r .3) in
-    absurd (omega (arith, k .few))
+read-back t c k (answer.Refused f) ws r = absurd (taken-refused k f r)

@@ -48,6 +48,13 @@ pub taken-refused : {t : List ℕ} {ms : List Mark} → Taken t ms → (r : Refu
 taken-refused {ms = ms} a Misspelled f = f ms (a .spells)
 taken-refused a LineCount f = omega (arith, a .few, ap length (marks-unique (a .spells) (f .1)))
 
+-- a text gets one refusal only
+pub refused-unique : (t : List ℕ) (r s : Refusal) → Refused t r → Refused t s → r ≡ s
+refused-unique t Misspelled Misspelled a b = refl
+refused-unique t Misspelled LineCount a b = absurd (a (b .0) (b .1))
+refused-unique t LineCount Misspelled a b = absurd (b (a .0) (a .1))
+refused-unique t LineCount LineCount a b = refl
+
 -- whatever is answered of a list that is taken is its number of marks
 pub taken-checked : {t : List ℕ} {ms : List Mark} → Taken t ms → (c : Checked) → ListRead t c → c ≡ checked.Taken (length ms)
 taken-checked a (checked.Taken n) l = ap checked.Taken (l .2 ∙ ap length (taken-unique (l .1) a))

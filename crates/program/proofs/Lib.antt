@@ -2,3 +2,4 @@ pub mod Decides
 pub mod Held
 pub mod Texts
 pub mod RoundTrip
+pub mod Unique
