@@ -2,3 +2,4 @@ pub mod Tabulates
 pub mod Demand
 pub mod Known
 pub mod Judges
+pub mod Unique
