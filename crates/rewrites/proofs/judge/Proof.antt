@@ -29,7 +29,10 @@ returns-2 : tie.Need-returns-2
 returns-2 c = (inl (inr (c .if2 .taken), refl), refl)
 
 returns-3 : tie.Need-returns-3
-returns-3 c = (inr (inl ((c .before .before .before .before .before .before .if1 .left, c .before .before .before .before .before .if2 .left), c .before .before .answer .given .0 .0, rw (c .before .before .answer .given .1) at (c .before .before .before .before .read .ensures), c .number-of .ensures)), refl)
+returns-3 c =
+    let told = c .before .before in
+    let tested = told .before .before .before in
+    (inr (inl ((tested .before .if1 .left, tested .if2 .left), told .answer .given .0 .0, (rw (told .answer .given .1) at (told .before .before .read .ensures)) .0, c .number-of .ensures)), refl)
 
 find-requires : tie.Need-find-requires
 find-requires c κs = let p = program-taken (c .before .before .before .before .before .before .before) in (p .1, (p .0 .program, c .before .blank .ensures))

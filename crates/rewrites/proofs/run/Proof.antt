@@ -14,8 +14,9 @@ returns c = rw (c .run-refused .ensures .0, c .run-refused .ensures .1) (inl (c 
 
 returns-2 : tie.Need-returns-2
 returns-2 c =
+    let told = c .before .before .before in
     rw (c .run-refused2 .ensures .0, c .run-refused2 .ensures .1)
-    (inr (c .before .before .before .before .before .before .if1 .left, c .before .before .before .answer .given .0 .0, rw (c .before .before .before .answer .given .1) at (c .before .before .before .before .before .read .ensures), c .before .number-of .ensures), refl)
+    (inr (told .before .before .before .if1 .left, told .answer .given .0 .0, (rw (told .answer .given .1) at (told .before .before .read .ensures)) .0, c .before .number-of .ensures), refl)
 
 -- the text that was read is taken
 taken : (c : tie.After-enum-told) → Taken (c .before .before .before .before .before .args .program .now) (statements (c .before .before .read .result .program))

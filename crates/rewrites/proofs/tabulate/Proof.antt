@@ -18,7 +18,9 @@ returns : tie.Need-returns
 returns c = (inl (c .if1 .taken, refl), refl)
 
 returns-2 : tie.Need-returns-2
-returns-2 c = (inr (inl (c .before .before .before .before .before .if1 .left, c .before .before .answer .given .0 .0, rw (c .before .before .answer .given .1) at (c .before .before .before .before .read .ensures), c .number-of .ensures)), refl)
+returns-2 c =
+    let told = c .before .before in
+    (inr (inl (told .before .before .before .if1 .left, told .answer .given .0 .0, (rw (told .answer .given .1) at (told .before .before .read .ensures)) .0, c .number-of .ensures)), refl)
 
 -- the text that was read is taken
 program-taken : (c : tie.After-enum-told) → Taken (c .before .before .before .before .before .before .before .args .program .now) (statements (c .before .before .read .result .program)) × Held (c .before .before .read .result .program)
