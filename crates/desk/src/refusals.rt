@@ -19,7 +19,8 @@ fn on_line(out: &mut [u8], at: usize, before: &[u8], line: u32, after: &[u8]) ->
     language::write::word(out, k2, after)
 }
 
-fn words(out: &mut [u8], at: usize, n: u8, line: u32) -> usize
+// The words of the refusal with number n.
+pub fn words(out: &mut [u8], at: usize, n: u8, line: u32) -> usize
     requires { ⌜ at + length (refusalWords n line) ≤ length (now out) ⌝ }
     ensures { λ r. ⌜ Put (now (out .entry)) at (refusalWords n line) (now (out .exit)) r ⌝ }
 {
