@@ -21,8 +21,9 @@ use Rattle.language.proofs.Puts.{put-front, put-within}
 use Rattle.rewrites.specs.Judge.{text-bytes, Room, Lent, JudgeRefused, JudgeFinished, JudgeAnswers}
 use Rattle.rewrites.specs.declared.JudgeAnswer.{JudgeAnswer}
 use Rattle.rewrites.specs.declared.JudgeAnswer.the-variants.{Refused, Finished}
-use Rattle.report.specs.Report.{refusedLine, countsLine, verdictLines, reportText, Refuses, report-room, Printed, Reports}
+use Rattle.report.specs.Report.{refusedLine, countsLine, verdictLines, reportText, Refuses, PrintsReport, PrintsRefusal, report-room, Printed, Reports}
 use Rattle.report.specs.declared.Reported.{Reported}
+use Rattle.report.specs.declared.Reported.the-variants as reported
 use Rattle.report.specs.declared.Reported.the-variants.{Written}
 use Rattle.report.specs.Writing.{ReportFits}
 use Rattle.report.proofs.Lines.{refused-length}
@@ -59,12 +60,12 @@ refuses-number (inr h) = rw (h .4) (marks-number (h .2))
 pub refused-room : {t u : List ℕ} {n : ℕ} → Refuses t u n → length (refusedLine n) ≤ report-room
 refused-room {n = n} h = omega (arith, refused-length n, digits-length 1 n (refuses-number h))
 
-pub refused-printed : {t u o p : List ℕ} {n k : ℕ} → Refuses t u n → report-room ≤ length o → Put o 0 (refusedLine n) p k → Printed t u o p k
+pub refused-printed : {t u o p : List ℕ} {n k : ℕ} → Refuses t u n → report-room ≤ length o → Put o 0 (refusedLine n) p k → Printed (PrintsRefusal t u) o p k
 refused-printed {n = n} h room put =
     record {
       room = room;
       w = refusedLine n;
-      output = inl (record { n = n; refuses = h; line = refl });
+      says = record { n = n; refuses = h; line = refl };
       fits = omega (arith, refused-room h);
       written = put;
     }
@@ -100,14 +101,13 @@ module _ {t u : List ℕ} {o q : Lent} {count accepted bytes : ℕ} (f : JudgeFi
 
   pub finished-printed : {l p : List ℕ} {k : ℕ} → report-room ≤ length l
       → ((ms : List Mark) → Taken u ms → Put l 0 (countsLine count accepted ++ (verdictLines ms (q .verdicts) ++ take bytes (q .new))) p k)
-      → Printed t u l p k
+      → Printed (PrintsReport t u) l p k
   finished-printed room put =
       record {
         room = room;
         w = printed;
-        output =
-            inr
-            (record {
+        says =
+            record {
               P = f .P;
               ms = f .ms;
               vs = q .verdicts;
@@ -117,11 +117,15 @@ module _ {t u : List ℕ} {o q : Lent} {count accepted bytes : ℕ} (f : JudgeFi
               judged = f .judged;
               rewritten = f .rewritten;
               lines = printed-report;
-            });
+            };
         fits = omega (arith, printed-most);
         written = put (f .ms) (f .marks);
       }
 
 -- an output's end lies within the lent bytes
-pub printed-within : (t u o q : List ℕ) {r : Reported} {n : ℕ} → r ≡ Written n → Reports t u o q r → n ≤ length q
-printed-within t u o q is h = let p : Printed t u o q _ = rw is at h in put-within (p .written) (p .fits)
+module _ (t u o q : List ℕ) {r : Reported} {n : ℕ} (h : Reports t u o q r) where
+  pub report-within : r ≡ Written n → n ≤ length q
+  report-within is = let p : Printed (PrintsReport t u) o q n = rw is at h in put-within (p .written) (p .fits)
+
+  pub refusal-within : r ≡ reported.Refused n → n ≤ length q
+  refusal-within is = let p : Printed (PrintsRefusal t u) o q n = rw is at h in put-within (p .written) (p .fits)

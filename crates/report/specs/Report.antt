@@ -17,7 +17,7 @@ use Rattle.marks.specs.declared.Refusal as marks-refusal
 use Rattle.rewriting.specs.Verdicts.{Verdicts, acceptedCount, Rewritten}
 use Rattle.rewrites.specs.Judge.{text-bytes}
 use Rattle.report.specs.declared.Reported.{Reported}
-use Rattle.report.specs.declared.Reported.the-variants.{Written, NoRoom}
+use Rattle.report.specs.declared.Reported.the-variants.{Written, Refused, NoRoom}
 
 -- `refused `, `marks ` and ` accepted ` as bytes
 abbrev pub refused-word : List ℕ
@@ -81,15 +81,16 @@ Output t u w = PrintsRefusal t u w ⊎ PrintsReport t u w
 abbrev pub report-room : ℕ
 report-room = 23 + (marks.most * 14 + text-bytes)
 
--- the output stands at the front of the lent bytes o, all others are kept, and n is its length
-pub record Printed (t u o q : List ℕ) (n : ℕ) : Type 0 where
+-- such an output stands at the front of the lent bytes o, all others are kept, and n is its length
+pub record Printed (Says : List ℕ → Type 0) (o q : List ℕ) (n : ℕ) : Type 0 where
   pub room : report-room ≤ length o
   pub w : List ℕ
-  pub output : Output t u w
+  pub says : Says w
   pub fits : length w ≤ length o
   pub written : Put o 0 w q n
 
 -- too few bytes are kept as they are
 abbrev pub Reports : List ℕ → List ℕ → List ℕ → List ℕ → Reported → Type 0
-Reports t u o q (Written n) = Printed t u o q n
+Reports t u o q (Written n) = Printed (PrintsReport t u) o q n
+Reports t u o q (Refused n) = Printed (PrintsRefusal t u) o q n
 Reports t u o q NoRoom = (length o < report-room) × (q ≡ o)

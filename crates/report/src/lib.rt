@@ -1,4 +1,4 @@
-// The check program's output: a program and a list of marks in, the bytes that are printed out.
+// The check program's output, and what it says of a refusal: a program and a list of marks in, the bytes that are printed out.
 ghost use mathlib.Core.Path.{_≡_};
 ghost use mathlib.Core.List.{List, _++_};
 ghost use lib.ListN.{length};
@@ -7,8 +7,10 @@ ghost use Rattle.language.specs.Writing.{Put};
 ghost use Rattle.marks.specs.Reading.{Taken};
 ghost use Rattle.marks.specs.declared.Mark.{Mark};
 ghost use Rattle.report.specs.Report.{refusedLine, countsLine, verdictLine, verdictLines, Reports};
+ghost use Rattle.report.specs.Words.{wordsLine, Words};
 ghost use Rattle.rewrites.specs.Judge.{verdict-bytes, text-bytes};
 ghost use Rattle.report.specs.Writing.{VerdictsFit, ReportFits};
+use desk::refusals::REFUSAL_ROOM;
 use marks::read::MarkRead;
 use rewrites::JudgeAnswer;
 use rewrites::TEXT_BYTES;
@@ -17,9 +19,17 @@ use rewrites::VERDICT_BYTES;
 // Every output has room in this many bytes.
 pub const REPORT_ROOM: usize = 23 + marks::MOST * 14 + TEXT_BYTES;
 
-// Written: the number of bytes of the output. NoRoom: under REPORT_ROOM bytes are lent.
+// Written: the number of bytes of the report. Refused: the same of the line of a refused call. NoRoom: under REPORT_ROOM bytes are lent.
 pub enum Reported {
     Written(usize),
+    Refused(usize),
+    NoRoom,
+}
+
+// Written: the number of bytes of the refusal's words. Nothing: no refusal applies. NoRoom: under REFUSAL_ROOM bytes are lent.
+pub enum Worded {
+    Written(usize),
+    Nothing,
     NoRoom,
 }
 
@@ -115,10 +125,39 @@ pub fn report(given: &[u8], marks: &[u8], out: &mut [u8]) -> Reported
     let mut text = text_buffer();
     let answer = rewrites::judge(given, marks, &mut verdicts, &mut text);
     match answer {
-        JudgeAnswer::Refused(n) => Reported::Written(write_refused(out, n)),
+        JudgeAnswer::Refused(n) => Reported::Refused(write_refused(out, n)),
         JudgeAnswer::Finished(count, accepted, bytes) => {
             let end = bytes as usize;
             Reported::Written(write_report(out, count, accepted, marks, &verdicts, &text[..end]))
         }
+    }
+}
+
+// Puts the words of the refusal with number n, and byte 10, at the front of the lent bytes, and answers their number.
+fn write_words(out: &mut [u8], n: u8, line: u32) -> usize
+    requires { ⌜ length (wordsLine n line) ≤ length (now out) ⌝ }
+    ensures { λ r. ⌜ Put (now (out .entry)) 0 (wordsLine n line) (now (out .exit)) r ⌝ }
+{
+    let k = desk::refusals::words(out, 0, n, line);
+    language::write::byte(out, k, 10)
+}
+
+// Puts the words of the refusal of the program's text and the list of marks, whose mistake it is and on which line, at the front of the
+// lent bytes.
+pub fn words(given: &[u8], marks: &[u8], out: &mut [u8]) -> Worded
+    ensures { λ r. ⌜ Words (now (given .entry)) (now (marks .entry)) (now (out .entry)) (now (out .exit)) r ⌝ }
+{
+    if out.len() < REFUSAL_ROOM {
+        return Worded::NoRoom;
+    }
+    let mut verdicts = verdict_buffer();
+    let mut text = text_buffer();
+    let answer = rewrites::judge(given, marks, &mut verdicts, &mut text);
+    match answer {
+        JudgeAnswer::Refused(n) => {
+            let line = blame::line_of_number(given, n);
+            Worded::Written(write_words(out, n, line))
+        }
+        JudgeAnswer::Finished(_, _, _) => Worded::Nothing,
     }
 }
