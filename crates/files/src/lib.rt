@@ -213,6 +213,16 @@ pub fn write(text: &[u8]) -> bool {
     false
 }
 
+// Writes the text to standard output, and answers this status, or that of output that wasn't written.
+pub fn print(text: &[u8], status: u8) -> u8
+    ensures { λ r. ⌜ Settles status r ⌝ }
+{
+    if write(text) {
+        return status;
+    }
+    UNWRITTEN
+}
+
 // The status after standard output is closed, which tells what was lost late. One that was never open has no error left to tell.
 fn settled(n: u8) -> u8
     ensures { λ r. ⌜ Settles n r ⌝ }

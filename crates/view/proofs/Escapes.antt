@@ -9,10 +9,10 @@ use lib.ListN.{length, take, getD}
 use Rattle.language.specs.Spelling.{pickList}
 use Rattle.language.specs.Writing.{Put}
 use Rattle.language.proofs.Puts.{put-front, put-within}
-use Rattle.view.specs.View.{view-room, Printed, Views}
+use Rattle.view.specs.View.{PrintsView, PrintsRefusal, view-room, Printed, Views}
 use Rattle.view.specs.Page.{escapeByte, escape, page-room, PagePrinted, Pages}
 use Rattle.view.specs.declared.Viewed.{Viewed}
-use Rattle.view.specs.declared.Viewed.the-variants.{Written, NoRoom}
+use Rattle.view.specs.declared.Viewed.the-variants.{Written, Refused, NoRoom}
 use Rattle.view.proofs.Texts.{upto-most}
 
 pick-most : (b : Bool) (xs ys : List ℕ) (m : ℕ) → length xs ≤ m → length ys ≤ m → length (pickList b xs ys) ≤ m
@@ -27,28 +27,26 @@ escape-most : (s : List ℕ) → length (escape s) ≤ length s * 5
 unfolding escape
 escape-most s = upto-most (λ i. escapeByte (getD s i 0)) 5 (length s) (λ i h. byte-most (getD s i 0))
 
+-- the plain bytes have room
+pub never : (t u p v : List ℕ) {r : Viewed} → Views t u p v r → length p ≡ view-room → r ≡ NoRoom → ⊥
+never t u p v a l is = let h = (rw is at a) .0 in omega arith
+
 -- what the viewer left in the plain bytes p, now v
-module _ (t u p v : List ℕ) {r : Viewed} (a : Views t u p v r) (l : length p ≡ view-room) where
-  pub never : r ≡ NoRoom → ⊥
-  never is = let h = (rw is at a) .0 in omega arith
+module _ {Says : List ℕ → Type 0} {p v : List ℕ} {n : ℕ} (a : Printed Says p v n) (l : length p ≡ view-room) where
+  plain-text : take n v ≡ a .w
+  plain-text = put-front (a .written) (a .fits)
 
-  module _ {n : ℕ} (is : r ≡ Written n) where
-    printed : Printed t u p v n
-    printed = rw is at a
+  pub page-fits : (m : ℕ) → page-room ≤ m → length (escape (take n v)) ≤ m
+  page-fits m h = rw plain-text (omega (arith, escape-most (a .w), a .fits))
 
-    pub plain-within : n ≤ length v
-    plain-within = put-within (printed .written) (printed .fits)
+  pub page-printed : {o q : List ℕ} {k : ℕ} → page-room ≤ length o → Put o 0 (escape (take n v)) q k → PagePrinted Says o q k
+  page-printed {o = o} room put =
+      record { room = room; w = a .w; says = a .says; fits = rw plain-text at (page-fits (length o) room); written = rw plain-text at put }
 
-    plain-text : take n v ≡ printed .w
-    plain-text = put-front (printed .written) (printed .fits)
+-- what stands at the front of the lent bytes ends within them
+module _ (t u o q : List ℕ) {r : Viewed} {n : ℕ} (h : Pages t u o q r) where
+  pub view-within : r ≡ Written n → n ≤ length q
+  view-within is = let p : PagePrinted (PrintsView t u) o q n = rw is at h in put-within (p .written) (p .fits)
 
-    pub page-fits : (m : ℕ) → page-room ≤ m → length (escape (take n v)) ≤ m
-    page-fits m h = rw plain-text (omega (arith, escape-most (printed .w), printed .fits))
-
-    pub page-printed : {o q : List ℕ} {k : ℕ} → page-room ≤ length o → Put o 0 (escape (take n v)) q k → PagePrinted t u o q k
-    page-printed {o = o} room put =
-        record { room = room; w = printed .w; output = printed .output; fits = rw plain-text at (page-fits (length o) room); written = rw plain-text at put }
-
--- an output's end lies within the lent bytes
-pub page-within : (t u o q : List ℕ) {r : Viewed} {n : ℕ} → r ≡ Written n → Pages t u o q r → n ≤ length q
-page-within t u o q is h = let p : PagePrinted t u o q _ = rw is at h in put-within (p .written) (p .fits)
+  pub refusal-within : r ≡ Refused n → n ≤ length q
+  refusal-within is = let p : PagePrinted (PrintsRefusal t u) o q n = rw is at h in put-within (p .written) (p .fits)

@@ -24,9 +24,10 @@ use Rattle.table.specs.Table.{part-words, partAt}
 use Rattle.rewrites.specs.Tabulate.{table-words, TabulateRefused, TabulateFilled, TabulateAnswers}
 use Rattle.rewrites.specs.declared.TabulateAnswer.{TabulateAnswer}
 use Rattle.rewrites.specs.declared.TabulateAnswer.the-variants.{Refused, Filled}
-use Rattle.view.specs.View.{viewText, Refuses, view-room, Printed, Views}
+use Rattle.view.specs.View.{viewText, Refuses, PrintsView, PrintsRefusal, view-room, Printed, Views}
 use Rattle.view.specs.Writing.{truthIn, ViewFits, RefusalPut}
 use Rattle.view.specs.declared.Viewed.{Viewed}
+use Rattle.view.specs.declared.Viewed.the-variants as viewed
 use Rattle.view.specs.declared.Viewed.the-variants.{Written}
 use Rattle.language.proofs.Puts.{put-within}
 use Rattle.view.proofs.Room.{view-most}
@@ -46,12 +47,12 @@ taken-refuses old l (inr (inl h)) p line = absurd (program-taken (p .program) (h
 taken-refuses old l (inr (inr h)) p line = inr (h .1, h .2, h .3, h .4, h .5)
 
 pub refusal-printed : {t u : List ℕ} (old : List ℕ) {n : ℕ} → length old ≡ table-words → TabulateRefused t u old n → {o q : List ℕ} {k : ℕ} → view-room ≤ length o → RefusalPut t n o q k
-    → Printed t u o q k
+    → Printed (PrintsRefusal t u) o q k
 refusal-printed old l a room (inl x) =
     record {
       room = room;
       w = _;
-      output = inl (record { n = _; line = x .2; refuses = inl (x .0, x .1, refl, x .3); text = refl });
+      says = record { n = _; line = x .2; refuses = inl (x .0, x .1, refl, x .3); text = refl };
       fits = x .4;
       written = x .5;
     }
@@ -59,7 +60,7 @@ refusal-printed old {n = n} l a room (inr x) =
     record {
       room = room;
       w = _;
-      output = inl (record { n = n; line = 0; refuses = taken-refuses old l a (x .1) 0; text = refl });
+      says = record { n = n; line = 0; refuses = taken-refuses old l a (x .1) 0; text = refl };
       fits = x .2;
       written = x .3;
     }
@@ -110,14 +111,13 @@ module _ {t u old new : List ℕ} {n satisfied first : ℕ} (f : TabulateFilled 
         }
 
     pub view-printed : {o q : List ℕ} {k : ℕ} → view-room ≤ length o
-        → ((c : Condition) → condition.Taken u c → Put o 0 (viewText (program.statements p) c (truthIn new) satisfied first) q k) → Printed t u o q k
+        → ((c : Condition) → condition.Taken u c → Put o 0 (viewText (program.statements p) c (truthIn new) satisfied first) q k) → Printed (PrintsView t u) o q k
     view-printed room put =
         record {
           room = room;
           w = viewText (program.statements p) (f .c) (truthIn new) satisfied first;
-          output =
-              inr
-              (record {
+          says =
+              record {
                 P = f .P;
                 c = f .c;
                 program = f .program;
@@ -130,11 +130,24 @@ module _ {t u old new : List ℕ} {n satisfied first : ℕ} (f : TabulateFilled 
                 decides = f .decides;
                 counts = f .counts;
                 text = rw (back .1);
-              });
+              };
           fits = omega (arith, most);
           written = put (f .c) (f .condition);
         }
 
--- an output's end lies within the lent bytes
-pub printed-within : (t u o q : List ℕ) {r : Viewed} {n : ℕ} → r ≡ Written n → Views t u o q r → n ≤ length q
-printed-within t u o q is h = let p : Printed t u o q _ = rw is at h in put-within (p .written) (p .fits)
+pub printed-within : {Says : List ℕ → Type 0} {o q : List ℕ} {n : ℕ} → Printed Says o q n → n ≤ length q
+printed-within p = put-within (p .written) (p .fits)
+
+-- each answer's output, which ends within the lent bytes
+module _ (t u o q : List ℕ) {r : Viewed} {n : ℕ} (h : Views t u o q r) where
+  pub as-view : r ≡ Written n → Printed (PrintsView t u) o q n
+  as-view is = rw is at h
+
+  pub as-refusal : r ≡ viewed.Refused n → Printed (PrintsRefusal t u) o q n
+  as-refusal is = rw is at h
+
+  pub view-within : r ≡ Written n → n ≤ length q
+  view-within is = printed-within (as-view is)
+
+  pub refusal-within : r ≡ viewed.Refused n → n ≤ length q
+  refusal-within is = printed-within (as-refusal is)

@@ -7,9 +7,9 @@ use lib.ListN.{length, getD}
 use Rattle.language.specs.Spelling.{pickList}
 use Rattle.language.specs.Writing.{Put}
 use Rattle.desk.specs.Refusals.{bytes}
-use Rattle.view.specs.View.{upTo, Output, view-room}
+use Rattle.view.specs.View.{upTo, PrintsView, PrintsRefusal, view-room}
 use Rattle.view.specs.declared.Viewed.{Viewed}
-use Rattle.view.specs.declared.Viewed.the-variants.{Written, NoRoom}
+use Rattle.view.specs.declared.Viewed.the-variants.{Written, Refused, NoRoom}
 
 -- `&`, `<` and `>` as HTML asks for them in a text
 unfoldable pub escapeByte : ℕ → List ℕ
@@ -22,15 +22,16 @@ escape s = upTo (length s) (λ i. escapeByte (getD s i 0))
 abbrev pub page-room : ℕ
 page-room = view-room * 5
 
--- what the viewer prints, escaped, stands at the front of the lent bytes o, all others are kept, and n is its length
-pub record PagePrinted (t u o q : List ℕ) (n : ℕ) : Type 0 where
+-- such an output, escaped, stands at the front of the lent bytes o, all others are kept, and n is its length
+pub record PagePrinted (Says : List ℕ → Type 0) (o q : List ℕ) (n : ℕ) : Type 0 where
   pub room : page-room ≤ length o
   pub w : List ℕ
-  pub output : Output t u w
+  pub says : Says w
   pub fits : length (escape w) ≤ length o
   pub written : Put o 0 (escape w) q n
 
--- too few bytes are kept as they are
+-- what the viewer prints; too few bytes are kept as they are
 abbrev pub Pages : List ℕ → List ℕ → List ℕ → List ℕ → Viewed → Type 0
-Pages t u o q (Written n) = PagePrinted t u o q n
+Pages t u o q (Written n) = PagePrinted (PrintsView t u) o q n
+Pages t u o q (Refused n) = PagePrinted (PrintsRefusal t u) o q n
 Pages t u o q NoRoom = (length o < page-room) × (q ≡ o)

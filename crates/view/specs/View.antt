@@ -22,7 +22,7 @@ use Rattle.blame.specs.Blame.{Blames}
 use Rattle.desk.specs.Columns.{spaces, wide, padded}
 use Rattle.desk.specs.Refusals.{bytes, refusalText}
 use Rattle.view.specs.declared.Viewed.{Viewed}
-use Rattle.view.specs.declared.Viewed.the-variants.{Written, NoRoom}
+use Rattle.view.specs.declared.Viewed.the-variants.{Written, Refused, NoRoom}
 
 -- the texts f 0, f 1 .. of the first n, one after another
 unfoldable pub upTo : ℕ → (ℕ → List ℕ) → List ℕ
@@ -115,15 +115,16 @@ Output t u w = PrintsRefusal t u w ⊎ PrintsView t u w
 abbrev pub view-room : ℕ
 view-room = condition.most-parts * (condition.most-bytes + 5) + ((most + 2) * (margin + condition.most-parts + 3) + 33)
 
--- the output stands at the front of the lent bytes o, all others are kept, and n is its length
-pub record Printed (t u o q : List ℕ) (n : ℕ) : Type 0 where
+-- such an output stands at the front of the lent bytes o, all others are kept, and n is its length
+pub record Printed (Says : List ℕ → Type 0) (o q : List ℕ) (n : ℕ) : Type 0 where
   pub room : view-room ≤ length o
   pub w : List ℕ
-  pub output : Output t u w
+  pub says : Says w
   pub fits : length w ≤ length o
   pub written : Put o 0 w q n
 
 -- too few bytes are kept as they are
 abbrev pub Views : List ℕ → List ℕ → List ℕ → List ℕ → Viewed → Type 0
-Views t u o q (Written n) = Printed t u o q n
+Views t u o q (Written n) = Printed (PrintsView t u) o q n
+Views t u o q (Refused n) = Printed (PrintsRefusal t u) o q n
 Views t u o q NoRoom = (length o < view-room) × (q ≡ o)

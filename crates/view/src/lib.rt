@@ -31,9 +31,10 @@ pub const VIEW_ROOM: usize = MOST_PARTS * (MOST_BYTES + 5)
 // The codes of operators with two operands begin here.
 const FIRST_BINARY: u64 = 14;
 
-// Written: the number of bytes of the output. NoRoom: under VIEW_ROOM bytes are lent.
+// Written: the number of bytes of the view. Refused: the same of a refusal's text. NoRoom: under VIEW_ROOM bytes are lent.
 pub enum Viewed {
     Written(usize),
+    Refused(usize),
     NoRoom,
 }
 
@@ -250,7 +251,7 @@ pub fn view(program: &[u8], condition: &[u8], out: &mut [u8]) -> Viewed
     let mut table = table_buffer();
     let answer = rewrites::tabulate(program, condition, &mut table);
     match answer {
-        TabulateAnswer::Refused(n) => Viewed::Written(write_refusal(out, program, n)),
+        TabulateAnswer::Refused(n) => Viewed::Refused(write_refusal(out, program, n)),
         TabulateAnswer::Filled(n, satisfied, first) => {
             let reading = program::read(program);
             let p = reading.program;

@@ -50,8 +50,9 @@ pub fn page(program: &[u8], condition: &[u8], out: &mut [u8]) -> Viewed
         return Viewed::NoRoom;
     }
     let mut plain = plain_buffer();
-    let Viewed::Written(n) = crate::view(program, condition, &mut plain) else {
-        return Viewed::NoRoom;
-    };
-    Viewed::Written(escape(out, &plain[..n]))
+    match crate::view(program, condition, &mut plain) {
+        Viewed::Written(n) => Viewed::Written(escape(out, &plain[..n])),
+        Viewed::Refused(n) => Viewed::Refused(escape(out, &plain[..n])),
+        Viewed::NoRoom => Viewed::NoRoom,
+    }
 }

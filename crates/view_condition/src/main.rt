@@ -1,13 +1,17 @@
 // Shows at which statements of a program the parts of a condition are true, as `view` says. The arguments name the files of the program
 // and of the condition, `given` and `condition` where they are left out; a byte 10 at the condition's end is dropped. With `--html` before
-// them the same text is printed within a page. A file is read up to 65,536 bytes, more than any that is taken.
+// them the same text is printed within a page.
 mod page;
 
 ghost use lib.ListN.{length};
 ghost use Prim.Native.Nat.{_≤_};
+use files::FileRead;
+use files::REFUSAL;
+use files::RESULT;
+use files::UNREAD;
+use files::UNWRITTEN;
 use language::read::WordRead;
 use libc::STDERR_FILENO;
-use libc::STDOUT_FILENO;
 use view::VIEW_ROOM;
 use view::Viewed;
 use view::page::PAGE_ROOM;
@@ -26,44 +30,49 @@ fn without_end(text: &[u8]) -> usize
     n - 1
 }
 
-fn print(program: &[u8], condition: &[u8]) {
+fn print(program: &[u8], condition: &[u8]) -> u8 {
     let end = without_end(condition);
     let mut out = [0u8; VIEW_ROOM];
-    if let Viewed::Written(n) = view::view(program, &condition[..end], &mut out) {
-        io::write_all(STDOUT_FILENO, &out[..n]);
+    match view::view(program, &condition[..end], &mut out) {
+        Viewed::Written(n) => files::print(&out[..n], RESULT),
+        Viewed::Refused(n) => files::print(&out[..n], REFUSAL),
+        Viewed::NoRoom => UNWRITTEN,
     }
 }
 
-fn print_page(program: &[u8], condition: &[u8]) {
+// The text within the page.
+fn print_around(text: &[u8], status: u8) -> u8 {
+    if page::print_head() && files::write(text) && page::print_tail() {
+        return status;
+    }
+    UNWRITTEN
+}
+
+fn print_page(program: &[u8], condition: &[u8]) -> u8 {
     let end = without_end(condition);
     let mut out = [0u8; PAGE_ROOM];
-    if let Viewed::Written(n) = view::page::page(program, &condition[..end], &mut out) {
-        page::print_head();
-        io::write_all(STDOUT_FILENO, &out[..n]);
-        page::print_tail();
+    match view::page::page(program, &condition[..end], &mut out) {
+        Viewed::Written(n) => print_around(&out[..n], RESULT),
+        Viewed::Refused(n) => print_around(&out[..n], REFUSAL),
+        Viewed::NoRoom => UNWRITTEN,
     }
+}
+
+fn show(page: bool, program: &[u8], condition: &[u8]) -> u8 {
+    if page {
+        return print_page(program, condition);
+    }
+    print(program, condition)
 }
 
 // Whether the first argument is `--html`.
 fn asks_page() -> bool {
     let mut first = io::buffer();
-    let n = os::arg(1, &mut first);
+    let n = files::arg(1, &mut first);
     let WordRead::Found(k) = language::read::word(&first[..n], 0, b"--html") else {
         return false;
     };
     k == n
-}
-
-fn view_files(page: bool, program: i32, condition: i32) {
-    let mut given = io::large_buffer();
-    let m = files::read(program, &mut given);
-    let mut text = io::large_buffer();
-    let n = files::read(condition, &mut text);
-    if page {
-        print_page(&given[..m], &text[..n]);
-        return;
-    }
-    print(&given[..m], &text[..n]);
 }
 
 fn usage() {
@@ -73,31 +82,29 @@ fn usage() {
     );
 }
 
-// The files are named by the arguments from `first` on.
-fn run(page: bool, first: usize)
+// The files are named by the arguments from `first` on. Answers the status.
+fn view_files(page: bool, first: usize) -> u8
     requires { ⌜ first ≤ 2 ⌝ }
 {
-    if first + 2 < os::arg_count() {
+    if first + 2 < files::arg_count() {
         usage();
-        return;
+        return UNREAD;
     }
-    let program = files::open(first, b"given");
-    if program < 0 {
-        usage();
-        return;
-    }
-    let condition = files::open(first + 1, b"condition");
-    if condition < 0 {
-        usage();
-        return;
-    }
-    view_files(page, program, condition);
+    let mut given = io::large_buffer();
+    let FileRead::Whole(m) = files::read(first, b"given", &mut given) else {
+        return UNREAD;
+    };
+    let mut text = io::large_buffer();
+    let FileRead::Whole(n) = files::read(first + 1, b"condition", &mut text) else {
+        return UNREAD;
+    };
+    show(page, &given[..m], &text[..n])
 }
 
 fn main() {
     if asks_page() {
-        run(true, 2);
+        files::status(view_files(true, 2));
         return;
     }
-    run(false, 1);
+    files::status(view_files(false, 1));
 }

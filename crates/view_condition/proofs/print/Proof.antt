@@ -1,7 +1,7 @@
--- `print` meets its contract: what is written to standard output lies within the bytes lent to `view`. Assumes nothing.
-use Rattle.view.proofs.Views.{printed-within}
+-- `print` meets its contract: what is written lies within the bytes lent to `view`. Assumes nothing.
 use mathlib.Core.Path.{sym}
 use lib.Seq.{length-take-le}
+use Rattle.view.proofs.Views.{view-within, refusal-within}
 use borrow.Author.Needs.{needs}
 use Rattle.view_condition.proofs.print.Statement.{statement}
 use Rattle.view_condition.proofs.print.Tie as tie
@@ -10,10 +10,16 @@ slice-aggregate-view : tie.Need-slice-aggregate-view
 slice-aggregate-view c = sym (length-take-le _ _ (c .before .without-end .ensures))
 
 array-share-prefix-out : tie.Need-array-share-prefix-out
-array-share-prefix-out c = printed-within _ _ _ _ (c .before .n .given .1) (c .before .before .before .before .view .ensures)
+array-share-prefix-out c = view-within _ _ _ _ (c .before .before .before .before .view .ensures) (c .before .n .given .1)
 
-slice-aggregate-write-all : tie.Need-slice-aggregate-write-all
-slice-aggregate-write-all c = sym (length-take-le _ _ (printed-within _ _ _ _ (c .before .before .n .given .1) (c .before .before .before .before .before .view .ensures)))
+slice-aggregate-print : tie.Need-slice-aggregate-print
+slice-aggregate-print c = sym (length-take-le _ _ (view-within _ _ _ _ (c .before .before .before .before .before .view .ensures) (c .before .before .n .given .1)))
+
+array-share-prefix-out-2 : tie.Need-array-share-prefix-out-2
+array-share-prefix-out-2 c = refusal-within _ _ _ _ (c .before .before .before .before .view .ensures) (c .before .n2 .given .1)
+
+slice-aggregate-print-2 : tie.Need-slice-aggregate-print-2
+slice-aggregate-print-2 c = sym (length-take-le _ _ (refusal-within _ _ _ _ (c .before .before .before .before .before .view .ensures) (c .before .before .n2 .given .1)))
 
 pub print-spec : {M : Type 1} → statement M
 print-spec =
@@ -25,8 +31,13 @@ print-spec =
     (λ c κs. search needs)
     (λ c. search needs)
     array-share-prefix-out
-    slice-aggregate-write-all
+    slice-aggregate-print
     (λ c κs. search needs)
+    (λ c. search needs)
+    array-share-prefix-out-2
+    slice-aggregate-print-2
+    (λ c κs. search needs)
+    (λ c. search needs)
     (λ c. search needs)
     (λ c. search needs)
     (λ c. search needs))
