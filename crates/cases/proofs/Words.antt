@@ -8,7 +8,7 @@ use lib.Dec.{leb, ltb}
 use lib.ListN.{length, getD}
 use borrow.Author.Tests.{ltb-true, leb-true, lt-ltb}
 use Rattle.language.specs.declared.Statement.{Statement}
-use Rattle.language.specs.Parsing.{Parsed, found, misspelled, parseWord, digitOf, parseDigits, parseZero, parseNumber, parseVariable, parseOperand, parseOperator, parseExpression, parseRead, parseWrite, parseSkip, parseAssign, parseBranch, parseStatement}
+use Rattle.language.specs.Parsing.{Parsed, found, misspelled, parseWord, digitOf, parseDigits, parseZero, parseNumber, parseVariable, parseOperand, parseOperator, parseExpression, parseRead, parseWrite, parseSkip, parseAssign, parseBranch, parseAssignOrBranch, byFirst, parseStatement}
 use Rattle.program.specs.Program.{WellFormed}
 use Rattle.bits.specs.Row.{bit}
 use Rattle.bits.proofs.Tests.{clash, and-left, and-right, and-both}
@@ -88,7 +88,7 @@ module _ (P : List Statement) (w : WellFormed P) where
   read-right t xs misspelled = false
 
   unfoldable pub right : List ℕ → List ℕ → Bool
-  unfolding read-right parseCondition parseBracketed parsePair parseUnary parseLeaf parseMiddle parsePrefix parseLetter byLetter parseAtom parseTrans parseUse parseDef parseStmt parseNode parseConstant parseEnded parseStatement parseBranch parseAssign parseSkip parseWrite parseRead parseExpression parseOperator parseOperand parseVariable parseNumber parseZero parseDigits digitOf parseWord
+  unfolding read-right parseCondition parseBracketed parsePair parseUnary parseLeaf parseMiddle parsePrefix parseLetter byLetter parseAtom parseTrans parseUse parseDef parseStmt parseNode parseConstant parseEnded parseStatement byFirst parseAssignOrBranch parseBranch parseAssign parseSkip parseWrite parseRead parseExpression parseOperator parseOperand parseVariable parseNumber parseZero parseDigits digitOf parseWord
   right t xs = read-right t xs (parseCondition (length t) t)
 
   pub right-tabulates : (t xs : List ℕ) → right t xs ≡ true → Tabulates P t xs

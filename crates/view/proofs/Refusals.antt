@@ -25,7 +25,7 @@ text-room n line m h l r = omega (arith, text-fits n line m h l r)
 module _ (t : List ℕ) (a : answer.Answer) (p : Program) (d : ProgramRead t a p) {o q : List ℕ} {k : ℕ} (n : ℕ) where
   pub program-refused : {r : Refusal} → a ≡ answer.the-variants.Refused r → {m : ℕ} (line : ℕ) → m ≡ number r → (Refused t r → Blames t r line)
       → length (refusalText m line) ≤ length o → Put o 0 (refusalText m line) q k → RefusalPut t n o q k
-  program-refused {r} is line e b f w = let h : Refused t r = rw is at d in inl (r, h, line, b h, rw e at f, rw e at w)
+  program-refused {r} is line e b f w = let h : Refused t r = (rw is at d) .0 in inl (r, h, line, b h, rw e at f, rw e at w)
 
   pub program-taken : a ≡ answer.the-variants.Taken → length (refusalText n 0) ≤ length o → Put o 0 (refusalText n 0) q k → RefusalPut t n o q k
   program-taken is f w = inr (statements p, (rw is at d) .0, f, w)

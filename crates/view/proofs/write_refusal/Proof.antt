@@ -1,6 +1,7 @@
 -- `write_refusal` meets its contract. Assumes nothing.
 use native.Mathlib.Omega.{arith}
 use borrow.Author.Needs.{needs}
+use Rattle.blame.proofs.Blames.{blames}
 use Rattle.view.proofs.Refusals.{text-fits, text-room, program-refused, program-taken}
 use Rattle.view.proofs.write_refusal.Statement.{statement}
 use Rattle.view.proofs.write_refusal.Tie as tie
@@ -11,7 +12,7 @@ refusal-requires c κs = text-room (c .before .number-of .result) (c .line-of .r
 returns : tie.Need-returns
 returns c =
     program-refused (c .before .before .before .before .before .before .before .before .before .before .before .before .args .program .now) (c .before .before .before .before .before .before .before .before .before .read .result .answer) (c .before .before .before .before .before .before .before .before .before .read .result .program) (c .before .before .before .before .before .before .before .before .before .read .ensures) (c .before .before .before .before .before .before .before .before .before .before .before .before .args .n) (c .before .before .before .before .before .before .before .answer .given .1) (c .before .before .before .line-of .result)
-    (c .before .before .before .before .number-of .ensures) (c .before .before .before .line-of .ensures)
+    (c .before .before .before .before .number-of .ensures) (blames (c .before .before .before .line-of .ensures))
     (text-fits (c .before .before .before .before .number-of .result) (c .before .before .before .line-of .result) _ (omega arith) (omega arith) (c .before .before .before .before .before .before .before .before .before .before .before .before .pre)) (c .before .before .refusal .ensures)
 
 refusal-requires-2 : tie.Need-refusal-requires-2
