@@ -5,8 +5,11 @@
    that applies, in the order given with the call. A refused call changes nothing that was lent. A
    finished call changes only the places that its result sets.
 
-   No pointer may be null, also where a length is 0. Places that a call writes may not overlap each
-   other or any other place lent to it. */
+   A pointer with a length beside it may be null where the length is 0: nothing is read or written
+   there. No other pointer may be null. Places that a call writes may not overlap each other or any
+   other place lent to it.
+
+   A call takes no memory but the stack of its thread: at most 256 KiB for any input. */
 #ifndef REWRITES_H
 #define REWRITES_H
 
@@ -19,6 +22,7 @@ extern "C" {
 
 /* Runs the shift program that the text spells, from 32 given values and one input value, under a
    budget of 0 to 1,000,000 steps. One step performs one statement. Statements are numbered from 1.
+   Takes at most 48 KiB of stack.
 
    Returns 0, and sets
    *ended = 1, *value and *steps, where the run ends within the budget: the value that `write`
@@ -39,7 +43,8 @@ uint8_t rewrites_run(const uint8_t *program, size_t program_len, const uint32_t 
 /* Tabulates a condition over the statements of a program: fills the table with the statements at
    which each part of the condition is true. The parts are the condition's operators and atoms, 1 to
    64, counted at each occurrence, in the order in which their text ends; of those that end together
-   the inner comes first. So the last part is the whole condition.
+   the inner comes first. So the last part is the whole condition. Takes at most 256 KiB of stack,
+   most where brackets stand within one another.
 
    Returns 0, and sets
    table      words 4k to 4k+3 for part k, counted from 0: bit b of word w of those four is
@@ -68,7 +73,8 @@ uint8_t rewrites_tabulate(const uint8_t *program, size_t program_len, const uint
        Made: A for every use of X in n.
    Each mark is judged on the given program. Accepted marks are all made together, refused ones
    aren't. The new program has the same line count. Started alike, it runs alike: to the same value in
-   the same steps, or spent at the same statement. The values left then may differ.
+   the same steps, or spent at the same statement. The values left then may differ. Takes at most
+   96 KiB of stack.
 
    Returns 0, and sets
    verdicts    byte j for line j, counted from 0: 0 for a mark that is accepted, else the first that

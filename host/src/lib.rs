@@ -2,7 +2,7 @@
 //! paths through them; and marks, which propose rewrites of them.
 //!
 //! The calls are those of a library that is proved to meet its contracts. This package links it and
-//! gives each call a safe form.
+//! gives each call a safe form. A call takes no memory but the stack of its thread, at most 256 KiB.
 //!
 //! A program is ASCII text, one statement a line, each line ended by byte 10. The first statement
 //! is `read X`, the last `write X`; between them stand `X := A`, `X := A o A` with `+`, `-`, `*`,
@@ -267,7 +267,7 @@ impl fmt::Display for Refusal {
 impl Error for Refusal {}
 
 /// Runs the program that the text spells, from the given values of `i0` to `i31` and one input
-/// value, for at most `budget` steps.
+/// value, for at most `budget` steps. Takes at most 48 KiB of stack.
 ///
 /// # Errors
 ///
@@ -327,6 +327,8 @@ pub fn run(
 /// in which their text ends; of those that end together the inner comes first. Part k, counted from
 /// 0, fills words 4k to 4k+3 of the table: bit b of word w of those four is statement 64w+b+1, and
 /// bits beyond the program's statements are 0. All further words of the table are kept.
+///
+/// Takes at most 256 KiB of stack, most where brackets stand within one another.
 ///
 /// With p and q for conditions, a condition is `!p`, `(p & q)`, `(p | q)`; one of `EX AX EF AF EG AG
 /// EY AY ER AR EM AM`, a space, p; `E[p U q]`, `A[p U q]`, the same with `W`, `S` or `B`; or an atom:
@@ -400,6 +402,8 @@ pub fn tabulate(program: &[u8], condition: &[u8], table: &mut [u64]) -> Result<T
 /// From every start, and under every budget that isn't refused, runs of the two programs answer the
 /// same value and the same steps, or 'spent' at the same statement. The values told with 'spent' may
 /// differ.
+///
+/// Takes at most 96 KiB of stack.
 ///
 /// # Errors
 ///

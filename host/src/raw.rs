@@ -7,8 +7,8 @@ extern "C" {
     ///
     /// # Safety
     ///
-    /// `program` points to `program_len` bytes. No pointer is null, also where the length is 0.
-    /// Places that the call writes overlap no other place lent to it.
+    /// `program` points to `program_len` bytes, and may be null where that is 0. No other pointer is
+    /// null. Places that the call writes overlap no other place lent to it.
     pub fn rewrites_run(
         program: *const u8,
         program_len: usize,
@@ -27,8 +27,8 @@ extern "C" {
     /// # Safety
     ///
     /// `program` points to `program_len` bytes, `condition` to `condition_len` bytes and `table` to
-    /// `table_len` words. No pointer is null, also where a length is 0. Places that the call writes
-    /// overlap no other place lent to it.
+    /// `table_len` words; each of them may be null where its length is 0. No other pointer is null.
+    /// Places that the call writes overlap no other place lent to it.
     pub fn rewrites_tabulate(
         program: *const u8,
         program_len: usize,
@@ -46,8 +46,8 @@ extern "C" {
     /// # Safety
     ///
     /// `program` points to `program_len` bytes, `marks` to `marks_len`, `verdicts` to `verdicts_len`
-    /// and `text` to `text_len` bytes. No pointer is null, also where a length is 0. Places that the
-    /// call writes overlap no other place lent to it.
+    /// and `text` to `text_len` bytes; each of them may be null where its length is 0. No other pointer
+    /// is null. Places that the call writes overlap no other place lent to it.
     pub fn rewrites_judge(
         program: *const u8,
         program_len: usize,

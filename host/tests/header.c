@@ -28,6 +28,8 @@ static int run_answers(void) {
     CHECK(run(program, length, values, 2, 1000001, &ended, &value, &steps, &statement, left) == 15);
     CHECK(run(program, length - 1, values, 2, 9, &ended, &value, &steps, &statement, left) == 2);
     CHECK(run(program, 0, values, 2, 9, &ended, &value, &steps, &statement, left) == 3);
+    CHECK(run(NULL, 0, values, 2, 1000001, &ended, &value, &steps, &statement, left) == 15);
+    CHECK(run(NULL, 0, values, 2, 9, &ended, &value, &steps, &statement, left) == 3);
     CHECK(ended == 11 && value == -15 && steps == 12 && statement == 13 && left[0] == 14);
 
     CHECK(run(program, length, values, 2, 12, &ended, &value, &steps, &statement, left) == 0);
@@ -55,6 +57,10 @@ static int tabulate_answers(void) {
     CHECK(tabulate(program, 0, condition, 0, table, 255, &parts, &satisfied, &first) == 1);
     CHECK(tabulate(program, 0, condition, 0, table, 256, &parts, &satisfied, &first) == 3);
     CHECK(tabulate(program, length, condition, 0, table, 256, &parts, &satisfied, &first) == 7);
+    CHECK(tabulate(program, length, condition, size, NULL, 0, &parts, &satisfied, &first) == 1);
+    CHECK(tabulate(NULL, 0, NULL, 0, NULL, 0, &parts, &satisfied, &first) == 1);
+    CHECK(tabulate(NULL, 0, NULL, 0, table, 256, &parts, &satisfied, &first) == 3);
+    CHECK(tabulate(program, length, NULL, 0, table, 256, &parts, &satisfied, &first) == 7);
     CHECK(parts == 11 && satisfied == 12 && first == 13);
     for (k = 0; k < 256; k++) CHECK(table[k] == 14);
 
@@ -87,6 +93,10 @@ static int judge_answers(void) {
     CHECK(judge(p, 0, m, 1, verdicts, 256, text, 8191, &count, &accepted, &bytes) == 1);
     CHECK(judge(p, 0, m, 1, verdicts, 256, text, 8192, &count, &accepted, &bytes) == 3);
     CHECK(judge(p, length, m, size - 1, verdicts, 256, text, 8192, &count, &accepted, &bytes) == 9);
+    CHECK(judge(p, length, m, size, NULL, 0, text, 8192, &count, &accepted, &bytes) == 1);
+    CHECK(judge(p, length, m, size, verdicts, 256, NULL, 0, &count, &accepted, &bytes) == 1);
+    CHECK(judge(NULL, 0, NULL, 0, NULL, 0, NULL, 0, &count, &accepted, &bytes) == 1);
+    CHECK(judge(NULL, 0, NULL, 0, verdicts, 256, text, 8192, &count, &accepted, &bytes) == 3);
     CHECK(count == 15 && accepted == 16 && bytes == 17);
     for (k = 0; k < 256; k++) CHECK(verdicts[k] == 18);
     for (k = 0; k < 8192; k++) CHECK(text[k] == 19);
@@ -97,6 +107,13 @@ static int judge_answers(void) {
     CHECK(memcmp(text, rewritten, filled) == 0);
     for (k = 5; k < 256; k++) CHECK(verdicts[k] == 18);
     for (k = filled; k < 8192; k++) CHECK(text[k] == 19);
+
+    /* No marks give the program back. */
+    for (k = 0; k < 5; k++) verdicts[k] = 18;
+    CHECK(judge(p, length, NULL, 0, verdicts, 256, text, 8192, &count, &accepted, &bytes) == 0);
+    CHECK(count == 0 && accepted == 0 && bytes == length);
+    CHECK(memcmp(text, P, length) == 0);
+    for (k = 0; k < 256; k++) CHECK(verdicts[k] == 18);
     return 0;
 }
 

@@ -1,6 +1,6 @@
 /* Prints how many bytes of stack the deepest calls take. Each runs in a thread whose stack was filled
-   with a pattern before; what the thread alone overwrites is not counted. Exits with 0 where none
-   takes more than the bytes given as argument. */
+   with a pattern before; what the thread alone overwrites is not counted. Exits with 0 where `run`,
+   `judge` and `tabulate` take no more than the bytes given as arguments. */
 #define _POSIX_C_SOURCE 200112L
 #include "rewrites.h"
 
@@ -79,9 +79,11 @@ int main(int count, char **arguments) {
         {"EX ", "true", "", 340, 8}, {"!", "true", "", 1020, 8},  {"E[", "", "", 512, 7},
         {"(", "true", "", 1020, 7},  {"(", "", "", 1024, 7},
     };
-    size_t most = count > 1 ? strtoul(arguments[1], NULL, 10) : ROOM;
+    size_t most[3] = {ROOM, ROOM, ROOM};
     size_t alone = overwritten(nothing), bytes, k;
     int fails = 0, line;
+
+    for (k = 0; k < 3 && k + 1 < (size_t)count; k++) most[k] = strtoul(arguments[k + 1], NULL, 10);
 
     /* 256 lines: each goes to the line before. */
     program_len = sprintf((char *)program, "read i31\n");
@@ -97,10 +99,10 @@ int main(int count, char **arguments) {
 
     bytes = overwritten(run) - alone;
     printf("%7lu bytes of stack: run\n", (unsigned long)bytes);
-    fails += number != 0 || bytes > most;
+    fails += number != 0 || bytes > most[0];
     bytes = overwritten(judge) - alone;
     printf("%7lu bytes of stack: judge, 256 marks\n", (unsigned long)bytes);
-    fails += number != 0 || bytes > most;
+    fails += number != 0 || bytes > most[1];
     for (k = 0; k < sizeof cases / sizeof *cases; k++) {
         condition_len = 0;
         put(cases[k].open, cases[k].depth);
@@ -109,7 +111,7 @@ int main(int count, char **arguments) {
         bytes = overwritten(tabulate) - alone;
         printf("%7lu bytes of stack: tabulate, %4d of '%s', then '%s': %d\n", (unsigned long)bytes,
                cases[k].depth, cases[k].open, cases[k].middle, number);
-        fails += number != cases[k].number || bytes > most;
+        fails += number != cases[k].number || bytes > most[2];
     }
     return fails > 0;
 }

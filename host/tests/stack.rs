@@ -8,31 +8,33 @@ use rewrites::{tabulate, Refusal, TABLE_WORDS};
 use std::process::Command;
 use std::thread;
 
-/// No call takes more, in bytes.
-const MOST: &str = "500000";
+/// What `run`, `judge` and `tabulate` take at most, in KiB, as `include/rewrites.h` tells.
+const MOST: [u32; 3] = [48, 96, 256];
 
 #[test]
 fn no_call_takes_more_stack_than_is_told() {
+    let bytes = MOST.map(|kib| (kib << 10).to_string());
     let measured =
-        Command::new(common::compiled("stack")).arg(MOST).output().expect("the C program runs");
+        Command::new(common::compiled("stack")).args(bytes).output().expect("the C program runs");
     println!("{}", String::from_utf8_lossy(&measured.stdout));
     assert!(measured.status.success());
 }
 
 #[test]
-fn the_deepest_conditions_are_read_in_a_thread_with_512_kib_of_stack() {
+fn the_deepest_conditions_are_read_in_a_thread_with_256_kib_of_stack() {
     let cases = [
         ("!".repeat(1020) + "true", Refusal::ConditionParts),
         ("!".repeat(1024), Refusal::ConditionMisspelled),
         ("EX ".repeat(340) + "true", Refusal::ConditionParts),
         ("E[".repeat(512), Refusal::ConditionMisspelled),
+        ("(".repeat(1020) + "true", Refusal::ConditionMisspelled),
         ("(".repeat(1024), Refusal::ConditionMisspelled),
     ];
     for (condition, refusal) in cases {
         let program = text(&lines(256));
         let mut table = vec![0; TABLE_WORDS];
         let call = move || tabulate(&program, condition.as_bytes(), &mut table);
-        let thread = thread::Builder::new().stack_size(512 << 10).spawn(call);
+        let thread = thread::Builder::new().stack_size(256 << 10).spawn(call);
         let answer = thread.expect("the thread starts").join().expect("the thread ends");
         assert_eq!(answer, Err(refusal));
     }

@@ -16,7 +16,7 @@ use Rattle.ctl.proofs.Least.{every, every-at, test}
 use Rattle.condition.specs.declared.Atom.the-variants.{True}
 use Rattle.condition.specs.Condition.{Condition, atom, spellCondition, parts}
 use Rattle.condition.specs.Reading.{most-bytes, most-parts}
-use Rattle.condition.specs.Parsing.{parseEnded, parseConstant, parseNode, parseStmt, parseDef, parseUse, parseTrans, parseAtom, byLetter, parseLetter, parsePrefix, parseMiddle, parseLeaf, parseUnary, parsePair, parseBracketed, parseCondition}
+use Rattle.condition.specs.Parsing.{parseEnded, parseNode, parseStmt, parseDef, parseUse, parseTrans, parseTrueOrTrans, parseEntryOrExit, parseAtom, byLetter, parseLetter, parsePrefix, parseOpening, parseMiddle, parseLeaf, parseUnary, parseBinary, parseBracketed, parseCondition}
 use Rattle.condition.specs.Truth.{Sat}
 use Rattle.condition.proofs.Spelling.{condition-sound}
 use Rattle.cases.specs.Cases.{WordZero, Tabulates}
@@ -88,7 +88,7 @@ module _ (P : List Statement) (w : WellFormed P) where
   read-right t xs misspelled = false
 
   unfoldable pub right : List ℕ → List ℕ → Bool
-  unfolding read-right parseCondition parseBracketed parsePair parseUnary parseLeaf parseMiddle parsePrefix parseLetter byLetter parseAtom parseTrans parseUse parseDef parseStmt parseNode parseConstant parseEnded parseStatement byFirst parseAssignOrBranch parseBranch parseAssign parseSkip parseWrite parseRead parseExpression parseOperator parseOperand parseVariable parseNumber parseZero parseDigits digitOf parseWord
+  unfolding read-right parseCondition parseBracketed parseBinary parseUnary parseLeaf parseOpening parseMiddle parsePrefix parseLetter byLetter parseAtom parseTrueOrTrans parseEntryOrExit parseTrans parseUse parseDef parseStmt parseNode parseEnded parseStatement byFirst parseAssignOrBranch parseBranch parseAssign parseSkip parseWrite parseRead parseExpression parseOperator parseOperand parseVariable parseNumber parseZero parseDigits digitOf parseWord
   right t xs = read-right t xs (parseCondition (length t) t)
 
   pub right-tabulates : (t xs : List ℕ) → right t xs ≡ true → Tabulates P t xs

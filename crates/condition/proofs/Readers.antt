@@ -1,13 +1,14 @@
 -- The readers of conditions, step by step: what each tells, from what the readers that it calls tell. Assumes nothing.
-use mathlib.Core.Path.{_≡_, refl, ap, sym, _∙_}
+use mathlib.Core.Path.{_≡_, refl, ap, _∙_}
 use mathlib.Core.List.{List, [], _∷_, _++_}
+use mathlib.Core.Bool.{true, false, _&&_}
+use lib.Dec.{leb, ltb}
 use Prim.Native.Nat.{ℕ, zero, suc, _+_, _-_, _≤_, _<_}
 use native.Mathlib.Omega.{arith}
 use native.Mathlib.Nat.{le-refl}
 use lib.ListN.{length, drop, set, getD, length-append, length-drop}
-use lib.Seq.{sets, drop-drop}
-use Rattle.language.specs.Parsing.{Parsed, found, misspelled, after, afterOr, parseWord}
-use Rattle.language.proofs.Parse.{skip-sound}
+use lib.Seq.{sets, length-sets}
+use Rattle.language.specs.Parsing.{Parsed, found, misspelled, after, parseWord}
 use Rattle.language.proofs.Steps.{at-end, at-byte}
 use Rattle.language.proofs.Puts.{sets-append}
 use Rattle.condition.specs.declared.Atom.{Atom}
@@ -15,9 +16,9 @@ use Rattle.condition.specs.declared.read.Bracket.{Bracket}
 use Rattle.condition.specs.declared.read.Bracket.the-variants.{Round, Some, All}
 use Rattle.condition.specs.declared.read.ConditionRead.{ConditionRead}
 use Rattle.condition.specs.declared.read.ConditionRead.the-variants.{Found, Misspelled}
-use Rattle.condition.specs.Condition.{Unary, Binary, Condition, atom, unary, binary, prefix, opening, middle, closing, spellCondition, parts}
-use Rattle.condition.specs.Reading.{unaryCode, binaryCode, word, words}
-use Rattle.condition.specs.Parsing.{coded, openingOf, closingOf, parsePrefix, parseMiddle, parseAtom, parseLeaf, parseUnary, parsePair, parseBracketed, byHead, parseCondition, Stored, Tells, Reads, ReadsBy}
+use Rattle.condition.specs.Condition.{Binary, Condition, atom, unary, binary, prefix, opening, middle, closing, spellCondition, parts}
+use Rattle.condition.specs.Reading.{most-bytes, most-parts, unaryCode, binaryCode, word, words}
+use Rattle.condition.specs.Parsing.{coded, openingOf, closingOf, parsePrefix, parseOpening, parseMiddle, byFirst, parseAtom, parseLeaf, parseUnary, parseBinary, parseBracketed, byHead, parseCondition, Stored, Tells, Reads, ReadsBy, Ready}
 use Rattle.condition.proofs.Spelling.{atom-longer, prefix-longer, opening-longer, prefix-sound, middle-sound, condition-sound}
 use Rattle.condition.proofs.Operators.{coded-inv, coded-not}
 
@@ -83,6 +84,14 @@ bounds s at o n q k m i =
     let g = h .counted in
     record { more = omega arith; behind = omega arith; within = omega arith }
 
+pub atom-first : (s : List ℕ) (at : ℕ) → at < length s → parseAtom (drop at s) ≡ byFirst (getD s at 0) (drop at s)
+unfolding parseAtom
+atom-first s at h = rw (at-byte s at h)
+
+pub same-room : (s : List ℕ) (at : ℕ) (o : List ℕ) (n : ℕ) (q : List ℕ) (k m : ℕ) → Reads s at o n q (Found k m) → length q ≡ length o
+same-room s at o n q k m i =
+    tells-found (parseCondition (length s - at) (drop at s)) s at o n q k m (i (length s - at) (le-refl (length s - at))) λ c e h. ap length (h .text) ∙ length-sets o n (words c n at)
+
 module _ (s : List ℕ) (at : ℕ) (o : List ℕ) (n : ℕ) where
   -- an atom
   pub leaf-found : (k : ℕ) (a : Atom) (q : List ℕ) → parseAtom (drop at s) ≡ found a (drop k s) → q ≡ set o n (word 0 0 at) → Tells (parseLeaf (drop at s)) s at o n q (Found k (n + 1))
@@ -105,6 +114,12 @@ module _ (s : List ℕ) (at : ℕ) (o : List ℕ) (n : ℕ) where
         let g = prefix-longer p in
         let b = beyond s (prefix p) at k (prefix-sound (drop at s) p (drop k s) i) g in
         omega arith
+
+    pub operand-ready : Ready s at o n → Ready s k o n
+    operand-ready r = let f = r .few in let g = prefix-beyond in record { short = r .short; few = omega arith; room = r .room }
+
+    pub operand-fits : Ready s at o n → (q : List ℕ) (next m : ℕ) → Reads s k o n q (Found next m) → m ≤ most-bytes
+    operand-fits r q next m i = let f = r .short in let h = operand-ready r .few in let w = bounds s k o n q next m i in omega arith
 
     pub operand-not : (q : List ℕ) → Reads s k o n q Misspelled → ReadsBy (λ p. parseUnary p (drop at s)) s at o n q Misspelled
     unfolding parseUnary
@@ -141,24 +156,34 @@ opening-of-longer All = omega arith
 sets-three : (a b : List ℕ) (x : ℕ) (o : List ℕ) (n : ℕ) → set (sets (sets o n a) (n + length a) b) (n + length a + length b) x ≡ sets o n (a ++ (b ++ x ∷ []))
 sets-three a b x o n = sets-append b (x ∷ []) (sets o n a) (n + length a) ∙ sets-append a (b ++ x ∷ []) o n
 
--- a binary operator and its conditions
-module _ (s : List ℕ) (at first : ℕ) (b : Bracket) (o : List ℕ) (n : ℕ) (from : first ≡ at + length (openingOf b)) where
-  pub first-beyond : at < first
-  first-beyond = omega (arith, opening-of-longer b)
+-- what a binary operator's word asks, after m parts of its first condition and m₁ of both
+pub record Room (m m₁ : ℕ) (q₁ : List ℕ) : Type 0 where
+  pub some : 0 < m
+  pub left : m - 1 ≤ most-bytes
+  pub fits : m₁ ≤ most-bytes
+  pub room : length q₁ ≡ most-parts
 
-  pub first-not : (q : List ℕ) → Reads s first o n q Misspelled → ReadsBy (λ p. parsePair b p (drop first s)) s at o n q Misspelled
-  unfolding parsePair
+-- a binary operator and its conditions
+module _ (s : List ℕ) (at first : ℕ) (b : Bracket) (o : List ℕ) (n : ℕ) (from : drop at s ≡ openingOf b ++ drop first s) where
+  pub first-beyond : at < first
+  first-beyond = let g = opening-of-longer b in omega (arith, beyond s (openingOf b) at first from g)
+
+  pub first-ready : Ready s at o n → Ready s first o n
+  first-ready r = let f = r .few in let g = first-beyond in record { short = r .short; few = omega arith; room = r .room }
+
+  pub first-not : (q : List ℕ) → Reads s first o n q Misspelled → ReadsBy (λ p. parseBinary b p (drop first s)) s at o n q Misspelled
+  unfolding parseBinary
   first-not q i f h =
       let g = first-beyond in
-      not-tells (parsePair b (parseCondition f) (drop first s)) s at o n q (rw (tells-not (parseCondition f (drop first s)) s first o n q (i f (omega arith))))
+      not-tells (parseBinary b (parseCondition f) (drop first s)) s at o n q (rw (tells-not (parseCondition f (drop first s)) s first o n q (i f (omega arith))))
 
   module _ (k m : ℕ) (q : List ℕ) (i : Reads s first o n q (Found k m)) where
-    pub middle-not : coded binaryCode (parseMiddle b (drop k s)) ≡ misspelled → ReadsBy (λ p. parsePair b p (drop first s)) s at o n q Misspelled
-    unfolding parsePair
+    pub middle-not : coded binaryCode (parseMiddle b (drop k s)) ≡ misspelled → ReadsBy (λ p. parseBinary b p (drop first s)) s at o n q Misspelled
+    unfolding parseBinary
     middle-not e f h =
         let g = first-beyond in
         tells-found (parseCondition f (drop first s)) s first o n q k m (i f (omega arith)) λ c y _.
-        not-tells (parsePair b (parseCondition f) (drop first s)) s at o n q (rw (y, coded-not binaryCode (parseMiddle b (drop k s)) e))
+        not-tells (parseBinary b (parseCondition f) (drop first s)) s at o n q (rw (y, coded-not binaryCode (parseMiddle b (drop k s)) e))
 
     module _ (code second : ℕ) (e : coded binaryCode (parseMiddle b (drop k s)) ≡ found code (drop second s)) where
       pub middle-beyond : k < second
@@ -169,19 +194,39 @@ module _ (s : List ℕ) (at first : ℕ) (b : Bracket) (o : List ℕ) (n : ℕ) 
           let d = beyond s (middle p) k second (l .0) (omega arith) in
           omega arith
 
-      pub second-not : (q₁ : List ℕ) → Reads s second q m q₁ Misspelled → ReadsBy (λ p. parsePair b p (drop first s)) s at o n q₁ Misspelled
-      unfolding parsePair
+      pub second-beyond : at < second
+      second-beyond = let w = bounds s first o n q k m i in let d = middle-beyond in let g = first-beyond in omega arith
+
+      pub second-ready : Ready s at o n → Ready s second q m
+      second-ready r =
+          let f = r .few in
+          let w = bounds s first o n q k m i in
+          let d = middle-beyond in
+          let g = first-beyond in
+          record { short = r .short; few = omega arith; room = same-room s first o n q k m i ∙ r .room }
+
+      pub second-not : (q₁ : List ℕ) → Reads s second q m q₁ Misspelled → ReadsBy (λ p. parseBinary b p (drop first s)) s at o n q₁ Misspelled
+      unfolding parseBinary
       second-not q₁ j f h =
           let g = first-beyond in
           let d = middle-beyond in
           let w = bounds s first o n q k m i in
           tells-found (parseCondition f (drop first s)) s first o n q k m (i f (omega arith)) λ c y _.
           coded-inv binaryCode (parseMiddle b (drop k s)) code (drop second s) e λ p z _.
-          not-tells (parsePair b (parseCondition f) (drop first s)) s at o n q₁ (rw (y, z, tells-not (parseCondition f (drop second s)) s second q m q₁ (j f (omega arith))))
+          not-tells (parseBinary b (parseCondition f) (drop first s)) s at o n q₁ (rw (y, z, tells-not (parseCondition f (drop second s)) s second q m q₁ (j f (omega arith))))
 
       module _ (k₁ m₁ : ℕ) (q₁ : List ℕ) (j : Reads s second q m q₁ (Found k₁ m₁)) where
-        pub closing-not : parseWord (closingOf b) (drop k₁ s) ≡ misspelled → ReadsBy (λ p. parsePair b p (drop first s)) s at o n q₁ Misspelled
-        unfolding parsePair
+        pub both-fit : Ready s at o n → Room m m₁ q₁
+        both-fit r =
+            let f = r .short in
+            let z = second-ready r in
+            let h = z .few in
+            let w = bounds s first o n q k m i in
+            let v = bounds s second q m q₁ k₁ m₁ j in
+            record { some = omega arith; left = omega arith; fits = omega arith; room = same-room s second q m q₁ k₁ m₁ j ∙ z .room }
+
+        pub closing-not : parseWord (closingOf b) (drop k₁ s) ≡ misspelled → ReadsBy (λ p. parseBinary b p (drop first s)) s at o n q₁ Misspelled
+        unfolding parseBinary
         closing-not x f h =
             let g = first-beyond in
             let d = middle-beyond in
@@ -189,12 +234,12 @@ module _ (s : List ℕ) (at first : ℕ) (b : Bracket) (o : List ℕ) (n : ℕ) 
             tells-found (parseCondition f (drop first s)) s first o n q k m (i f (omega arith)) λ c y _.
             coded-inv binaryCode (parseMiddle b (drop k s)) code (drop second s) e λ p z _.
             tells-found (parseCondition f (drop second s)) s second q m q₁ k₁ m₁ (j f (omega arith)) λ c₁ y₁ _.
-            not-tells (parsePair b (parseCondition f) (drop first s)) s at o n q₁ (rw (y, z, y₁, x))
+            not-tells (parseBinary b (parseCondition f) (drop first s)) s at o n q₁ (rw (y, z, y₁, x))
 
-        pub pair-found : (q₂ : List ℕ) (next : ℕ) → parseWord (closingOf b) (drop k₁ s) ≡ found tt (drop next s) → q₂ ≡ set q₁ m₁ (word code (m - 1) at)
-            → ReadsBy (λ p. parsePair b p (drop first s)) s at o n q₂ (Found next (m₁ + 1))
-        unfolding parsePair words parts
-        pair-found q₂ next x t f h =
+        pub binary-found : (q₂ : List ℕ) (next : ℕ) → parseWord (closingOf b) (drop k₁ s) ≡ found tt (drop next s) → q₂ ≡ set q₁ m₁ (word code (m - 1) at)
+            → ReadsBy (λ p. parseBinary b p (drop first s)) s at o n q₂ (Found next (m₁ + 1))
+        unfolding parseBinary words parts
+        binary-found q₂ next x t f h =
             let g = first-beyond in
             let d = middle-beyond in
             let w = bounds s first o n q k m i in
@@ -204,15 +249,17 @@ module _ (s : List ℕ) (at first : ℕ) (b : Bracket) (o : List ℕ) (n : ℕ) 
             let l = middle-sound b (drop k s) p (drop second s) z in
             let e₁ = condition-sound f (drop first s) c (drop k s) y .0 in
             let e₂ = condition-sound f (drop second s) c₁ (drop k₁ s) y₁ .0 in
+            let n₀ = parts-few c in
+            let d₀ = beyond s (spellCondition c) first k e₁ (omega arith) in
             let n₁ = parts-few c₁ in
             let d₁ = beyond s (spellCondition c₁) second k₁ e₂ (omega arith) in
             let u₁ : second ≡ k + length (middle p) = position s (middle p) k second (l .0) (omega arith) in
             let u₂ : k ≡ first + length (spellCondition c) = position s (spellCondition c) first k e₁ (omega arith) in
-            let u₃ : first ≡ at + length (opening p) = from ∙ rw (l .1 .opens) in
+            let u₃ : first ≡ at + length (opening p) = position s (openingOf b) at first from (omega arith) ∙ rw (l .1 .opens) in
             let u₄ : second ≡ at + length (opening p) + length (spellCondition c) + length (middle p) = u₁ ∙ rw (u₂, u₃) in
             let v₂ : m ≡ n + length (words c n first) = v .counted ∙ rw (words-length c n first) in
             let v₃ : m₁ ≡ m + length (words c₁ m second) = v₁ .counted ∙ rw (words-length c₁ m second) in
-            found-tells (parsePair b (parseCondition f) (drop first s)) s at o n q₂ next (m₁ + 1) (binary p c c₁) (rw (y, z, y₁, x))
+            found-tells (parseBinary b (parseCondition f) (drop first s)) s at o n q₂ next (m₁ + 1) (binary p c c₁) (rw (y, z, y₁, x))
             (record {
               text = text c c₁ p v v₁ a u₃ u₄ v₂ v₃;
               counted = rw (length-append, length-append, v₁ .counted, v .counted) (omega arith);
@@ -222,7 +269,10 @@ module _ (s : List ℕ) (at first : ℕ) (b : Bracket) (o : List ℕ) (n : ℕ) 
                 → second ≡ at + length (opening p) + length (spellCondition c) + length (middle p) → m ≡ n + length (words c n first) → m₁ ≡ m + length (words c₁ m second)
                 → q₂ ≡ sets o n (words (binary p c c₁) n at)
             text c c₁ p v v₁ a u₃ u₄ v₂ v₃ =
-                t ∙ rw (v₁ .text, v₃, v .text, ← a, ← u₄, ← u₃, ← v .counted) (ap (λ (z : ℕ). set (sets (sets o n (words c n first)) z (words c₁ m second)) (z + length (words c₁ m second)) (word (binaryCode p) (m - 1) at)) v₂ ∙ sets-three (words c n first) (words c₁ m second) (word (binaryCode p) (m - 1) at) o n)
+                t
+                ∙ rw (v₁ .text, v₃, v .text, ← a, ← u₄, ← u₃, ← v .counted)
+                (ap (λ (z : ℕ). set (sets (sets o n (words c n first)) z (words c₁ m second)) (z + length (words c₁ m second)) (word (binaryCode p) (m - 1) at)) v₂
+                ∙ sets-three (words c n first) (words c₁ m second) (word (binaryCode p) (m - 1) at) o n)
 
 -- nothing is left to read
 pub none-left : (s : List ℕ) (at : ℕ) (o : List ℕ) (n : ℕ) (q : List ℕ) → length s ≤ at → Reads s at o n q Misspelled
@@ -237,20 +287,20 @@ unfolding parseCondition
 headed s at o n q r p h e i zero l = absurd (omega arith)
 headed s at o n q r p h e i (suc f) l = rw (e (parseCondition f)) (i f (omega arith))
 
+module _ (s : List ℕ) (at : ℕ) (h : at < length s) where
+  pub head-leaf : (leb 97 (getD s at 0) && ltb (getD s at 0) 123) ≡ true → (g : List ℕ → Parsed Condition) → byHead g (drop at s) ≡ parseLeaf (drop at s)
+  head-leaf e g = rw (at-byte s at h, e)
+
+  pub head-bracketed : (leb 97 (getD s at 0) && ltb (getD s at 0) 123) ≡ false → (g : List ℕ → Parsed Condition) → byHead g (drop at s) ≡ parseBracketed g (drop at s)
+  head-bracketed e g = rw (at-byte s at h, e)
+
 -- a bracket, or a unary operator
-module _ (s : List ℕ) (at : ℕ) (b : Bracket) (o : List ℕ) (n : ℕ) (q : List ℕ) (r : ConditionRead) where
-  pub by-bracket : (k : ℕ) → parseWord (91 ∷ []) (drop (at + 1) s) ≡ found tt (drop k s) → ReadsBy (λ p. parsePair b p (drop (at + 2) s)) s at o n q r
-      → ReadsBy (λ p. parseBracketed b p (getD s at 0) (drop (at + 1) s)) s at o n q r
+module _ (s : List ℕ) (at : ℕ) (o : List ℕ) (n : ℕ) (q : List ℕ) (r : ConditionRead) where
+  pub by-bracket : (b : Bracket) (k : ℕ) → parseOpening (drop at s) ≡ found b (drop k s) → ReadsBy (λ p. parseBinary b p (drop k s)) s at o n q r
+      → ReadsBy (λ p. parseBracketed p (drop at s)) s at o n q r
   unfolding parseBracketed
-  by-bracket k e i f l =
-      let w : at + 2 ≡ at + 1 + 1 = omega arith in
-      let d : drop (at + 2) s ≡ drop k s = rw w (sym (drop-drop 1 (at + 1) s) ∙ ap (drop 1) (skip-sound (91 ∷ []) (drop (at + 1) s) e)) in
-      rw (e, ← d) (i f l)
+  by-bracket b k e i f l = rw e (i f l)
 
-  pub by-unary : at < length s → parseWord (91 ∷ []) (drop (at + 1) s) ≡ misspelled → ReadsBy (λ p. parseUnary p (drop at s)) s at o n q r
-      → ReadsBy (λ p. parseBracketed b p (getD s at 0) (drop (at + 1) s)) s at o n q r
+  pub by-unary : parseOpening (drop at s) ≡ misspelled → ReadsBy (λ p. parseUnary p (drop at s)) s at o n q r → ReadsBy (λ p. parseBracketed p (drop at s)) s at o n q r
   unfolding parseBracketed
-  by-unary h e i f l = rw (e, ← at-byte s at h) (i f l)
-
-pub wrong : (s : List ℕ) (at : ℕ) (o : List ℕ) (n : ℕ) (q : List ℕ) → at < length s → ((g : List ℕ → Parsed Condition) → byHead g (drop at s) ≡ misspelled) → Reads s at o n q Misspelled
-wrong s at o n q h e = headed s at o n q Misspelled (λ _. misspelled) h e (λ f l. tt)
+  by-unary e i f l = rw e (i f l)

@@ -1,15 +1,15 @@
 -- Reading undoes spelling, and the other way round: atoms, operators and conditions. Assumes nothing.
 use mathlib.Core.Path.{_≡_, refl, ap, sym, _∙_}
 use mathlib.Core.List.{List, [], _∷_, _++_, append-assoc, append-nil}
-use mathlib.Core.Bool.{Bool, true, false}
-use Prim.Native.Nat.{ℕ, zero, suc, _+_, _≤_, _<_}
+use mathlib.Core.Bool.{Bool, true, false, _&&_}
+use Prim.Native.Nat.{ℕ, zero, suc, _≤_, _<_}
 use native.Mathlib.Omega.{arith}
 use lib.Dec.{leb, ltb, eqb}
 use lib.ListN.{length, getD, length-append}
 use borrow.Author.Tests.{eqb-true, eq-eqb}
 use Rattle.language.specs.Spelling.{digits, spellVariable, spellExpression, spell}
-use Rattle.language.specs.Parsing.{Parsed, found, misspelled, after, afterOr, where?, either, parseWord, digitOf, parseNumber, parseVariable, parseExpression, parseStatement}
-use Rattle.language.proofs.Parse.{after-inv, afterOr-inv, where-inv, either-inv, skip-sound}
+use Rattle.language.specs.Parsing.{Parsed, found, misspelled, after, pick, parseWord, digitOf, parseNumber, parseVariable, parseExpression, parseStatement}
+use Rattle.language.proofs.Parse.{after-inv, afterOr-inv, skip-sound}
 use Rattle.language.proofs.Numbers.{number-sound, number-complete}
 use Rattle.language.proofs.Lines.{variable-sound, variable-complete, expression-sound, expression-complete, statement-sound, statement-complete}
 use Rattle.ctl.specs.Paths.{Quant, E, A}
@@ -20,7 +20,7 @@ use Rattle.condition.specs.declared.read.Bracket.{Bracket}
 use Rattle.condition.specs.declared.read.Bracket.the-variants.{Round, Some, All}
 use Rattle.condition.specs.Condition.{next, finally, globally, until, weak, Unary, negation, Binary, conjunction, disjunction, Condition, atom, unary, binary, quantLetter, prefix, opening, middle, closing, spellAtom, spellCondition, ValidAtom, ValidCondition, true-word, false-word, entry-word, exit-word, node-word, stmt-word, def-word, use-word, trans-word}
 use Rattle.condition.specs.Reading.{Spells}
-use Rattle.condition.specs.Parsing.{pick, parseEnded, parseConstant, parseNode, parseStmt, parseDef, parseUse, parseTrans, parseAtom, byLetter, parseLetter, unaries, parsePrefix, binaries, opened, openingOf, closingOf, parseMiddle, parseLeaf, parseUnary, parsePair, parseBracketed, byHead, parseCondition}
+use Rattle.condition.specs.Parsing.{parseEnded, parseNode, parseStmt, parseDef, parseUse, parseTrans, parseTrueOrTrans, parseEntryOrExit, parseAtom, byLetter, parseLetter, unaries, parsePrefix, opened, openingOf, closingOf, parseOpening, parseMiddle, parseLeaf, parseUnary, parseBinary, parseBracketed, byHead, parseCondition}
 
 pub pick-inv : {A C : Type 0} (b : Bool) (p q : Parsed A) {a : A} {u : List ℕ} → pick b p q ≡ found a u → (b ≡ true → p ≡ found a u → C) → (q ≡ found a u → C) → C
 pick-inv true p q e k m = k refl e
@@ -38,15 +38,9 @@ SpelledAtom l a u = (l ≡ spellAtom a ++ u) × ValidAtom a
 enclosed-text : (w t u : List ℕ) → (w ++ (t ++ 41 ∷ [])) ++ u ≡ w ++ (t ++ 41 ∷ u)
 enclosed-text w t u = simp append-assoc
 
-constant-sound : (l : List ℕ) (a : Atom) (u : List ℕ) → parseConstant l ≡ found a u → SpelledAtom l a u
-unfolding parseConstant spellAtom
-constant-sound l a u h =
-    either-inv _ _ h (is True true-word refl tt) λ h₁.
-    either-inv _ _ h₁ (is False false-word refl tt) λ h₂.
-    either-inv _ _ h₂ (is Entry entry-word refl tt) (is Exit exit-word refl tt)
-  where
-    is : (b : Atom) (w : List ℕ) → spellAtom b ≡ w → ValidAtom b → parseEnded w b l ≡ found a u → SpelledAtom l a u
-    is b w s v e = let i = ended-sound w b l e in rw (← i .0) (i .1 ∙ rw s, v)
+-- an atom that is one word
+word-sound : (b : Atom) (w : List ℕ) → spellAtom b ≡ w → ValidAtom b → (l : List ℕ) (a : Atom) (u : List ℕ) → parseEnded w b l ≡ found a u → SpelledAtom l a u
+word-sound b w s v l a u e = let i = ended-sound w b l e in rw (← i .0) (i .1 ∙ rw s, v)
 
 -- an atom with something in brackets: what stands there was read by a sound reader
 enclosed-sound : {A : Type 0} (p : List ℕ → Parsed A) (spelt : A → List ℕ) (Good : A → Type 0) (sound : (l : List ℕ) (x : A) (u : List ℕ) → p l ≡ found x u → (l ≡ spelt x ++ u) × Good x)
@@ -59,18 +53,34 @@ enclosed-sound p spelt Good sound w f is valid l a u h =
     let j = ended-sound (41 ∷ []) (f x) v f₂ in
     rw (← j .0) (rw (skip-sound w l e₁, i .0, j .1, is x) (sym (enclosed-text w (spelt x) u)), valid x (i .1))
 
+trans-sound : (l : List ℕ) (a : Atom) (u : List ℕ) → parseTrans l ≡ found a u → SpelledAtom l a u
+unfolding parseTrans spellAtom
+trans-sound = enclosed-sound parseExpression spellExpression _ expression-sound trans-word Trans (λ x. refl) (λ x v. v)
+
+true-or-trans-sound : (l : List ℕ) (a : Atom) (u : List ℕ) → parseTrueOrTrans l ≡ found a u → SpelledAtom l a u
+unfolding parseTrueOrTrans parseEnded spellAtom
+true-or-trans-sound l a u h = afterOr-inv (parseWord true-word l) _ (parseTrans l) h (λ x t e f. word-sound True true-word refl tt l a u (rw e f)) (trans-sound l a u)
+
+entry-or-exit-sound : (l : List ℕ) (a : Atom) (u : List ℕ) → parseEntryOrExit l ≡ found a u → SpelledAtom l a u
+unfolding parseEntryOrExit parseEnded spellAtom
+entry-or-exit-sound l a u h =
+    afterOr-inv (parseWord entry-word l) _ (parseEnded exit-word Exit l) h (λ x t e f. word-sound Entry entry-word refl tt l a u (rw e f)) (word-sound Exit exit-word refl tt l a u)
+
 pub atom-sound : (l : List ℕ) (a : Atom) (u : List ℕ) → parseAtom l ≡ found a u → (l ≡ spellAtom a ++ u) × ValidAtom a
-unfolding parseAtom parseNode parseStmt parseDef parseUse parseTrans spellAtom
-atom-sound l a u h =
-    either-inv _ _ h (constant-sound l a u) λ h₁.
-    either-inv _ _ h₁ (enclosed-sound parseNumber digits _ number-sound node-word Node (λ x. refl) (λ x v. v) l a u) λ h₂.
-    either-inv _ _ h₂ (enclosed-sound parseStatement spell _ statement-sound stmt-word Stmt (λ x. refl) (λ x v. v) l a u) λ h₃.
-    either-inv _ _ h₃ (enclosed-sound parseVariable spellVariable _ variable-sound def-word Def (λ x. refl) (λ x v. v) l a u) λ h₄.
-    either-inv _ _ h₄ (enclosed-sound parseVariable spellVariable _ variable-sound use-word Use (λ x. refl) (λ x v. v) l a u)
-    (enclosed-sound parseExpression spellExpression _ expression-sound trans-word Trans (λ x. refl) (λ x v. v) l a u)
+unfolding parseAtom parseNode parseStmt parseDef parseUse spellAtom
+atom-sound [] a u h = let z : _≡_ {A = ℕ} 0 1 = cc in absurd (omega arith)
+atom-sound (c ∷ l) a u h =
+    pick-inv (eqb c 116) _ _ h (λ _. true-or-trans-sound (c ∷ l) a u) λ h₁.
+    pick-inv (eqb c 102) _ _ h₁ (λ _. word-sound False false-word refl tt (c ∷ l) a u) λ h₂.
+    pick-inv (eqb c 101) _ _ h₂ (λ _. entry-or-exit-sound (c ∷ l) a u) λ h₃.
+    pick-inv (eqb c 110) _ _ h₃ (λ _. enclosed-sound parseNumber digits _ number-sound node-word Node (λ x. refl) (λ x v. v) (c ∷ l) a u) λ h₄.
+    pick-inv (eqb c 115) _ _ h₄ (λ _. enclosed-sound parseStatement spell _ statement-sound stmt-word Stmt (λ x. refl) (λ x v. v) (c ∷ l) a u) λ h₅.
+    pick-inv (eqb c 100) _ _ h₅ (λ _. enclosed-sound parseVariable spellVariable _ variable-sound def-word Def (λ x. refl) (λ x v. v) (c ∷ l) a u) λ h₆.
+    pick-inv (eqb c 117) _ misspelled h₆ (λ _. enclosed-sound parseVariable spellVariable _ variable-sound use-word Use (λ x. refl) (λ x v. v) (c ∷ l) a u) λ f.
+    let z : _≡_ {A = ℕ} 0 1 = cc in absurd (omega arith)
 
 pub atom-complete : (a : Atom) (u : List ℕ) → ValidAtom a → parseAtom (spellAtom a ++ u) ≡ found a u
-unfolding parseAtom parseConstant parseNode parseStmt parseDef parseUse parseTrans parseEnded parseWord spellAtom digitOf
+unfolding parseAtom parseTrueOrTrans parseEntryOrExit parseNode parseStmt parseDef parseUse parseTrans parseEnded parseWord spellAtom digitOf
 atom-complete True u v = refl
 atom-complete False u v = refl
 atom-complete Entry u v = refl
@@ -153,6 +163,15 @@ all-opened Round = (opened-by conjunction, (opened-by disjunction, tt))
 all-opened Some = (opened-by _, (opened-by _, (opened-by _, (opened-by _, tt))))
 all-opened All = (opened-by _, (opened-by _, (opened-by _, (opened-by _, tt))))
 
+pub opening-sound : (l : List ℕ) (b : Bracket) (u : List ℕ) → parseOpening l ≡ found b u → l ≡ openingOf b ++ u
+unfolding parseOpening
+opening-sound [] b u e = let z : _≡_ {A = ℕ} 0 1 = cc in absurd (omega arith)
+opening-sound (c ∷ l) b u e =
+    pick-inv (eqb c 40) _ _ e (λ t f. let p : Round ≡ b = cc in let q : l ≡ u = cc in rw (← p, ← q, eqb-true c 40 t)) λ e₁.
+    pick-inv (eqb c 69) _ _ e₁ (λ t f. let i = ended-sound (91 ∷ []) Some l f in rw (← i .0, i .1, eqb-true c 69 t)) λ e₂.
+    pick-inv (eqb c 65) _ misspelled e₂ (λ t f. let i = ended-sound (91 ∷ []) All l f in rw (← i .0, i .1, eqb-true c 65 t)) λ f.
+    let z : _≡_ {A = ℕ} 0 1 = cc in absurd (omega arith)
+
 pub middle-sound : (b : Bracket) (l : List ℕ) (o : Binary) (u : List ℕ) → parseMiddle b l ≡ found o u → (l ≡ middle o ++ u) × Opened b o
 unfolding parseMiddle
 middle-sound b l o u h =
@@ -206,9 +225,9 @@ module _ (r : List ℕ → Parsed Condition) (ih : (l : List ℕ) (c : Condition
       let i = ih t p v e₂ in
       rw (← x, ← y) (rw (prefix-sound l o t e₁, i .0) (sym (unary-text o p v)), i .1)
 
-  pair-sound : (b : Bracket) (l : List ℕ) (c : Condition) (u : List ℕ) → parsePair b r l ≡ found c u → SpelledCondition (openingOf b ++ l) c u
-  unfolding parsePair
-  pair-sound b l c u h =
+  binary-sound : (b : Bracket) (l : List ℕ) (c : Condition) (u : List ℕ) → parseBinary b r l ≡ found c u → SpelledCondition (openingOf b ++ l) c u
+  unfolding parseBinary
+  binary-sound b l c u h =
       after-inv (r l) _ h λ p t e₁ f₁.
       after-inv (parseMiddle b t) _ f₁ λ o v e₂ f₂.
       after-inv (r v) _ f₂ λ q x e₃ f₃.
@@ -220,22 +239,16 @@ module _ (r : List ℕ → Parsed Condition) (ih : (l : List ℕ) (c : Condition
       let m = middle-sound b t o v e₂ in
       rw (← w, ← z) (rw (i .0, m .0, j .0, skip-sound (closingOf b) x e₄, ← m .1 .opens, ← m .1 .closes) (sym (binary-text o p q y)), (i .1, j .1))
 
-  bracketed-sound : (b : Bracket) (n : ℕ) (l : List ℕ) (c : Condition) (u : List ℕ) → openingOf b ≡ n ∷ 91 ∷ [] → parseBracketed b r n l ≡ found c u → SpelledCondition (n ∷ l) c u
+  bracketed-sound : (l : List ℕ) (c : Condition) (u : List ℕ) → parseBracketed r l ≡ found c u → SpelledCondition l c u
   unfolding parseBracketed
-  bracketed-sound b n l c u o h =
-      afterOr-inv (parseWord (91 ∷ []) l) _ (parseUnary r (n ∷ l)) h
-      (λ _ t e f. let i = pair-sound b t c u f in (rw (skip-sound (91 ∷ []) l e) (rw o at i .0), i .1))
-      (unary-sound (n ∷ l) c u)
+  bracketed-sound l c u h =
+      afterOr-inv (parseOpening l) _ (parseUnary r l) h
+      (λ b t e f. let i = binary-sound b t c u f in (opening-sound l b t e ∙ i .0, i .1))
+      (unary-sound l c u)
 
   head-sound : (l : List ℕ) (c : Condition) (u : List ℕ) → byHead r l ≡ found c u → SpelledCondition l c u
   head-sound [] c u h = let z : _≡_ {A = ℕ} 0 1 = cc in absurd (omega arith)
-  head-sound (n ∷ l) c u h =
-      pick-inv (eqb n 33) _ _ h (λ _. unary-sound (n ∷ l) c u) λ h₁.
-      pick-inv (eqb n 69) _ _ h₁ (λ t. bracketed-sound Some n l c u (rw (eqb-true n 69 t))) λ h₂.
-      pick-inv (eqb n 65) _ _ h₂ (λ t. bracketed-sound All n l c u (rw (eqb-true n 65 t))) λ h₃.
-      pick-inv (eqb n 40) _ _ h₃ (λ t f. rw (eqb-true n 40 t) (pair-sound Round l c u f)) λ h₄.
-      where-inv (leb 97 n) _ h₄ λ _ h₅.
-      where-inv (ltb n 123) (parseLeaf (n ∷ l)) h₅ λ _. leaf-sound (n ∷ l) c u
+  head-sound (n ∷ l) c u h = pick-inv (leb 97 n && ltb n 123) _ _ h (λ _. leaf-sound (n ∷ l) c u) (bracketed-sound (n ∷ l) c u)
 
 -- what is read is what is spelled
 pub condition-sound : (f : ℕ) (l : List ℕ) (c : Condition) (u : List ℕ) → parseCondition f l ≡ found c u → SpelledCondition l c u
@@ -257,7 +270,7 @@ head-atom r (Use x) u = refl
 head-atom r (Trans e) u = refl
 
 head-unary : (r : List ℕ → Parsed Condition) (o : Unary) (u : List ℕ) → byHead r (prefix o ++ u) ≡ parseUnary r (prefix o ++ u)
-unfolding parseBracketed parseWord
+unfolding parseBracketed parseOpening parseEnded parseWord
 head-unary r negation u = refl
 head-unary r (Unary.path E forward next) u = refl
 head-unary r (Unary.path E forward finally) u = refl
@@ -272,8 +285,8 @@ head-unary r (Unary.path A backward next) u = refl
 head-unary r (Unary.path A backward finally) u = refl
 head-unary r (Unary.path A backward globally) u = refl
 
-head-binary : (r : List ℕ → Parsed Condition) (o : Binary) (u : List ℕ) → byHead r (opening o ++ u) ≡ parsePair (bracketOf o) r u
-unfolding parseBracketed parseWord
+head-binary : (r : List ℕ → Parsed Condition) (o : Binary) (u : List ℕ) → byHead r (opening o ++ u) ≡ parseBinary (bracketOf o) r u
+unfolding parseBracketed parseOpening parseEnded parseWord
 head-binary r conjunction u = refl
 head-binary r disjunction u = refl
 head-binary r (Binary.path E d o) u = refl
@@ -308,7 +321,7 @@ opening-longer (Binary.path k d o) = omega arith
 
 -- what is spelled is read, with as much fuel as the text is long
 pub condition-complete : (c : Condition) (f : ℕ) (u : List ℕ) → ValidCondition c → length (spellCondition c) ≤ f → parseCondition f (spellCondition c ++ u) ≡ found c u
-unfolding parseCondition spellCondition parseLeaf parseUnary parsePair
+unfolding parseCondition spellCondition parseLeaf parseUnary parseBinary
 condition-complete (atom a) zero u v h = absurd (omega (arith, atom-longer a))
 condition-complete (atom a) (suc f) u v h = head-atom (parseCondition f) a u ∙ rw (atom-complete a u v)
 condition-complete (unary o p) zero u v h = absurd (omega (arith, prefix-longer o, length-append (prefix o) (spellCondition p)))
@@ -322,7 +335,13 @@ condition-complete (binary o p q) (suc f) u v h =
     let g = opening-longer o in
     let l = simp length-append at h in
     ap (parseCondition (suc f)) (binary-text o p q u) ∙ head-binary (parseCondition f) o (spellCondition p ++ (middle o ++ (spellCondition q ++ (closing o ++ u))))
-    ∙ rw (condition-complete p f (middle o ++ (spellCondition q ++ (closing o ++ u))) (v .0) (omega arith), middle-complete o (spellCondition q ++ (closing o ++ u)), condition-complete q f (closing o ++ u) (v .1) (omega arith), ← opened-by o .closes, skip-complete (closing o) u)
+    ∙ rw (
+      condition-complete p f (middle o ++ (spellCondition q ++ (closing o ++ u))) (v .0) (omega arith),
+      middle-complete o (spellCondition q ++ (closing o ++ u)),
+      condition-complete q f (closing o ++ u) (v .1) (omega arith),
+      ← opened-by o .closes,
+      skip-complete (closing o) u,
+    )
 
 pub whole-complete : (t : List ℕ) (c : Condition) → Spells t c → parseCondition (length t) t ≡ found c []
 whole-complete t c s =

@@ -2,7 +2,7 @@
 use mathlib.Core.Path.{_≡_}
 use mathlib.Core.List.{List, [], _∷_, _++_}
 use Prim.Native.Nat.{ℕ, _+_, _-_, _*_, _≤_, _<_}
-use lib.ListN.{length, take}
+use lib.ListN.{length, take, drop, replicate}
 use Rattle.ctl.specs.Paths.{Quant, E, A}
 use Rattle.flow.specs.Flow.{Direction, forward, backward}
 use Rattle.condition.specs.Condition.{PathUnary, next, finally, globally, PathBinary, until, weak, Unary, negation, Binary, conjunction, disjunction, Condition, atom, unary, binary, prefix, opening, middle, spellCondition, ValidCondition, parts}
@@ -82,13 +82,14 @@ words (binary o p q) n at =
     let second : ℕ = first + length (spellCondition p) + length (middle o) in
     words p n first ++ (words q k second ++ word (binaryCode o) (k - 1) at ∷ [])
 
--- the first m of the words ws are those of the condition c, from part 0 and byte 0 on
+-- the first m of the words ws are those of the condition c, from part 0 and byte 0 on, and the others are zeros
 pub record Held (c : Condition) (m : ℕ) (ws : List ℕ) : Type 0 where
   pub counted : m ≡ length (parts c)
   pub kept : take m ws ≡ words c 0 0
+  pub zeros : drop m ws ≡ replicate (most-parts - m) 0
   pub room : length ws ≡ most-parts
 
--- each answer, and what it says of the text and of the words beside it
+-- each answer, and what it says of the text and of the words beside it: zeros beside a refusal
 abbrev pub ConditionRead : List ℕ → Answer → List ℕ → Type 0
 ConditionRead t (answer.Taken m) ws = (c : Condition) × Taken t c × Held c m ws
-ConditionRead t (answer.Refused r) ws = Refused t r
+ConditionRead t (answer.Refused r) ws = Refused t r × (ws ≡ replicate most-parts 0)

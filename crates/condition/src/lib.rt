@@ -36,7 +36,7 @@ pub enum Answer {
     Refused(Refusal),
 }
 
-// Where the answer is `Taken`, with the number of parts, the words are theirs.
+// Where the answer is `Taken`, with the number of parts, the first words are theirs. All other words are zeros.
 pub struct Reading {
     pub answer: Answer,
     pub words: [u64; MOST_PARTS],

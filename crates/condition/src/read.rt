@@ -1,13 +1,14 @@
-// The readers of conditions: each takes what stands at a position of a text, and answers the position after it.
-ghost use mathlib.Core.List.{[], _∷_};
+// The readers of conditions: each takes what stands at a position of a text, and answers the position after it, which lies within the
+// text.
+ghost use mathlib.Core.List.{[], _∷_, _++_};
 ghost use mathlib.Core.Path.{_≡_};
-ghost use Prim.Native.Nat.{ℕ, _+_, _-_, _≤_, _<_};
-ghost use lib.ListN.{length, drop, set, getD};
+ghost use Prim.Native.Nat.{_≤_, _<_};
+ghost use lib.ListN.{length, drop, set, replicate};
 ghost use Rattle.ctl.specs.Paths.{Quant};
-ghost use Rattle.language.specs.Parsing.{parsedWord, parseWord};
+ghost use Rattle.language.specs.Parsing.{parsedWord, wordEnd, parseWord};
 ghost use Rattle.condition.specs.Condition.{prefix, middle};
 ghost use Rattle.condition.specs.Reading.{most-bytes, most-parts, ConditionRead as WholeRead, word, unaryCode, binaryCode};
-ghost use Rattle.condition.specs.Parsing.{parsedAtom, parseEnded, parseConstant, parseNode, parseStmt, parseDef, parseUse, parseTrans, parseAtom, parsedOperator, coded, allOf, parseLetter, unaries, parsePrefix, binaries, opened, openingOf, closingOf, parseMiddle, parseLeaf, parseUnary, parsePair, parseBracketed, Tells, Reads, ReadsBy, TellsWhole, Ready};
+ghost use Rattle.condition.specs.Parsing.{parsedAtom, atomEnd, parseEnded, parseNode, parseStmt, parseDef, parseUse, parseTrans, parseTrueOrTrans, parseEntryOrExit, parseAtom, parsedOperator, operatorEnd, coded, allOf, parseLetter, unaries, parsePrefix, binaries, opened, openingOf, closingOf, parsedBracket, bracketEnd, parseOpening, parseMiddle, parseLeaf, parseUnary, parseBinary, parseBracketed, conditionEnd, Tells, Reads, ReadsBy, TellsWhole, Ready};
 use crate::Answer;
 use crate::Atom;
 use crate::MOST_BYTES;
@@ -26,20 +27,25 @@ pub enum AtomRead {
 }
 
 // An operator's code, and the position after it.
-pub enum OperatorRead {
+enum OperatorRead {
     Found(u8, usize),
     Misspelled,
 }
 
 // What opens a binary operator: `(`, `E[` or `A[`.
-pub enum Bracket {
+enum Bracket {
     Round,
     Some,
     All,
 }
 
+enum BracketRead {
+    Found(Bracket, usize),
+    Misspelled,
+}
+
 // The position after the condition, and the number of parts so far.
-pub enum ConditionRead {
+enum ConditionRead {
     Found(usize, usize),
     Misspelled,
 }
@@ -47,6 +53,7 @@ pub enum ConditionRead {
 // The atom a, which the word w ends.
 fn ended(s: &[u8], at: usize, w: &[u8], a: Atom) -> AtomRead
     ensures { λ r. ⌜ parsedAtom (now (s .entry)) r ≡ parseEnded (now (w .entry)) a (drop at (now (s .entry))) ⌝ }
+    ensures { λ r. ⌜ (0 < length (now (w .entry)) → atomEnd r ≤ length (now (s .entry))) ⌝ }
 {
     let WordRead::Found(k) = language::read::word(s, at, w) else {
         return AtomRead::Misspelled;
@@ -54,25 +61,10 @@ fn ended(s: &[u8], at: usize, w: &[u8], a: Atom) -> AtomRead
     AtomRead::Found(a, k)
 }
 
-// `true`, `false`, `entry`, `exit`.
-fn constant(s: &[u8], at: usize) -> AtomRead
-    ensures { λ r. ⌜ parsedAtom (now (s .entry)) r ≡ parseConstant (drop at (now (s .entry))) ⌝ }
-{
-    if let AtomRead::Found(a, k) = ended(s, at, b"true", Atom::True) {
-        return AtomRead::Found(a, k);
-    }
-    if let AtomRead::Found(a, k) = ended(s, at, b"false", Atom::False) {
-        return AtomRead::Found(a, k);
-    }
-    if let AtomRead::Found(a, k) = ended(s, at, b"entry", Atom::Entry) {
-        return AtomRead::Found(a, k);
-    }
-    ended(s, at, b"exit", Atom::Exit)
-}
-
 // `node(n)`.
 fn node(s: &[u8], at: usize) -> AtomRead
     ensures { λ r. ⌜ parsedAtom (now (s .entry)) r ≡ parseNode (drop at (now (s .entry))) ⌝ }
+    ensures { λ r. ⌜ atomEnd r ≤ length (now (s .entry)) ⌝ }
 {
     let WordRead::Found(k) = language::read::word(s, at, b"node(") else {
         return AtomRead::Misspelled;
@@ -86,6 +78,7 @@ fn node(s: &[u8], at: usize) -> AtomRead
 // `stmt(I)`.
 fn stmt(s: &[u8], at: usize) -> AtomRead
     ensures { λ r. ⌜ parsedAtom (now (s .entry)) r ≡ parseStmt (drop at (now (s .entry))) ⌝ }
+    ensures { λ r. ⌜ atomEnd r ≤ length (now (s .entry)) ⌝ }
 {
     let WordRead::Found(k) = language::read::word(s, at, b"stmt(") else {
         return AtomRead::Misspelled;
@@ -99,6 +92,7 @@ fn stmt(s: &[u8], at: usize) -> AtomRead
 // `def(X)`.
 fn def(s: &[u8], at: usize) -> AtomRead
     ensures { λ r. ⌜ parsedAtom (now (s .entry)) r ≡ parseDef (drop at (now (s .entry))) ⌝ }
+    ensures { λ r. ⌜ atomEnd r ≤ length (now (s .entry)) ⌝ }
 {
     let WordRead::Found(k) = language::read::word(s, at, b"def(") else {
         return AtomRead::Misspelled;
@@ -112,6 +106,7 @@ fn def(s: &[u8], at: usize) -> AtomRead
 // `use(X)`.
 fn used(s: &[u8], at: usize) -> AtomRead
     ensures { λ r. ⌜ parsedAtom (now (s .entry)) r ≡ parseUse (drop at (now (s .entry))) ⌝ }
+    ensures { λ r. ⌜ atomEnd r ≤ length (now (s .entry)) ⌝ }
 {
     let WordRead::Found(k) = language::read::word(s, at, b"use(") else {
         return AtomRead::Misspelled;
@@ -125,6 +120,7 @@ fn used(s: &[u8], at: usize) -> AtomRead
 // `trans(E)`.
 fn trans(s: &[u8], at: usize) -> AtomRead
     ensures { λ r. ⌜ parsedAtom (now (s .entry)) r ≡ parseTrans (drop at (now (s .entry))) ⌝ }
+    ensures { λ r. ⌜ atomEnd r ≤ length (now (s .entry)) ⌝ }
 {
     let WordRead::Found(k) = language::read::word(s, at, b"trans(") else {
         return AtomRead::Misspelled;
@@ -135,30 +131,52 @@ fn trans(s: &[u8], at: usize) -> AtomRead
     ended(s, k1, b")", Atom::Trans(e))
 }
 
+// `true` or `trans(E)`.
+fn true_or_trans(s: &[u8], at: usize) -> AtomRead
+    ensures { λ r. ⌜ parsedAtom (now (s .entry)) r ≡ parseTrueOrTrans (drop at (now (s .entry))) ⌝ }
+    ensures { λ r. ⌜ atomEnd r ≤ length (now (s .entry)) ⌝ }
+{
+    let WordRead::Found(k) = language::read::word(s, at, b"true") else {
+        return trans(s, at);
+    };
+    AtomRead::Found(Atom::True, k)
+}
+
+// `entry` or `exit`.
+fn entry_or_exit(s: &[u8], at: usize) -> AtomRead
+    ensures { λ r. ⌜ parsedAtom (now (s .entry)) r ≡ parseEntryOrExit (drop at (now (s .entry))) ⌝ }
+    ensures { λ r. ⌜ atomEnd r ≤ length (now (s .entry)) ⌝ }
+{
+    let WordRead::Found(k) = language::read::word(s, at, b"entry") else {
+        return ended(s, at, b"exit", Atom::Exit);
+    };
+    AtomRead::Found(Atom::Entry, k)
+}
+
 pub fn atom(s: &[u8], at: usize) -> AtomRead
     ensures { λ r. ⌜ parsedAtom (now (s .entry)) r ≡ parseAtom (drop at (now (s .entry))) ⌝ }
+    ensures { λ r. ⌜ atomEnd r ≤ length (now (s .entry)) ⌝ }
 {
-    if let AtomRead::Found(a, k) = constant(s, at) {
-        return AtomRead::Found(a, k);
+    if s.len() <= at {
+        return AtomRead::Misspelled;
     }
-    if let AtomRead::Found(a, k) = node(s, at) {
-        return AtomRead::Found(a, k);
+    let c = s[at];
+    match c {
+        b't' => true_or_trans(s, at),
+        b'f' => ended(s, at, b"false", Atom::False),
+        b'e' => entry_or_exit(s, at),
+        b'n' => node(s, at),
+        b's' => stmt(s, at),
+        b'd' => def(s, at),
+        b'u' => used(s, at),
+        _ => AtomRead::Misspelled,
     }
-    if let AtomRead::Found(a, k) = stmt(s, at) {
-        return AtomRead::Found(a, k);
-    }
-    if let AtomRead::Found(a, k) = def(s, at) {
-        return AtomRead::Found(a, k);
-    }
-    if let AtomRead::Found(a, k) = used(s, at) {
-        return AtomRead::Found(a, k);
-    }
-    trans(s, at)
 }
 
 // The operator's code, where a space ends it.
 fn spaced(s: &[u8], at: usize, code: u8) -> OperatorRead
     ensures { λ r. ⌜ parsedOperator (now (s .entry)) r ≡ parseEnded (32 ∷ []) code (drop at (now (s .entry))) ⌝ }
+    ensures { λ r. ⌜ operatorEnd r ≤ length (now (s .entry)) ⌝ }
 {
     let WordRead::Found(k) = language::read::word(s, at, b" ") else {
         return OperatorRead::Misspelled;
@@ -170,6 +188,7 @@ fn spaced(s: &[u8], at: usize, code: u8) -> OperatorRead
 fn unary_letter(s: &[u8], at: usize, all: u8) -> OperatorRead
     requires { ⌜ all ≤ 1 ⌝ }
     ensures { λ r. ⌜ ((k : Quant) → all ≡ allOf k → parsedOperator (now (s .entry)) r ≡ coded unaryCode (parseLetter prefix (unaries k) (drop at (now (s .entry))))) ⌝ }
+    ensures { λ r. ⌜ operatorEnd r ≤ length (now (s .entry)) ⌝ }
 {
     if s.len() <= at {
         return OperatorRead::Misspelled;
@@ -188,8 +207,9 @@ fn unary_letter(s: &[u8], at: usize, all: u8) -> OperatorRead
 }
 
 // `!`, or one of `EX ` to `AM `.
-pub fn prefix(s: &[u8], at: usize) -> OperatorRead
+fn prefix(s: &[u8], at: usize) -> OperatorRead
     ensures { λ r. ⌜ parsedOperator (now (s .entry)) r ≡ coded unaryCode (parsePrefix (drop at (now (s .entry)))) ⌝ }
+    ensures { λ r. ⌜ operatorEnd r ≤ length (now (s .entry)) ⌝ }
 {
     if s.len() <= at {
         return OperatorRead::Misspelled;
@@ -207,6 +227,7 @@ pub fn prefix(s: &[u8], at: usize) -> OperatorRead
 // `&` or `|` and its space.
 fn connective(s: &[u8], at: usize) -> OperatorRead
     ensures { λ r. ⌜ parsedOperator (now (s .entry)) r ≡ coded binaryCode (parseLetter middle (opened Bracket.Round) (drop at (now (s .entry)))) ⌝ }
+    ensures { λ r. ⌜ operatorEnd r ≤ length (now (s .entry)) ⌝ }
 {
     if s.len() <= at {
         return OperatorRead::Misspelled;
@@ -224,6 +245,7 @@ fn connective(s: &[u8], at: usize) -> OperatorRead
 fn binary_letter(s: &[u8], at: usize, all: u8) -> OperatorRead
     requires { ⌜ all ≤ 1 ⌝ }
     ensures { λ r. ⌜ ((k : Quant) → all ≡ allOf k → parsedOperator (now (s .entry)) r ≡ coded binaryCode (parseLetter middle (binaries k) (drop at (now (s .entry))))) ⌝ }
+    ensures { λ r. ⌜ operatorEnd r ≤ length (now (s .entry)) ⌝ }
 {
     if s.len() <= at {
         return OperatorRead::Misspelled;
@@ -239,9 +261,39 @@ fn binary_letter(s: &[u8], at: usize, all: u8) -> OperatorRead
     }
 }
 
+// `[` after a quantifier's letter.
+fn square(s: &[u8], at: usize, bracket: Bracket) -> BracketRead
+    ensures { λ r. ⌜ parsedBracket (now (s .entry)) r ≡ parseEnded (91 ∷ []) bracket (drop at (now (s .entry))) ⌝ }
+    ensures { λ r. ⌜ bracketEnd r ≤ length (now (s .entry)) ⌝ }
+{
+    let WordRead::Found(k) = language::read::word(s, at, b"[") else {
+        return BracketRead::Misspelled;
+    };
+    BracketRead::Found(bracket, k)
+}
+
+// `(`, `E[` or `A[`.
+fn opening(s: &[u8], at: usize) -> BracketRead
+    ensures { λ r. ⌜ parsedBracket (now (s .entry)) r ≡ parseOpening (drop at (now (s .entry))) ⌝ }
+    ensures { λ r. ⌜ bracketEnd r ≤ length (now (s .entry)) ⌝ }
+{
+    if s.len() <= at {
+        return BracketRead::Misspelled;
+    }
+    let c = s[at];
+    let k = at + 1;
+    match c {
+        b'(' => BracketRead::Found(Bracket::Round, k),
+        b'E' => square(s, k, Bracket::Some),
+        b'A' => square(s, k, Bracket::All),
+        _ => BracketRead::Misspelled,
+    }
+}
+
 // What stands between the two conditions of a binary operator, as ` & ` or ` U `.
-pub fn middle(s: &[u8], at: usize, bracket: Bracket) -> OperatorRead
+fn middle(s: &[u8], at: usize, bracket: Bracket) -> OperatorRead
     ensures { λ r. ⌜ parsedOperator (now (s .entry)) r ≡ coded binaryCode (parseMiddle bracket (drop at (now (s .entry)))) ⌝ }
+    ensures { λ r. ⌜ operatorEnd r ≤ length (now (s .entry)) ⌝ }
 {
     let WordRead::Found(k) = language::read::word(s, at, b" ") else {
         return OperatorRead::Misspelled;
@@ -256,6 +308,7 @@ pub fn middle(s: &[u8], at: usize, bracket: Bracket) -> OperatorRead
 // What closes the bracket.
 fn closing(s: &[u8], at: usize, bracket: Bracket) -> WordRead
     ensures { λ r. ⌜ parsedWord (now (s .entry)) r ≡ parseWord (closingOf bracket) (drop at (now (s .entry))) ⌝ }
+    ensures { λ r. ⌜ wordEnd r ≤ length (now (s .entry)) ⌝ }
 {
     match bracket {
         Bracket::Round => language::read::word(s, at, b")"),
@@ -265,20 +318,22 @@ fn closing(s: &[u8], at: usize, bracket: Bracket) -> WordRead
 }
 
 // One more part as a word, where there is room.
-fn push(out: &mut [u64], n: usize, code: u8, left: usize, start: usize)
+fn push(out: &mut [u64; MOST_PARTS], n: usize, code: u8, left: usize, start: usize)
     requires { ⌜ (left ≤ most-bytes) × (start ≤ most-bytes) ⌝ }
+    requires { ⌜ length (now out) ≡ most-parts ⌝ }
     ensures { λ _. ⌜ now (out .exit) ≡ set (now (out .entry)) n (word code left start) ⌝ }
 {
-    if n < out.len() {
+    if n < MOST_PARTS {
         out[n] = code as u64 + 256 * (left as u64) + 65536 * 256 * (start as u64);
     }
 }
 
 // A condition that is an atom.
-fn leaf(s: &[u8], at: usize, out: &mut [u64], n: usize) -> ConditionRead
-    requires { ⌜ Ready (now s) at n ⌝ }
+fn leaf(s: &[u8], at: usize, out: &mut [u64; MOST_PARTS], n: usize) -> ConditionRead
+    requires { ⌜ Ready (now s) at (now out) n ⌝ }
     requires { ⌜ at < length (now s) ⌝ }
     ensures { λ r. ⌜ Tells (parseLeaf (drop at (now (s .entry)))) (now (s .entry)) at (now (out .entry)) n (now (out .exit)) r ⌝ }
+    ensures { λ r. ⌜ conditionEnd r ≤ length (now (s .entry)) ⌝ }
 {
     let AtomRead::Found(_, k) = atom(s, at) else {
         return ConditionRead::Misspelled;
@@ -287,30 +342,42 @@ fn leaf(s: &[u8], at: usize, out: &mut [u64], n: usize) -> ConditionRead
     ConditionRead::Found(k, n + 1)
 }
 
-// The condition at the position; its parts are numbered from n.
-pub fn condition(s: &[u8], at: usize, out: &mut [u64], n: usize) -> ConditionRead
-    requires { ⌜ Ready (now s) at n ⌝ }
+// The condition at the position; its parts are numbered from n. Each reader below that calls another is called at one place, so that one
+// condition within another takes one small frame of stack.
+fn condition(s: &[u8], at: usize, out: &mut [u64; MOST_PARTS], n: usize) -> ConditionRead
+    requires { ⌜ Ready (now s) at (now out) n ⌝ }
     ensures { λ r. ⌜ Reads (now (s .entry)) at (now (out .entry)) n (now (out .exit)) r ⌝ }
+    ensures { λ r. ⌜ conditionEnd r ≤ length (now (s .entry)) ⌝ }
 {
     if s.len() <= at {
         return ConditionRead::Misspelled;
     }
     let c = s[at];
     match c {
-        b'!' => unary(s, at, out, n),
-        b'E' => bracketed(s, at, Bracket::Some, out, n),
-        b'A' => bracketed(s, at, Bracket::All, out, n),
-        b'(' => binary(s, at, out, n),
         b'a'..=b'z' => leaf(s, at, out, n),
-        _ => ConditionRead::Misspelled,
+        _ => bracketed(s, at, out, n),
     }
 }
 
+// `(p & q)`, `E[p U q]` and the like; what begins with no bracket begins with a unary operator.
+fn bracketed(s: &[u8], at: usize, out: &mut [u64; MOST_PARTS], n: usize) -> ConditionRead
+    requires { ⌜ Ready (now s) at (now out) n ⌝ }
+    requires { ⌜ at < length (now s) ⌝ }
+    ensures { λ r. ⌜ ReadsBy (λ p. parseBracketed p (drop at (now (s .entry)))) (now (s .entry)) at (now (out .entry)) n (now (out .exit)) r ⌝ }
+    ensures { λ r. ⌜ conditionEnd r ≤ length (now (s .entry)) ⌝ }
+{
+    let BracketRead::Found(bracket, first) = opening(s, at) else {
+        return unary(s, at, out, n);
+    };
+    binary(s, at, first, bracket, out, n)
+}
+
 // `!p`, and `EX p` to `AM p`.
-fn unary(s: &[u8], at: usize, out: &mut [u64], n: usize) -> ConditionRead
-    requires { ⌜ Ready (now s) at n ⌝ }
+fn unary(s: &[u8], at: usize, out: &mut [u64; MOST_PARTS], n: usize) -> ConditionRead
+    requires { ⌜ Ready (now s) at (now out) n ⌝ }
     requires { ⌜ at < length (now s) ⌝ }
     ensures { λ r. ⌜ ReadsBy (λ p. parseUnary p (drop at (now (s .entry)))) (now (s .entry)) at (now (out .entry)) n (now (out .exit)) r ⌝ }
+    ensures { λ r. ⌜ conditionEnd r ≤ length (now (s .entry)) ⌝ }
 {
     let OperatorRead::Found(code, k) = prefix(s, at) else {
         return ConditionRead::Misspelled;
@@ -322,41 +389,20 @@ fn unary(s: &[u8], at: usize, out: &mut [u64], n: usize) -> ConditionRead
     ConditionRead::Found(next, m + 1)
 }
 
-// `(p & q)` and `(p | q)`.
-fn binary(s: &[u8], at: usize, out: &mut [u64], n: usize) -> ConditionRead
-    requires { ⌜ Ready (now s) at n ⌝ }
-    requires { ⌜ at < length (now s) ⌝ }
-    ensures { λ r. ⌜ ReadsBy (λ p. parsePair Bracket.Round p (drop (at + 1) (now (s .entry)))) (now (s .entry)) at (now (out .entry)) n (now (out .exit)) r ⌝ }
-{
-    pair(s, at, at + 1, Bracket::Round, out, n)
-}
-
-// `E[p U q]` and the like; without the `[` the letter begins a unary operator.
-fn bracketed(s: &[u8], at: usize, bracket: Bracket, out: &mut [u64], n: usize) -> ConditionRead
-    requires { ⌜ Ready (now s) at n ⌝ }
-    requires { ⌜ at < length (now s) ⌝ }
-    requires { ⌜ length (openingOf bracket) ≡ 2 ⌝ }
-    ensures { λ r. ⌜ ReadsBy (λ p. parseBracketed bracket p (getD (now (s .entry)) at 0) (drop (at + 1) (now (s .entry)))) (now (s .entry)) at (now (out .entry)) n (now (out .exit)) r ⌝ }
-{
-    let WordRead::Found(_) = language::read::word(s, at + 1, b"[") else {
-        return unary(s, at, out, n);
-    };
-    pair(s, at, at + 2, bracket, out, n)
-}
-
 // Two conditions with an operator between them, the first at `first`, and what closes the bracket.
-fn pair(
+fn binary(
     s: &[u8],
     at: usize,
     first: usize,
     bracket: Bracket,
-    out: &mut [u64],
+    out: &mut [u64; MOST_PARTS],
     n: usize,
 ) -> ConditionRead
-    requires { ⌜ Ready (now s) at n ⌝ }
+    requires { ⌜ Ready (now s) at (now out) n ⌝ }
     requires { ⌜ at < length (now s) ⌝ }
-    requires { ⌜ first ≡ at + length (openingOf bracket) ⌝ }
-    ensures { λ r. ⌜ ReadsBy (λ p. parsePair bracket p (drop first (now (s .entry)))) (now (s .entry)) at (now (out .entry)) n (now (out .exit)) r ⌝ }
+    requires { ⌜ drop at (now s) ≡ openingOf bracket ++ drop first (now s) ⌝ }
+    ensures { λ r. ⌜ ReadsBy (λ p. parseBinary bracket p (drop first (now (s .entry)))) (now (s .entry)) at (now (out .entry)) n (now (out .exit)) r ⌝ }
+    ensures { λ r. ⌜ conditionEnd r ≤ length (now (s .entry)) ⌝ }
 {
     let ConditionRead::Found(k, m) = condition(s, first, out, n) else {
         return ConditionRead::Misspelled;
@@ -374,25 +420,26 @@ fn pair(
     ConditionRead::Found(next, m1 + 1)
 }
 
-// Words to be filled.
+// As many zeros as there are words.
 fn blank() -> [u64; MOST_PARTS]
-    ensures { λ r. ⌜ length r ≡ most-parts ⌝ }
+    ensures { λ r. ⌜ r ≡ replicate most-parts 0 ⌝ }
 {
     [0; MOST_PARTS]
 }
 
-fn refused(r: Refusal, words: [u64; MOST_PARTS]) -> Reading
-    ensures { λ k. ⌜ k .answer ≡ Answer.Refused r ⌝ }
+fn refused(r: Refusal) -> Reading
+    ensures { λ k. ⌜ (k .answer ≡ Answer.Refused r) × (k .words ≡ replicate most-parts 0) ⌝ }
 {
     Reading {
         answer: Answer::Refused(r),
-        words: words,
+        words: blank(),
     }
 }
 
 // The condition that the whole text spells.
-fn whole(text: &[u8], out: &mut [u64]) -> ConditionRead
+fn whole(text: &[u8], out: &mut [u64; MOST_PARTS]) -> ConditionRead
     requires { ⌜ length (now text) ≤ most-bytes ⌝ }
+    requires { ⌜ length (now out) ≡ most-parts ⌝ }
     ensures { λ r. ⌜ TellsWhole (now (text .entry)) (now (out .entry)) (now (out .exit)) r ⌝ }
 {
     let ConditionRead::Found(next, parts) = condition(text, 0, out, 0) else {
@@ -408,18 +455,19 @@ fn whole(text: &[u8], out: &mut [u64]) -> ConditionRead
 pub fn read(text: &[u8]) -> Reading
     ensures { λ r. ⌜ WholeRead (now (text .entry)) (r .answer) (r .words) ⌝ }
 {
-    let mut words = blank();
     if MOST_BYTES < text.len() {
-        return refused(Refusal::Length, words);
+        return refused(Refusal::Length);
     }
+    let mut words = blank();
     let ConditionRead::Found(_, parts) = whole(text, &mut words) else {
-        return refused(Refusal::Misspelled, words);
+        return refused(Refusal::Misspelled);
     };
     if MOST_PARTS < parts {
-        return refused(Refusal::PartCount, words);
+        return refused(Refusal::PartCount);
     }
+    let count = parts as u32;
     Reading {
-        answer: Answer::Taken(parts as u32),
+        answer: Answer::Taken(count),
         words: words,
     }
 }

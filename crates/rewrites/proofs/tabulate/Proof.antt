@@ -61,7 +61,7 @@ summary-of-requires c κs =
 
 returns-3 : tie.Need-returns-3
 returns-3 c =
-    (inr (inr (c .before .before .before .before .before .before .before .before .before .if1 .left, statements (c .before .before .before .before .before .before .before .before .read .result .program), program-taken (c .before .before .before .before .before .before) .0, c .before .before .told .given .0 .0, rw (c .before .before .told .given .1) at (c .before .before .before .before .read2 .ensures), c .number-of2 .ensures)), refl)
+    (inr (inr (c .before .before .before .before .before .before .before .before .before .if1 .left, statements (c .before .before .before .before .before .before .before .before .read .result .program), program-taken (c .before .before .before .before .before .before) .0, c .before .before .told .given .0 .0, (rw (c .before .before .told .given .1) at (c .before .before .before .before .read2 .ensures)) .0, c .number-of2 .ensures)), refl)
 
 returns-4 : tie.Need-returns-4
 returns-4 c =

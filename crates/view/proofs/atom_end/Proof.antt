@@ -7,13 +7,13 @@ use Rattle.view.proofs.atom_end.Statement.{statement}
 use Rattle.view.proofs.atom_end.Tie as tie
 
 returns : tie.Need-returns
-returns c = atom-not (c .before .before .before .before .args .text .now) (c .before .before .before .before .args .start) (c .before .before .atom .ensures) (c .enum-told .given .1)
+returns c = atom-not (c .before .before .before .before .args .text .now) (c .before .before .before .before .args .start) (c .before .before .atom .ensures .0) (c .enum-told .given .1)
 
 returns-2 : tie.Need-returns-2
-returns-2 c = atom-found (c .before .before .before .before .before .before .args .text .now) (c .before .before .before .before .before .before .args .start) (c .before .before .before .before .atom .ensures) (c .before .before .k .given .1) (λ l. refl) (λ l. absurd (omega arith))
+returns-2 c = atom-found (c .before .before .before .before .before .before .args .text .now) (c .before .before .before .before .before .before .args .start) (c .before .before .before .before .atom .ensures .0) (c .before .before .k .given .1) (λ l. refl) (λ l. absurd (omega arith))
 
 returns-3 : tie.Need-returns-3
-returns-3 c = atom-found (c .before .before .before .before .before .before .args .text .now) (c .before .before .before .before .before .before .args .start) (c .before .before .before .before .atom .ensures) (c .before .before .k .given .1) (λ l. absurd (omega arith)) (λ l. refl)
+returns-3 c = atom-found (c .before .before .before .before .before .before .args .text .now) (c .before .before .before .before .before .before .args .start) (c .before .before .before .before .atom .ensures .0) (c .before .before .k .given .1) (λ l. absurd (omega arith)) (λ l. refl)
 
 pub atom-end-spec : {M : Type 1} → statement M
 atom-end-spec =

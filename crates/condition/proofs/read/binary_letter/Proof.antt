@@ -6,35 +6,54 @@ use Rattle.flow.specs.Flow.{forward, backward}
 use borrow.Author.Tests.{ne-eqb}
 use Rattle.language.proofs.Steps.{at-end, at-byte}
 use mathlib.Core.Path.{_∙_}
+use native.Mathlib.Omega.{arith}
 use borrow.Author.Needs.{needs}
 use Rattle.condition.proofs.read.binary_letter.Statement.{statement}
 use Rattle.condition.proofs.read.binary_letter.Tie as tie
 
 returns : tie.Need-returns
 unfolding parseLetter byLetter
-returns c = λ k e. rw (at-end _ _ (c .if1 .taken))
+returns c = (
+  λ k e. rw (at-end _ _ (c .if1 .taken)),
+  omega arith,
+)
 
 returns-2 : tie.Need-returns-2
 unfolding parseLetter byLetter
-returns-2 c = λ k e. rw (at-byte _ _ (c .before .before .before .if1 .left), c .before .match .keys1) (c .spaced .ensures ∙ binary-ended k forward _ _ e until)
+returns-2 c = (
+  λ k e. rw (at-byte _ _ (c .before .before .before .if1 .left), c .before .match .keys1) (c .spaced .ensures .0 ∙ binary-ended k forward _ _ e until),
+  c .spaced .ensures .1,
+)
 
 returns-3 : tie.Need-returns-3
 unfolding parseLetter byLetter
-returns-3 c = λ k e. rw (at-byte _ _ (c .before .before .before .if1 .left), c .before .match .keys2) (c .spaced2 .ensures ∙ binary-ended k forward _ _ e weak)
+returns-3 c = (
+  λ k e. rw (at-byte _ _ (c .before .before .before .if1 .left), c .before .match .keys2) (c .spaced2 .ensures .0 ∙ binary-ended k forward _ _ e weak),
+  c .spaced2 .ensures .1,
+)
 
 returns-4 : tie.Need-returns-4
 unfolding parseLetter byLetter
-returns-4 c = λ k e. rw (at-byte _ _ (c .before .before .before .if1 .left), c .before .match .keys3) (c .spaced3 .ensures ∙ binary-ended k backward _ _ e until)
+returns-4 c = (
+  λ k e. rw (at-byte _ _ (c .before .before .before .if1 .left), c .before .match .keys3) (c .spaced3 .ensures .0 ∙ binary-ended k backward _ _ e until),
+  c .spaced3 .ensures .1,
+)
 
 returns-5 : tie.Need-returns-5
 unfolding parseLetter byLetter
-returns-5 c = λ k e. rw (at-byte _ _ (c .before .before .before .if1 .left), c .before .match .keys4) (c .spaced4 .ensures ∙ binary-ended k backward _ _ e weak)
+returns-5 c = (
+  λ k e. rw (at-byte _ _ (c .before .before .before .if1 .left), c .before .match .keys4) (c .spaced4 .ensures .0 ∙ binary-ended k backward _ _ e weak),
+  c .spaced4 .ensures .1,
+)
 
 returns-6 : tie.Need-returns-6
 unfolding parseLetter byLetter
-returns-6 c = λ k e.
-    let n = c .match .rest in
-    rw (at-byte _ _ (c .before .before .if1 .left), ne-eqb _ 85 (n .0 .0 .0 .1), ne-eqb _ 87 (n .0 .0 .1), ne-eqb _ 83 (n .0 .1), ne-eqb _ 66 (n .1))
+returns-6 c = (
+  λ k e.
+      let n = c .match .rest in
+      rw (at-byte _ _ (c .before .before .if1 .left), ne-eqb _ 85 (n .0 .0 .0 .1), ne-eqb _ 87 (n .0 .0 .1), ne-eqb _ 83 (n .0 .1), ne-eqb _ 66 (n .1)),
+  omega arith,
+)
 
 pub binary-letter-spec : {M : Type 1} → statement M
 binary-letter-spec =

@@ -1,16 +1,26 @@
 -- `closing` meets its contract, by cases on the bracket. Assumes nothing.
+use native.Mathlib.Omega.{arith}
 use borrow.Author.Needs.{needs}
 use Rattle.condition.proofs.read.closing.Statement.{statement}
 use Rattle.condition.proofs.read.closing.Tie as tie
 
 returns : tie.Need-returns
-returns c = rw (c .before .before .enum-told .given .1) (c .word .ensures)
+returns c = (
+  rw (c .before .before .enum-told .given .1) (c .word .ensures .0),
+  c .word .ensures .1 (omega arith),
+)
 
 returns-2 : tie.Need-returns-2
-returns-2 c = rw (c .before .before .enum-told2 .given .1) (c .word2 .ensures)
+returns-2 c = (
+  rw (c .before .before .enum-told2 .given .1) (c .word2 .ensures .0),
+  c .word2 .ensures .1 (omega arith),
+)
 
 returns-3 : tie.Need-returns-3
-returns-3 c = rw (c .before .before .enum-told3 .given .1) (c .word3 .ensures)
+returns-3 c = (
+  rw (c .before .before .enum-told3 .given .1) (c .word3 .ensures .0),
+  c .word3 .ensures .1 (omega arith),
+)
 
 pub closing-spec : {M : Type 1} → statement M
 closing-spec =

@@ -6,27 +6,39 @@ use Rattle.condition.specs.Condition.{conjunction, disjunction}
 use borrow.Author.Tests.{ne-eqb}
 use Rattle.language.proofs.Steps.{at-end, at-byte}
 use mathlib.Core.Path.{_∙_}
+use native.Mathlib.Omega.{arith}
 use borrow.Author.Needs.{needs}
 use Rattle.condition.proofs.read.connective.Statement.{statement}
 use Rattle.condition.proofs.read.connective.Tie as tie
 
 returns : tie.Need-returns
 unfolding parseLetter byLetter
-returns c = rw (at-end _ _ (c .if1 .taken))
+returns c = (
+  rw (at-end _ _ (c .if1 .taken)),
+  omega arith,
+)
 
 returns-2 : tie.Need-returns-2
 unfolding parseLetter byLetter
-returns-2 c = rw (at-byte _ _ (c .before .before .before .if1 .left), c .before .match .keys1) (c .spaced .ensures ∙ coded-ended binaryCode conjunction _ _)
+returns-2 c = (
+  rw (at-byte _ _ (c .before .before .before .if1 .left), c .before .match .keys1) (c .spaced .ensures .0 ∙ coded-ended binaryCode conjunction _ _),
+  c .spaced .ensures .1,
+)
 
 returns-3 : tie.Need-returns-3
 unfolding parseLetter byLetter
-returns-3 c = rw (at-byte _ _ (c .before .before .before .if1 .left), c .before .match .keys2) (c .spaced2 .ensures ∙ coded-ended binaryCode disjunction _ _)
+returns-3 c = (
+  rw (at-byte _ _ (c .before .before .before .if1 .left), c .before .match .keys2) (c .spaced2 .ensures .0 ∙ coded-ended binaryCode disjunction _ _),
+  c .spaced2 .ensures .1,
+)
 
 returns-4 : tie.Need-returns-4
 unfolding parseLetter byLetter
 returns-4 c =
-    let n = c .match .rest in
-    rw (at-byte _ _ (c .before .before .if1 .left), ne-eqb _ 38 (n .0 .1), ne-eqb _ 124 (n .1))
+    let n = c .match .rest in (
+      rw (at-byte _ _ (c .before .before .if1 .left), ne-eqb _ 38 (n .0 .1), ne-eqb _ 124 (n .1)),
+      omega arith,
+    )
 
 pub connective-spec : {M : Type 1} → statement M
 connective-spec =

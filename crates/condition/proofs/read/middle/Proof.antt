@@ -3,25 +3,41 @@ use Rattle.condition.specs.Parsing.{parseMiddle}
 use Rattle.language.specs.Parsing.{parsedWord}
 use Rattle.ctl.specs.Paths.{E, A}
 use mathlib.Core.Path.{refl, sym, ap, _∙_}
+use native.Mathlib.Omega.{arith}
 use borrow.Author.Needs.{needs}
 use Rattle.condition.proofs.read.middle.Statement.{statement}
 use Rattle.condition.proofs.read.middle.Tie as tie
 
 returns : tie.Need-returns
 unfolding parseMiddle
-returns c = rw (sym (c .before .before .word .ensures) ∙ ap (parsedWord _) (c .enum-told .given .1))
+returns c = (
+  rw (sym (c .before .before .word .ensures .0) ∙ ap (parsedWord _) (c .enum-told .given .1)),
+  omega arith,
+)
 
 returns-2 : tie.Need-returns-2
 unfolding parseMiddle
-returns-2 c = rw (sym (c .before .before .before .before .before .before .word .ensures) ∙ ap (parsedWord _) (c .before .before .before .before .k .given .1), c .before .enum-told2 .given .1) (c .connective .ensures)
+returns-2 c =
+    let k = c .before .before .before .before in (
+      rw (sym (k .before .before .word .ensures .0) ∙ ap (parsedWord _) (k .k .given .1), c .before .enum-told2 .given .1) (c .connective .ensures .0),
+      c .connective .ensures .1,
+    )
 
 returns-3 : tie.Need-returns-3
 unfolding parseMiddle
-returns-3 c = rw (sym (c .before .before .before .before .before .before .word .ensures) ∙ ap (parsedWord _) (c .before .before .before .before .k .given .1), c .before .enum-told3 .given .1) (c .binary-letter .ensures E refl)
+returns-3 c =
+    let k = c .before .before .before .before in (
+      rw (sym (k .before .before .word .ensures .0) ∙ ap (parsedWord _) (k .k .given .1), c .before .enum-told3 .given .1) (c .binary-letter .ensures .0 E refl),
+      c .binary-letter .ensures .1,
+    )
 
 returns-4 : tie.Need-returns-4
 unfolding parseMiddle
-returns-4 c = rw (sym (c .before .before .before .before .before .before .word .ensures) ∙ ap (parsedWord _) (c .before .before .before .before .k .given .1), c .before .enum-told4 .given .1) (c .binary-letter2 .ensures A refl)
+returns-4 c =
+    let k = c .before .before .before .before in (
+      rw (sym (k .before .before .word .ensures .0) ∙ ap (parsedWord _) (k .k .given .1), c .before .enum-told4 .given .1) (c .binary-letter2 .ensures .0 A refl),
+      c .binary-letter2 .ensures .1,
+    )
 
 pub middle-spec : {M : Type 1} → statement M
 middle-spec =

@@ -2,21 +2,38 @@
 use Rattle.condition.specs.Parsing.{parseNode}
 use Rattle.language.specs.Parsing.{parsedWord, parsedNumber}
 use mathlib.Core.Path.{sym, ap, _∙_}
+use native.Mathlib.Omega.{arith}
 use borrow.Author.Needs.{needs}
 use Rattle.condition.proofs.read.node.Statement.{statement}
 use Rattle.condition.proofs.read.node.Tie as tie
 
 returns : tie.Need-returns
 unfolding parseNode
-returns c = rw (sym (c .before .before .word .ensures) ∙ ap (parsedWord _) (c .enum-told .given .1))
+returns c = (rw (sym (c .before .before .word .ensures .0) ∙ ap (parsedWord _) (c .enum-told .given .1)), omega arith)
 
 returns-2 : tie.Need-returns-2
 unfolding parseNode
-returns-2 c = rw (sym (c .before .before .before .before .before .before .word .ensures) ∙ ap (parsedWord _) (c .before .before .before .before .k .given .1), sym (c .before .before .statement-number .ensures) ∙ ap (parsedNumber _) (c .enum-told2 .given .1))
+returns-2 c =
+    let k = c .before .before .before .before in (
+      rw (
+        sym (k .before .before .word .ensures .0) ∙ ap (parsedWord _) (k .k .given .1),
+        sym (c .before .before .statement-number .ensures .0) ∙ ap (parsedNumber _) (c .enum-told2 .given .1),
+      ),
+      omega arith,
+    )
 
 returns-3 : tie.Need-returns-3
 unfolding parseNode
-returns-3 c = rw (sym (c .before .before .before .before .before .before .before .before .before .word .ensures) ∙ ap (parsedWord _) (c .before .before .before .before .before .before .before .k .given .1), sym (c .before .before .before .before .before .statement-number .ensures) ∙ ap (parsedNumber _) (c .before .before .before .n .given .1)) (c .ended .ensures)
+returns-3 c =
+    let n = c .before .before .before in
+    let k = n .before .before .before .before in (
+      rw (
+        sym (k .before .before .word .ensures .0) ∙ ap (parsedWord _) (k .k .given .1),
+        sym (n .before .before .statement-number .ensures .0) ∙ ap (parsedNumber _) (n .n .given .1),
+      )
+          (c .ended .ensures .0),
+      c .ended .ensures .1 (omega arith),
+    )
 
 pub node-spec : {M : Type 1} → statement M
 node-spec =

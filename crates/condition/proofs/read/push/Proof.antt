@@ -1,18 +1,21 @@
 -- `push` meets its contract: a place beyond the room is kept. Assumes nothing.
 use lib.Seq.{set-out}
 use mathlib.Core.Path.{sym}
+use native.Mathlib.Omega.{arith}
+use Rattle.condition.specs.Reading.{word}
 use borrow.Author.Needs.{needs}
 use Rattle.condition.proofs.read.push.Statement.{statement}
 use Rattle.condition.proofs.read.push.Tie as tie
 
 returns-2 : tie.Need-returns-2
-returns-2 c = sym (set-out _ _ _ (c .if1 .left))
+returns-2 c =
+    let a = c .before .args in
+    sym (set-out (a .out .now) (a .n) (word (a .code) (a .left) (a .start)) (omega (arith, c .before .pre .1)))
 
 pub push-spec : {M : Type 1} → statement M
 push-spec =
     tie.close
     (tie.spec
-    (λ c. search needs)
     (λ c. search needs)
     (λ c. search needs)
     (λ c. search needs)

@@ -2,21 +2,38 @@
 use Rattle.condition.specs.Parsing.{parseStmt}
 use Rattle.language.specs.Parsing.{parsedWord, parsedStatement}
 use mathlib.Core.Path.{sym, ap, _∙_}
+use native.Mathlib.Omega.{arith}
 use borrow.Author.Needs.{needs}
 use Rattle.condition.proofs.read.stmt.Statement.{statement}
 use Rattle.condition.proofs.read.stmt.Tie as tie
 
 returns : tie.Need-returns
 unfolding parseStmt
-returns c = rw (sym (c .before .before .word .ensures) ∙ ap (parsedWord _) (c .enum-told .given .1))
+returns c = (rw (sym (c .before .before .word .ensures .0) ∙ ap (parsedWord _) (c .enum-told .given .1)), omega arith)
 
 returns-2 : tie.Need-returns-2
 unfolding parseStmt
-returns-2 c = rw (sym (c .before .before .before .before .before .before .word .ensures) ∙ ap (parsedWord _) (c .before .before .before .before .k .given .1), sym (c .before .before .statement .ensures) ∙ ap (parsedStatement _) (c .enum-told2 .given .1))
+returns-2 c =
+    let k = c .before .before .before .before in (
+      rw (
+        sym (k .before .before .word .ensures .0) ∙ ap (parsedWord _) (k .k .given .1),
+        sym (c .before .before .statement .ensures .0) ∙ ap (parsedStatement _) (c .enum-told2 .given .1),
+      ),
+      omega arith,
+    )
 
 returns-3 : tie.Need-returns-3
 unfolding parseStmt
-returns-3 c = rw (sym (c .before .before .before .before .before .before .before .before .before .word .ensures) ∙ ap (parsedWord _) (c .before .before .before .before .before .before .before .k .given .1), sym (c .before .before .before .before .before .statement .ensures) ∙ ap (parsedStatement _) (c .before .before .before .i .given .1)) (c .ended .ensures)
+returns-3 c =
+    let i = c .before .before .before in
+    let k = i .before .before .before .before in (
+      rw (
+        sym (k .before .before .word .ensures .0) ∙ ap (parsedWord _) (k .k .given .1),
+        sym (i .before .before .statement .ensures .0) ∙ ap (parsedStatement _) (i .i .given .1),
+      )
+          (c .ended .ensures .0),
+      c .ended .ensures .1 (omega arith),
+    )
 
 pub stmt-spec : {M : Type 1} → statement M
 stmt-spec =

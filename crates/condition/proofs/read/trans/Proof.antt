@@ -2,21 +2,38 @@
 use Rattle.condition.specs.Parsing.{parseTrans}
 use Rattle.language.specs.Parsing.{parsedWord, parsedExpression}
 use mathlib.Core.Path.{sym, ap, _∙_}
+use native.Mathlib.Omega.{arith}
 use borrow.Author.Needs.{needs}
 use Rattle.condition.proofs.read.trans.Statement.{statement}
 use Rattle.condition.proofs.read.trans.Tie as tie
 
 returns : tie.Need-returns
 unfolding parseTrans
-returns c = rw (sym (c .before .before .word .ensures) ∙ ap (parsedWord _) (c .enum-told .given .1))
+returns c = (rw (sym (c .before .before .word .ensures .0) ∙ ap (parsedWord _) (c .enum-told .given .1)), omega arith)
 
 returns-2 : tie.Need-returns-2
 unfolding parseTrans
-returns-2 c = rw (sym (c .before .before .before .before .before .before .word .ensures) ∙ ap (parsedWord _) (c .before .before .before .before .k .given .1), sym (c .before .before .expression .ensures) ∙ ap (parsedExpression _) (c .enum-told2 .given .1))
+returns-2 c =
+    let k = c .before .before .before .before in (
+      rw (
+        sym (k .before .before .word .ensures .0) ∙ ap (parsedWord _) (k .k .given .1),
+        sym (c .before .before .expression .ensures .0) ∙ ap (parsedExpression _) (c .enum-told2 .given .1),
+      ),
+      omega arith,
+    )
 
 returns-3 : tie.Need-returns-3
 unfolding parseTrans
-returns-3 c = rw (sym (c .before .before .before .before .before .before .before .before .before .word .ensures) ∙ ap (parsedWord _) (c .before .before .before .before .before .before .before .k .given .1), sym (c .before .before .before .before .before .expression .ensures) ∙ ap (parsedExpression _) (c .before .before .before .e .given .1)) (c .ended .ensures)
+returns-3 c =
+    let e = c .before .before .before in
+    let k = e .before .before .before .before in (
+      rw (
+        sym (k .before .before .word .ensures .0) ∙ ap (parsedWord _) (k .k .given .1),
+        sym (e .before .before .expression .ensures .0) ∙ ap (parsedExpression _) (e .e .given .1),
+      )
+          (c .ended .ensures .0),
+      c .ended .ensures .1 (omega arith),
+    )
 
 pub trans-spec : {M : Type 1} → statement M
 trans-spec =
