@@ -22,7 +22,7 @@ extern "C" {
 
 /* Runs the shift program that the text spells, from 32 given values and one input value, under a
    budget of 0 to 1,000,000 steps. One step performs one statement. Statements are numbered from 1.
-   Takes at most 48 KiB of stack.
+   Takes at most 64 KiB of stack.
 
    Returns 0, and sets
    *ended = 1, *value and *steps, where the run ends within the budget: the value that `write`
@@ -74,7 +74,7 @@ uint8_t rewrites_tabulate(const uint8_t *program, size_t program_len, const uint
    Each mark is judged on the given program. Accepted marks are all made together, refused ones
    aren't. The new program has the same line count. Started alike, it runs alike: to the same value in
    the same steps, or spent at the same statement. The values left then may differ. Takes at most
-   96 KiB of stack.
+   128 KiB of stack.
 
    Returns 0, and sets
    verdicts    byte j for line j, counted from 0: 0 for a mark that is accepted, else the first that

@@ -267,7 +267,7 @@ impl fmt::Display for Refusal {
 impl Error for Refusal {}
 
 /// Runs the program that the text spells, from the given values of `i0` to `i31` and one input
-/// value, for at most `budget` steps. Takes at most 48 KiB of stack.
+/// value, for at most `budget` steps. Takes at most 64 KiB of stack.
 ///
 /// # Errors
 ///
@@ -403,7 +403,7 @@ pub fn tabulate(program: &[u8], condition: &[u8], table: &mut [u64]) -> Result<T
 /// same value and the same steps, or 'spent' at the same statement. The values told with 'spent' may
 /// differ.
 ///
-/// Takes at most 96 KiB of stack.
+/// Takes at most 128 KiB of stack.
 ///
 /// # Errors
 ///
