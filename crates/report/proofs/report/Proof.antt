@@ -17,12 +17,23 @@ abbrev left : tie.After-judge → Lent
 left c = record { verdicts = c .judge .last .1 .1 .0; new = c .judge .last .1 .1 .1 .0 }
 
 -- the answer is a refusal
-refuses : (c : tie.After-answer) → Refuses (c .before .before .before .before .before .before .before .before .before .before .before .before .before .args .given .now) (c .before .before .before .before .before .before .before .before .before .before .before .before .before .args .marks .now) (c .answer .given .0 .0)
-refuses c = answer-refused (c .before .before .before .before .before .before .before .before .before .before .before .before .before .args .given .now) (c .before .before .before .before .before .before .before .before .before .before .before .before .before .args .marks .now) (lent (c .before .before .before .before .before)) (left (c .before .before .before .before)) (c .before .before .before .before .judge .ensures) (c .answer .given .1) (omega arith, omega arith)
+refuses : (c : tie.After-answer)
+    → let a = c .before .before .before .before .before .before .before .before .before .before .before .before .before .args in Refuses (a .given .now) (a .marks .now) (c .answer .given .0 .0)
+refuses c =
+    let j = c .before .before .before .before in
+    let a = j .before .before .before .before .before .before .before .before .before .args in
+    answer-refused (a .given .now) (a .marks .now) (lent (j .before)) (left j) (j .judge .ensures) (c .answer .given .1) (omega arith, omega arith)
 
 -- the answer is a result
-finished : (c : tie.After-answer2) → JudgeFinished (c .before .before .before .before .before .before .before .before .before .before .before .before .before .args .given .now) (c .before .before .before .before .before .before .before .before .before .before .before .before .before .args .marks .now) (lent (c .before .before .before .before .before)) (left (c .before .before .before .before)) (c .answer2 .given .0 .0) (c .answer2 .given .0 .1 .0) (c .answer2 .given .0 .1 .1 .0)
-finished c = answer-finished (c .before .before .before .before .before .before .before .before .before .before .before .before .before .args .given .now) (c .before .before .before .before .before .before .before .before .before .before .before .before .before .args .marks .now) (lent (c .before .before .before .before .before)) (left (c .before .before .before .before)) (c .before .before .before .before .judge .ensures) (c .answer2 .given .1)
+finished : (c : tie.After-answer2)
+    → let j = c .before .before .before .before in
+    let a = j .before .before .before .before .before .before .before .before .before .args in
+    let n = c .answer2 .given .0 in
+    JudgeFinished (a .given .now) (a .marks .now) (lent (j .before)) (left j) (n .0) (n .1 .0) (n .1 .1 .0)
+finished c =
+    let j = c .before .before .before .before in
+    let a = j .before .before .before .before .before .before .before .before .before .args in
+    answer-finished (a .given .now) (a .marks .now) (lent (j .before)) (left j) (j .judge .ensures) (c .answer2 .given .1)
 
 write-refused-requires : tie.Need-write-refused-requires
 write-refused-requires c κs = omega (arith, refused-room (refuses (c .before .before)))
@@ -37,10 +48,14 @@ write-report-requires : tie.Need-write-report-requires
 write-report-requires c κs = report-fits (finished (c .before .before .before .before)) _ (omega arith)
 
 returns-2 : tie.Need-returns-2
-returns-2 c = refused-printed (refuses (c .before .before .before .before .before)) (c .before .before .before .before .before .before .before .before .before .before .before .before .before .before .if1 .left) (c .before .before .write-refused .ensures)
+returns-2 c =
+    let r = c .before .before .before .before .before in
+    refused-printed (refuses r) (r .before .before .before .before .before .before .before .before .before .if1 .left) (c .before .before .write-refused .ensures)
 
 returns-3 : tie.Need-returns-3
-returns-3 c = finished-printed (finished (c .before .before .before .before .before .before .before)) (c .before .before .before .before .before .before .before .before .before .before .before .before .before .before .before .before .if1 .left) (c .before .before .write-report .ensures)
+returns-3 c =
+    let r = c .before .before .before .before .before .before .before in
+    finished-printed (finished r) (r .before .before .before .before .before .before .before .before .before .if1 .left) (c .before .before .write-report .ensures)
 
 pub report-spec : {M : Type 1} → statement M
 report-spec =

@@ -7,10 +7,14 @@ use Rattle.view_condition.proofs.view_files.Statement.{statement}
 use Rattle.view_condition.proofs.view_files.Tie as tie
 
 array-share-prefix-given : tie.Need-array-share-prefix-given
-array-share-prefix-given c = whole-within _ _ (c .before .before .before .before .before .before .before .before .before .m .given .1) (c .before .before .before .before .before .before .before .before .before .before .before .before .read .ensures)
+array-share-prefix-given c =
+    let m = c .before .before .before .before .before .before .before .before .before in
+    whole-within _ _ (m .m .given .1) (m .before .before .before .read .ensures)
 
 slice-aggregate-show : tie.Need-slice-aggregate-show
-slice-aggregate-show c = sym (length-take-le _ _ (whole-within _ _ (c .before .before .before .before .before .before .before .before .before .before .m .given .1) (c .before .before .before .before .before .before .before .before .before .before .before .before .before .read .ensures)))
+slice-aggregate-show c =
+    let m = c .before .before .before .before .before .before .before .before .before .before in
+    sym (length-take-le _ _ (whole-within _ _ (m .m .given .1) (m .before .before .before .read .ensures)))
 
 array-share-prefix-text : tie.Need-array-share-prefix-text
 array-share-prefix-text c = whole-within _ _ (c .before .before .n .given .1) (c .before .before .before .before .before .read2 .ensures)
