@@ -15,8 +15,8 @@ use Rattle.report.specs.Report.{countsLine}
 use Rattle.report.proofs.Lines.{counts-length}
 use Rattle.report.proofs.Reports.{answer-refused, answer-finished}
 use Rattle.desk.specs.Refusals.{refusalText, refusal-room}
-use Rattle.outcome.specs.Outcome.{Blamed}
-use Rattle.outcome.proofs.Outputs.{blames-none}
+use Rattle.blame.specs.Blame.{Blamed}
+use Rattle.blame.proofs.Blames.{blamed, no-number}
 use Rattle.comparison.specs.Heading.{HeadRefused, HeadJudged}
 
 pub counts-most : (m a : ℕ) → m < 2 ^ 32 → a < 2 ^ 32 → length (countsLine m a) ≤ refusal-room
@@ -24,12 +24,12 @@ counts-most m a h k = omega (arith, counts-length m a, digits-length 9 m (omega 
 
 pub budget-refused : {t u o q : List ℕ} {budget n : ℕ} → most-steps < budget → length (refusalText budget-number 0) ≤ length o
     → Put o 0 (refusalText budget-number 0) q n → HeadRefused t u budget o q n
-budget-refused {t = t} h fits put =
+budget-refused h fits put =
     record {
       n = budget-number;
       line = 0;
       refused = inl (h, refl);
-      blamed = blames-none t budget-number 0 (λ e. omega (arith, e)) (λ e. omega (arith, e)) (λ e. omega (arith, e)) (λ e. omega (arith, e));
+      blamed = blamed (no-number (λ e. omega (arith, e)) (λ e. omega (arith, e)) (λ e. omega (arith, e)) (λ e. omega (arith, e)));
       fits = fits;
       put = put;
     }
@@ -37,8 +37,8 @@ budget-refused {t = t} h fits put =
 module _ (t u : List ℕ) (budget : ℕ) (lent left : Lent) {r : JudgeAnswer} (a : JudgeAnswers t u lent left r) (allowed : budget ≤ most-steps) {o q : List ℕ} {n : ℕ} where
   pub head-refused : (m line : ℕ) → r ≡ Refused m → Room (lent .verdicts) (lent .new) → Blamed t m line → length (refusalText m line) ≤ length o → Put o 0 (refusalText m line) q n
       → HeadRefused t u budget o q n × (left .new ≡ lent .new)
-  head-refused m line is room blamed fits put =
-      (record { n = m; line = line; refused = inr (allowed, answer-refused t u lent left a is room); blamed = blamed; fits = fits; put = put }, ap (λ (x : Lent). x .new) ((rw is at a) .1))
+  head-refused m line is room about fits put =
+      (record { n = m; line = line; refused = inr (allowed, answer-refused t u lent left a is room); blamed = about; fits = fits; put = put }, ap (λ (x : Lent). x .new) ((rw is at a) .1))
 
   pub head-judged : (count accepted bytes : ℕ) → r ≡ Finished count accepted bytes → length (countsLine count accepted) ≤ length o → Put o 0 (countsLine count accepted) q n
       → HeadJudged t u budget (lent .new) (left .new) o q n bytes

@@ -9,7 +9,7 @@ use Rattle.rewrites.specs.Run.{most-steps, budget-number}
 use Rattle.rewrites.specs.Judge.{text-bytes, Lent, JudgeFinished}
 use Rattle.report.specs.Report.{countsLine, Refuses}
 use Rattle.desk.specs.Refusals.{refusalText, refusal-room}
-use Rattle.outcome.specs.Outcome.{Blamed}
+use Rattle.blame.specs.Blame.{Blamed}
 use Rattle.comparison.specs.declared.heading.Heading.{Heading}
 use Rattle.comparison.specs.declared.heading.Heading.the-variants.{Refused, Judged, NoRoom}
 

@@ -1,17 +1,14 @@
--- What `steps` does with two programs: as many lines as the lent bytes have room for, and whether both runs agree.
+-- What `steps` does with two programs: as many lines as the lent bytes have room for. By demand 3 both runs agree after each step.
 use mathlib.Core.Path.{_≡_}
+use mathlib.Core.Logic.{_⊎_}
 use mathlib.Core.List.{List}
 use mathlib.Core.Bool.{Bool, true, false}
-use Prim.Native.Nat.{ℕ, _+_, _*_, _≤_, _<_}
-use lib.Dec.{eqb}
-use lib.ListN.{length}
+use Prim.Native.Nat.{ℕ, suc, _+_, _*_, _≤_, _<_}
+use lib.ListN.{length, take}
 use Rattle.language.specs.Spelling.{variables}
 use Rattle.language.specs.Writing.{Put}
 use Rattle.language.specs.declared.Statement.{Statement}
-use Rattle.machine.specs.Machine.{before, after}
-use Rattle.machine.specs.Answer.{Ends}
-use Rattle.machine.specs.declared.Next.{Next}
-use Rattle.machine.specs.declared.Next.the-variants.{Goto, Finish}
+use Rattle.machine.specs.Machine.{before, ended, after}
 use Rattle.lockstep.specs.Lockstep.{Together}
 use Rattle.comparison.specs.Lines.{bothLines}
 use Rattle.comparison.specs.declared.Progress.{Progress}
@@ -26,36 +23,45 @@ pairs-room = variables * pair-room
 abbrev pub line-room : ℕ
 line-room = 80 + pairs-room
 
--- both lead to the same statement, or both end with the same value
-abbrev pub alikeNext : Next → Next → Bool
-alikeNext (Goto s) (Goto t) = eqb s t
-alikeNext (Goto s) (Finish w) = false
-alikeNext (Finish v) (Goto t) = false
-alikeNext (Finish v) (Finish w) = eqb v w
-
 -- demand 3's runs: from every start, after every number of steps, both stand before the same statement or have ended with the same value
 abbrev pub InStep : List Statement → List Statement → Type 0
 InStep P Q = (start : List ℕ) → length start ≡ variables → (input k : ℕ) → Together (after P start input k) (after Q start input k)
 
--- the place lies in both programs
-pub record Within (P Q : List Statement) (s : ℕ) : Type 0 where
-  pub given : s < length P
-  pub rewritten : s < length Q
+-- after k steps both runs stand before the statement at place s, with the values vs and ws
+pub record BothStand (P Q : List Statement) (start : List ℕ) (input k s : ℕ) (vs ws : List ℕ) : Type 0 where
+  pub inside : s < length P
+  pub given : after P start input k ≡ before s vs
+  pub rewritten : after Q start input k ≡ before s ws
 
--- both runs after k steps: they ended with the last of them and the same value, or stand before place s
+-- both ended with step k and the same value, performing the statement at place s; vs and ws are the values before that step
+pub record BothEnded (P Q : List Statement) (start : List ℕ) (input k s : ℕ) (vs ws : List ℕ) : Type 0 where
+  pub steps : ℕ
+  pub counted : k ≡ suc steps
+  pub last : BothStand P Q start input steps s vs ws
+  pub value : ℕ
+  pub given : after P start input k ≡ ended value
+  pub rewritten : after Q start input k ≡ ended value
+
+-- both runs after k steps, by whether they have ended
 abbrev pub Left : List Statement → List Statement → List ℕ → ℕ → ℕ → Bool → ℕ → List ℕ → List ℕ → Type 0
-Left P Q start input k true s vs ws = (v : ℕ) × Ends P start input k v × Ends Q start input k v
-Left P Q start input k false s vs ws =
-    Within P Q s × (after P start input k ≡ before s vs) × (after Q start input k ≡ before s ws)
+Left P Q start input k true s vs ws = BothEnded P Q start input k s vs ws
+Left P Q start input k false s vs ws = BothStand P Q start input k s vs ws
 
 -- from the states after k steps: the lines of further steps stand at the front of the bytes o, all others are kept; vs and ws are the
--- values left. At no step did the runs differ
+-- values left
 pub record Compared (P Q : List Statement) (start : List ℕ) (input budget k : ℕ) (o q vs ws : List ℕ) (r : Progress) : Type 0 where
   pub n : ℕ
   pub counted : r .done ≡ k + n
   pub put : Put o 0 (bothLines P Q start input k n) q (r .bytes)
-  pub fits : r .bytes ≤ length o
   pub left : Left P Q start input (r .done) (r .ended) (r .at) vs ws
-  pub agree : r .agree ≡ true
+  -- it stops at the budget, where the runs have ended, or where a line may have no room; with room for one it goes on
   pub within : k ≤ budget → r .done ≤ budget
+  pub stops : r .ended ≡ false → (budget ≤ r .done) ⊎ (length o < r .bytes + line-room)
   pub further : line-room ≤ length o → k < budget → k < r .done
+
+-- from place s and the values us and zs: whatever they are, the bytes written stand at the front of o and all others are kept; if both
+-- runs stand there after k steps, and the programs run as demand 3 says, they are compared
+pub record Stepped (P Q : List Statement) (input budget k s : ℕ) (us zs o q vs ws : List ℕ) (r : Progress) : Type 0 where
+  pub kept : Put o 0 (take (r .bytes) q) q (r .bytes)
+  pub compared : InStep P Q → (start : List ℕ) → length start ≡ variables → BothStand P Q start input k s us zs
+      → Compared P Q start input budget k o q vs ws r

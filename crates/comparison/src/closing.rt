@@ -1,15 +1,10 @@
 // What is printed after the steps: the outcome of each run, and that they agree.
-ghost use mathlib.Core.Path.{_≡_};
-ghost use mathlib.Core.Bool.{true};
 ghost use Prim.Native.Nat.{_≤_, _+_};
 ghost use lib.ListN.{length};
 ghost use Rattle.language.specs.Writing.{Put};
-ghost use Rattle.comparison.specs.Closing.{answerLine, agree-line, answer-room, closing-room, RunAlike, Closes};
+ghost use Rattle.comparison.specs.Closing.{answerLine, answer-room, closing-room, RunAlike, Closes};
 use machine::VALUES;
 use rewrites::RunAnswer;
-
-// Every closing has room in this many bytes.
-pub const CLOSING_ROOM: usize = 128;
 
 // `ended 9 steps 12` or `spent at 4`; a refused run has no line.
 fn answer(out: &mut [u8], at: usize, a: RunAnswer) -> usize
@@ -27,25 +22,7 @@ fn answer(out: &mut [u8], at: usize, a: RunAnswer) -> usize
     }
 }
 
-// The word for runs that differ. Demand 3 says that there are none: no call of this can be proved but one that is never reached.
-fn differ(out: &mut [u8], at: usize) -> usize
-    requires { ⌜ ⊥ ⌝ }
-{
-    language::write::word(out, at, b"statements or outcome differ\n")
-}
-
-fn verdict(out: &mut [u8], at: usize, agree: bool) -> usize
-    requires { ⌜ agree ≡ true ⌝ }
-    requires { ⌜ at + length agree-line ≤ length (now out) ⌝ }
-    ensures { λ r. ⌜ Put (now (out .entry)) at agree-line (now (out .exit)) r ⌝ }
-{
-    if agree {
-        return language::write::word(out, at, b"statements and outcome agree\n");
-    }
-    differ(out, at)
-}
-
-// Runs both programs' texts, and tells both outcomes and that they agree.
+// Runs both programs' texts, whose runs are known to be alike, and tells both outcomes and that they agree.
 pub fn write(
     out: &mut [u8],
     program: &[u8],
@@ -53,9 +30,7 @@ pub fn write(
     values: [u32; VALUES],
     input: u32,
     budget: u32,
-    agree: bool,
 ) -> usize
-    requires { ⌜ agree ≡ true ⌝ }
     requires { ⌜ closing-room ≤ length (now out) ⌝ }
     requires { ⌜ RunAlike (now program) (now new) values input budget ⌝ }
     ensures { λ r. ⌜ Closes (now (program .entry)) (now (new .entry)) values input budget (now (out .entry)) (now (out .exit)) r ⌝ }
@@ -68,5 +43,5 @@ pub fn write(
     let k2 = answer(out, k1, a);
     let k3 = language::write::word(out, k2, b"rewritten ");
     let k4 = answer(out, k3, b);
-    verdict(out, k4, agree)
+    language::write::word(out, k4, b"statements and outcome agree\n")
 }

@@ -13,7 +13,7 @@ use rewrites::TEXT_BYTES;
 use rewrites::VERDICT_BYTES;
 
 // Every heading has room in this many bytes.
-pub const HEADING_ROOM: usize = desk::refusals::REFUSAL_ROOM;
+const HEADING_ROOM: usize = desk::refusals::REFUSAL_ROOM;
 
 // Refused and Judged: the number of bytes of the heading, and of the rewritten program's text. NoRoom: too few bytes are lent.
 pub enum Heading {
@@ -57,7 +57,7 @@ pub fn write(program: &[u8], marks: &[u8], budget: u32, new: &mut [u8], out: &mu
     let answer = rewrites::judge(program, marks, &mut verdicts, new);
     match answer {
         JudgeAnswer::Refused(n) => {
-            let line = outcome::refusal_line(program, n);
+            let line = blame::line_of_number(program, n);
             Heading::Refused(desk::refusals::refusal(out, 0, n, line))
         }
         JudgeAnswer::Finished(count, accepted, bytes) => {

@@ -1,15 +1,13 @@
-// Two runs side by side: the lines of their steps, as many at a time as the lent bytes have room for, and whether they agree.
+// Two runs side by side: the lines of their steps, as many at a time as the lent bytes have room for.
 ghost use mathlib.Core.Path.{_≡_};
-ghost use mathlib.Core.List.{List};
-ghost use Prim.Native.Nat.{ℕ, _≤_, _<_, _+_};
+ghost use Prim.Native.Nat.{_≤_, _<_, _+_};
 ghost use lib.ListN.{length};
 ghost use Rattle.language.specs.Spelling.{variables, Valid};
 ghost use Rattle.language.specs.Writing.{Put};
 ghost use Rattle.program.specs.Program.{most, Targets, WellFormed};
 ghost use Rattle.program.specs.Reading.{statements};
-ghost use Rattle.machine.specs.Machine.{before, after};
 ghost use Rattle.comparison.specs.Lines.{pairText, difference as differenceBytes, differences as differencesBytes, pairLine};
-ghost use Rattle.comparison.specs.Stepping.{pair-room, pairs-room, line-room, alikeNext, InStep, Within, Compared};
+ghost use Rattle.comparison.specs.Stepping.{pair-room, pairs-room, line-room, Stepped};
 use language::Statement;
 use machine::Next;
 use machine::VALUES;
@@ -86,33 +84,12 @@ fn line(
     language::write::byte(out, k4, 10)
 }
 
-// Whether two steps lead to the same statement, or end with the same value.
-fn alike(a: Next, b: Next) -> bool
-    ensures { λ r. ⌜ r ≡ alikeNext a b ⌝ }
-{
-    match a {
-        Next::Goto(s) => {
-            match b {
-                Next::Goto(t) => s == t,
-                Next::Finish(_) => false,
-            }
-        }
-        Next::Finish(v) => {
-            match b {
-                Next::Goto(_) => false,
-                Next::Finish(w) => v == w,
-            }
-        }
-    }
-}
-
-// The bytes written, the place and the steps done, whether the runs have ended, and whether they agreed at each step.
+// The bytes written, the place and the steps done, and whether the runs have ended; then the place is that of the statement that ended them.
 pub struct Progress {
     pub bytes: usize,
     pub at: u32,
     pub done: u32,
     pub ended: bool,
-    pub agree: bool,
 }
 
 // Goes on with the runs of p and q, which stand before the statement at the place `at` after `done` steps.
@@ -129,9 +106,9 @@ pub fn steps(
 ) -> Progress
     requires { ⌜ WellFormed (statements p) ⌝ }
     requires { ⌜ WellFormed (statements q) ⌝ }
-    requires { ⌜ InStep (statements p) (statements q) ⌝ }
-    requires { ⌜ Within (statements p) (statements q) at ⌝ }
-    ensures { λ r. ⌜ ((start : List ℕ) → length start ≡ variables → after (statements p) start input done ≡ before at (now (values .entry)) → after (statements q) start input done ≡ before at (now (others .entry)) → Compared (statements p) (statements q) start input budget done (now (out .entry)) (now (out .exit)) (now (values .exit)) (now (others .exit)) r) ⌝ }
+    requires { ⌜ length (statements q) ≡ length (statements p) ⌝ }
+    requires { ⌜ at < length (statements p) ⌝ }
+    ensures { λ r. ⌜ Stepped (statements p) (statements q) input budget done at (now (values .entry)) (now (others .entry)) (now (out .entry)) (now (out .exit)) (now (values .exit)) (now (others .exit)) r ⌝ }
 {
     let mut place = at;
     let mut k = done;
@@ -143,7 +120,6 @@ pub fn steps(
                 at: place,
                 done: k,
                 ended: false,
-                agree: true,
             };
         }
         let i = place as usize;
@@ -154,17 +130,8 @@ pub fn steps(
         let old = *values;
         let other = *others;
         let next = machine::step(s, place, input, values);
-        let new = machine::step(t, place, input, others);
+        machine::step(t, place, input, others);
         k += 1;
-        if !alike(next, new) {
-            return Progress {
-                bytes: to,
-                at: place,
-                done: k,
-                ended: false,
-                agree: false,
-            };
-        }
         match next {
             Next::Goto(n) => {
                 to = line(out, to, k, place, s, t, &*values, &*others);
@@ -172,12 +139,13 @@ pub fn steps(
             }
             Next::Finish(_) => {
                 to = line(out, to, k, place, s, t, &old, &other);
+                *values = old;
+                *others = other;
                 return Progress {
                     bytes: to,
                     at: place,
                     done: k,
                     ended: true,
-                    agree: true,
                 };
             }
         }
@@ -187,6 +155,5 @@ pub fn steps(
         at: place,
         done: k,
         ended: false,
-        agree: true,
     }
 }

@@ -14,7 +14,9 @@ unfolding difference
 returns c = rw (eq-eqb _ _ (c .if1 .taken)) (record { text = refl; after = omega arith })
 
 pair-requires : tie.Need-pair-requires
-pair-requires c κs = omega (arith, pair-most (c .before .before .before .before .before .before .before .args .x) (getD (c .before .before .before .before .before .before .before .args .a .now) (c .before .before .before .before .before .before .before .args .x) 0) (getD (c .before .before .before .before .before .before .before .args .b .now) (c .before .before .before .before .before .before .before .args .x) 0) (c .before .before .before .before .before .before .before .pre .0))
+pair-requires c κs =
+    let s = c .before .before .before .before .before .before .before in
+    omega (arith, pair-most (s .args .x) (getD (s .args .a .now) (s .args .x) 0) (getD (s .args .b .now) (s .args .x) 0) (s .pre .0))
 
 returns-2 : tie.Need-returns-2
 unfolding difference

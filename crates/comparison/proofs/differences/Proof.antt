@@ -18,10 +18,19 @@ loop-holds : tie.Need-loop-holds Inv-loop μ-loop
 loop-holds c = none-written (differences-parts (c .before .args .a .now) (c .before .args .b .now)) (c .before .pre)
 
 difference-requires : tie.Need-difference-requires Inv-loop μ-loop
-difference-requires c κs = (c .before .loop-test .taken, part-room (differences-parts (c .before .before .before .before .args .a .now) (c .before .before .before .before .args .b .now)) (c .before .before .loop .inv) (c .before .loop-test .taken))
+difference-requires c κs =
+    let loop-test = c .before .loop-test in
+    let loop = c .before .before .loop in
+    let s = c .before .before .before .before in
+    (loop-test .taken, part-room (differences-parts (s .args .a .now) (s .args .b .now)) (loop .inv) (loop-test .taken))
 
 loop-again : tie.Need-loop-again Inv-loop μ-loop
-loop-again c = one-written (differences-parts (c .before .before .before .before .before .before .before .args .a .now) (c .before .before .before .before .before .before .before .args .b .now)) (c .before .before .before .before .before .loop .inv) (c .before .before .before .before .loop-test .taken) (c .before .before .difference .ensures)
+loop-again c =
+    let difference = c .before .before .difference in
+    let loop-test = c .before .before .before .before .loop-test in
+    let loop = c .before .before .before .before .before .loop in
+    let s = c .before .before .before .before .before .before .before in
+    one-written (differences-parts (s .args .a .now) (s .args .b .now)) (loop .inv) (loop-test .taken) (difference .ensures)
 
 same-length : tie.Need-same-length Inv-loop μ-loop
 same-length c = put-length (c .before .loop .inv .put)

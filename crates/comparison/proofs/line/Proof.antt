@@ -32,13 +32,21 @@ differences-requires c κs =
 byte-requires : tie.Need-byte-requires
 byte-requires c κs =
     let s = c .before .before .before .before .before .before .before .before .before .before .before .before .before .before .before .before .before .before in
-    omega (arith, head-most (s .args .k) (s .args .place) (s .args .s) (search needs) (s .pre .1 .1 .0) (s .pre .0 .0) (s .pre .0 .1), text-most (s .args .t) (s .pre .1 .0 .0) (s .pre .1 .0 .1), parts-most (differences-parts (s .args .a .now) (s .args .b .now)) 32 (omega arith))
+    let head = head-most (s .args .k) (s .args .place) (s .args .s) (search needs) (s .pre .1 .1 .0) (s .pre .0 .0) (s .pre .0 .1) in
+    let text = text-most (s .args .t) (s .pre .1 .0 .0) (s .pre .1 .0 .1) in
+    omega (arith, head, text, parts-most (differences-parts (s .args .a .now) (s .args .b .now)) 32 (omega arith))
 
 returns : tie.Need-returns
 unfolding pairLine
 returns c =
-    let s = c .before .before .before .before .before .before .before .before .before .before .before .before .before .before .before .before .before .before .before .before .before in
-    let p = put-then (c .before .before .before .before .before .before .before .before .before .before .before .before .before .before .before .before .before .before .head .ensures) (put-then (c .before .before .before .before .before .before .before .before .before .before .before .before .before .before .spaces .ensures) (put-then (c .before .before .before .before .before .before .before .before .before .before .statement .ensures) (put-then (c .before .before .before .before .before .before .differences .ensures) (c .before .before .byte .ensures)))) in
+    let w5 = c .before .before .byte in
+    let w4 = c .before .before .before .before .before .before .differences in
+    let w3 = c .before .before .before .before .before .before .before .before .before .before .statement in
+    let k = c .before .before .before .before .before .before .before .before .before .before .before .before .before .before in
+    let w2 = k .spaces in
+    let w1 = k .before .before .before .before .head in
+    let s = k .before .before .before .before .before .before .before in
+    let p = put-then (w1 .ensures) (put-then (w2 .ensures) (put-then (w3 .ensures) (put-then (w4 .ensures) (w5 .ensures)))) in
     (p, omega (arith, p .after, line-most (s .args .k) (s .args .place) (s .args .s) (s .args .t) (s .args .a .now) (s .args .b .now) (search needs) (s .pre .1 .1 .0) (s .pre .0) (s .pre .1 .0)))
 
 pub line-spec : {M : Type 1} → statement M

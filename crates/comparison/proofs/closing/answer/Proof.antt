@@ -20,10 +20,16 @@ ended-requires c κs =
     rw (toZ-ofZ {w = w32} fits) (omega (arith, ended-short v (c .before .before .a .given .0 .1 .0) fits (search needs), c .before .before .before .before .before .pre))
 
 number-requires : tie.Need-number-requires
-number-requires c κs = omega (arith, digits-length 9 (c .before .before .before .before .before .before .before .a2 .given .0 .0) (search needs), c .before .before .before .before .before .before .before .before .before .before .pre)
+number-requires c κs =
+    let a2 = c .before .before .before .before .before .before .before .a2 in
+    let s = c .before .before .before .before .before .before .before .before .before .before in
+    omega (arith, digits-length 9 (a2 .given .0 .0) (search needs), s .pre)
 
 byte-requires : tie.Need-byte-requires
-byte-requires c κs = omega (arith, digits-length 9 (c .before .before .before .before .before .before .before .before .before .before .before .a2 .given .0 .0) (search needs), c .before .before .before .before .before .before .before .before .before .before .before .before .before .before .pre)
+byte-requires c κs =
+    let a2 = c .before .before .before .before .before .before .before .before .before .before .before .a2 in
+    let s = c .before .before .before .before .before .before .before .before .before .before .before .before .before .before in
+    omega (arith, digits-length 9 (a2 .given .0 .0) (search needs), s .pre)
 
 returns : tie.Need-returns
 unfolding answerLine
@@ -40,8 +46,12 @@ returns-2 c =
 returns-3 : tie.Need-returns-3
 unfolding answerLine
 returns-3 c =
-    let p = put-then (c .before .before .before .before .before .before .before .before .before .before .word .ensures) (put-then (c .before .before .before .before .before .before .number .ensures) (c .before .before .byte .ensures)) in
-    rw (c .before .before .before .before .before .before .before .before .before .before .before .before .before .before .a2 .given .1) (p, omega (arith, digits-length 9 (c .before .before .before .before .before .before .before .before .before .before .before .before .before .before .a2 .given .0 .0) (search needs), c .before .before .before .before .before .before .before .before .before .before .word .ensures .after, c .before .before .before .before .before .before .number .ensures .after, c .before .before .byte .ensures .after))
+    let byte = c .before .before .byte in
+    let number = c .before .before .before .before .before .before .number in
+    let word = c .before .before .before .before .before .before .before .before .before .before .word in
+    let a2 = c .before .before .before .before .before .before .before .before .before .before .before .before .before .before .a2 in
+    let p = put-then (word .ensures) (put-then (number .ensures) (byte .ensures)) in
+    rw (a2 .given .1) (p, omega (arith, digits-length 9 (a2 .given .0 .0) (search needs), word .ensures .after, number .ensures .after, byte .ensures .after))
 
 pub answer-spec : {M : Type 1} → statement M
 answer-spec =

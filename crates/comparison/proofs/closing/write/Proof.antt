@@ -6,31 +6,30 @@ use borrow.Author.Needs.{needs}
 use Rattle.comparison.proofs.closing.write.Statement.{statement}
 use Rattle.comparison.proofs.closing.write.Tie as tie
 
-answer-requires : tie.Need-answer-requires
-answer-requires c κs = omega (arith, c .before .before .before .before .before .before .before .before .before .before .before .pre .1 .0)
-
-word-requires-2 : tie.Need-word-requires-2
-word-requires-2 c κs = omega (arith, c .before .before .before .before .before .before .before .before .before .before .before .before .before .before .before .before .pre .1 .0, c .before .before .before .before .answer .ensures .1)
-
-answer-requires-2 : tie.Need-answer-requires-2
-answer-requires-2 c κs = omega (arith, c .before .before .before .before .before .before .before .before .before .before .before .before .before .before .before .before .before .before .before .before .pre .1 .0, c .before .before .before .before .before .before .before .before .answer .ensures .1)
-
-verdict-requires : tie.Need-verdict-requires
-verdict-requires c κs = (c .before .before .before .before .before .before .before .before .before .before .before .before .before .before .before .before .before .before .before .before .before .before .before .before .pre .0, omega (arith, c .before .before .before .before .before .before .before .before .before .before .before .before .before .before .before .before .before .before .before .before .before .before .before .before .pre .1 .0, c .before .before .before .before .before .before .before .before .before .before .before .before .answer .ensures .1, c .before .before .before .answer2 .ensures .1))
-
 returns : tie.Need-returns
 unfolding closingText
 returns c =
-    let p = put-then (c .before .before .before .before .before .before .before .before .before .before .before .before .before .before .before .before .before .before .before .word .ensures) (put-then (c .before .before .before .before .before .before .before .before .before .before .before .before .before .before .before .answer .ensures .0) (put-then (c .before .before .before .before .before .before .before .before .before .before .word2 .ensures) (put-then (c .before .before .before .before .before .before .answer2 .ensures .0) (c .before .before .verdict .ensures)))) in
+    let w5 = c .before .before .word3 in
+    let w4 = c .before .before .before .before .before .before .before .answer2 in
+    let w3 = c .before .before .before .before .before .before .before .before .before .before .before .word2 in
+    let w2 = c .before .before .before .before .before .before .before .before .before .before .before .before .before .before .before .before .answer in
+    let k = c .before .before .before .before .before .before .before .before .before .before .before .before .before .before .before .before in
+    let w1 = k .before .before .before .before .word in
+    let two = k .before .before .before .before .before .before .before in
+    let one = two .before in
+    let s = one .before .before .before .before in
+    let a = one .run .result in
+    let b = two .run2 .result in
+    let p = put-then (w1 .ensures) (put-then (w2 .ensures .0) (put-then (w3 .ensures) (put-then (w4 .ensures .0) (w5 .ensures)))) in
     record {
-      given = c .before .before .before .before .before .before .before .before .before .before .before .before .before .before .before .before .before .before .before .before .before .before .before .run .result .answer;
-      rewritten = c .before .before .before .before .before .before .before .before .before .before .before .before .before .before .before .before .before .before .before .before .before .before .run2 .result .answer;
-      us = c .before .before .before .before .before .before .before .before .before .before .before .before .before .before .before .before .before .before .before .before .before .before .before .run .result .values;
-      ws = c .before .before .before .before .before .before .before .before .before .before .before .before .before .before .before .before .before .before .before .before .before .before .run2 .result .values;
-      one = c .before .before .before .before .before .before .before .before .before .before .before .before .before .before .before .before .before .before .before .before .before .before .before .run .ensures;
-      two = c .before .before .before .before .before .before .before .before .before .before .before .before .before .before .before .before .before .before .before .before .before .before .run2 .ensures;
-      alike = c .before .before .before .before .before .before .before .before .before .before .before .before .before .before .before .before .before .before .before .before .before .before .before .before .before .before .before .pre .1 .1 (c .before .before .before .before .before .before .before .before .before .before .before .before .before .before .before .before .before .before .before .before .before .before .before .run .result .answer) (c .before .before .before .before .before .before .before .before .before .before .before .before .before .before .before .before .before .before .before .before .before .before .run2 .result .answer) (c .before .before .before .before .before .before .before .before .before .before .before .before .before .before .before .before .before .before .before .before .before .before .before .run .result .values) (c .before .before .before .before .before .before .before .before .before .before .before .before .before .before .before .before .before .before .before .before .before .before .run2 .result .values) (c .before .before .before .before .before .before .before .before .before .before .before .before .before .before .before .before .before .before .before .before .before .before .before .run .ensures) (c .before .before .before .before .before .before .before .before .before .before .before .before .before .before .before .before .before .before .before .before .before .before .run2 .ensures);
-      fits = omega (arith, p .after, c .before .before .before .before .before .before .before .before .before .before .before .before .before .before .before .before .before .before .before .before .before .before .before .before .before .before .before .pre .1 .0, c .before .before .before .before .before .before .before .before .before .before .before .before .before .before .before .before .before .before .before .word .ensures .after, c .before .before .before .before .before .before .before .before .before .before .before .before .before .before .before .answer .ensures .1, c .before .before .before .before .before .before .before .before .before .before .word2 .ensures .after, c .before .before .before .before .before .before .answer2 .ensures .1, c .before .before .verdict .ensures .after);
+      given = a .answer;
+      rewritten = b .answer;
+      us = a .values;
+      ws = b .values;
+      one = one .run .ensures;
+      two = two .run2 .ensures;
+      alike = s .pre .1 (a .answer) (b .answer) (a .values) (b .values) (one .run .ensures) (two .run2 .ensures);
+      fits = omega (arith, p .after, s .pre .0, w1 .ensures .after, w2 .ensures .1, w3 .ensures .after, w4 .ensures .1, w5 .ensures .after);
       put = p;
     }
 
@@ -42,10 +41,11 @@ write-spec =
     (λ c κs. search needs)
     (λ c. search needs)
     (λ c κs. search needs)
-    answer-requires
+    (λ c κs. search needs)
     (λ c. search needs)
-    word-requires-2
-    answer-requires-2
-    verdict-requires
+    (λ c κs. search needs)
+    (λ c κs. search needs)
+    (λ c. search needs)
+    (λ c κs. search needs)
     (λ c. search needs)
     returns)

@@ -1,9 +1,11 @@
 -- `write` meets its contract: a budget too large, a refusal of `judge`, or its counts. Assumes nothing.
 use mathlib.Core.Path.{refl}
 use mathlib.Core.Logic.{inl, inr}
+use Prim.Native.Nat.{_<_}
 use native.Mathlib.Omega.{arith}
 use Rattle.rewrites.specs.Run.{budget-number}
 use Rattle.rewrites.specs.Judge.{Lent}
+use Rattle.blame.proofs.Blames.{blamed}
 use Rattle.desk.proofs.Rooms.{refusal-most}
 use Rattle.comparison.proofs.Headings.{counts-most, budget-refused, head-refused, head-judged}
 use borrow.Author.Needs.{needs}
@@ -20,32 +22,49 @@ refusal-requires : tie.Need-refusal-requires
 refusal-requires c κs = omega (arith, refusal-most budget-number 0 (omega arith) (omega arith), c .before .before .before .if1 .left)
 
 returns-3 : tie.Need-returns-3
-returns-3 c = (budget-refused (c .before .before .before .before .if3 .taken) (omega (arith, refusal-most budget-number 0 (omega arith) (omega arith), c .before .before .before .before .before .before .if1 .left)) (c .before .before .refusal .ensures), refl)
+returns-3 c =
+    let k = c .before .before .before .before in
+    (budget-refused (k .if3 .taken) (omega (arith, refusal-most budget-number 0 (omega arith) (omega arith), k .before .before .if1 .left)) (c .before .before .refusal .ensures), refl)
 
 refusal-requires-2 : tie.Need-refusal-requires-2
 refusal-requires-2 c κs =
-    omega (arith, refusal-most (c .before .before .before .answer .given .0 .0) (c .before .refusal-line .result) (search needs) (search needs), c .before .before .before .before .before .before .before .before .before .before .before .before .before .before .if1 .left)
+    let t = c .before .before .before .before .before .before .before .before .before .before .before .before .before .before in
+    omega (arith, refusal-most (c .before .before .before .answer .given .0 .0) (c .before .line-of-number .result) (search needs) (search needs), t .if1 .left)
 
 counts-requires : tie.Need-counts-requires
-counts-requires c κs = omega (arith, counts-most (c .before .before .answer2 .given .0 .0) (c .before .before .answer2 .given .0 .1 .0) (search needs) (search needs), c .before .before .before .before .before .before .before .before .before .before .before .before .before .if1 .left)
+counts-requires c κs =
+    let k = c .before .before .answer2 .given in
+    let t = c .before .before .before .before .before .before .before .before .before .before .before .before .before in
+    omega (arith, counts-most (k .0 .0) (k .0 .1 .0) (search needs) (search needs), t .if1 .left)
 
 returns-4 : tie.Need-returns-4
 returns-4 c =
-    let n = c .before .before .before .before .before .before .answer .given .0 .0 in
-    let line = c .before .before .before .before .refusal-line .result in
-    head-refused (c .before .before .before .before .before .before .before .before .before .before .before .before .before .before .before .before .before .before .before .before .before .before .args .program .now) (c .before .before .before .before .before .before .before .before .before .before .before .before .before .before .before .before .before .before .before .before .before .before .args .marks .now) _
-    (record { verdicts = c .before .before .before .before .before .before .before .before .before .before .before .before .before .before .verdict-buffer .result; new = c .before .before .before .before .before .before .before .before .before .before .before .before .before .before .before .before .before .before .before .before .before .before .args .new .now }) (record { verdicts = c .before .before .before .before .before .before .before .before .before .before .before .judge .last .1 .1 .0; new = c .before .before .before .before .before .before .before .before .before .before .before .judge .last .1 .1 .1 .0 })
-    (c .before .before .before .before .before .before .before .before .before .before .before .judge .ensures) (c .before .before .before .before .before .before .before .before .before .before .before .before .before .before .before .if3 .left) n line (c .before .before .before .before .before .before .answer .given .1) (omega arith, c .before .before .before .before .before .before .before .before .before .before .before .before .before .before .before .before .if2 .left) (c .before .before .before .before .refusal-line .ensures)
-    (omega (arith, refusal-most n line (search needs) (search needs), c .before .before .before .before .before .before .before .before .before .before .before .before .before .before .before .before .before .if1 .left)) (c .before .before .refusal2 .ensures)
+    let small : c .before .before .before .before .before .before .answer .given .0 .0 < 1000 = search needs in
+    let short : c .before .before .before .before .line-of-number .result < 10000000000 = search needs in
+    let a = c .before .before .before .before .before .before in
+    let j = a .before .before .before .before .before in
+    let s = j .before .before .before .before .before .before .before .before .before .before .before in
+    let n = a .answer .given .0 .0 in
+    let told = c .before .before .before .before .line-of-number in
+    head-refused (s .args .program .now) (s .args .marks .now) _
+    (record { verdicts = j .before .before .before .verdict-buffer .result; new = s .args .new .now })
+    (record { verdicts = j .judge .last .1 .1 .0; new = j .judge .last .1 .1 .1 .0 })
+    (j .judge .ensures) (j .before .before .before .before .if3 .left) n (told .result) (a .answer .given .1)
+    (omega arith, j .before .before .before .before .before .if2 .left) (blamed (told .ensures))
+    (omega (arith, refusal-most n (told .result) small short, j .before .before .before .before .before .before .if1 .left)) (c .before .before .refusal2 .ensures)
 
 returns-5 : tie.Need-returns-5
 returns-5 c =
-    let m = c .before .before .before .before .before .answer2 .given .0 .0 in
-    let a = c .before .before .before .before .before .answer2 .given .0 .1 .0 in
-    head-judged (c .before .before .before .before .before .before .before .before .before .before .before .before .before .before .before .before .before .before .before .before .before .args .program .now) (c .before .before .before .before .before .before .before .before .before .before .before .before .before .before .before .before .before .before .before .before .before .args .marks .now) _
-    (record { verdicts = c .before .before .before .before .before .before .before .before .before .before .before .before .before .verdict-buffer .result; new = c .before .before .before .before .before .before .before .before .before .before .before .before .before .before .before .before .before .before .before .before .before .args .new .now }) (record { verdicts = c .before .before .before .before .before .before .before .before .before .before .judge .last .1 .1 .0; new = c .before .before .before .before .before .before .before .before .before .before .judge .last .1 .1 .1 .0 })
-    (c .before .before .before .before .before .before .before .before .before .before .judge .ensures) (c .before .before .before .before .before .before .before .before .before .before .before .before .before .before .if3 .left) m a _ (c .before .before .before .before .before .answer2 .given .1)
-    (omega (arith, counts-most m a (search needs) (search needs), c .before .before .before .before .before .before .before .before .before .before .before .before .before .before .before .before .if1 .left)) (c .before .before .counts .ensures)
+    let k = c .before .before .before .before .before in
+    let j = k .before .before .before .before .before in
+    let s = j .before .before .before .before .before .before .before .before .before .before .before in
+    let m = k .answer2 .given .0 .0 in
+    let a = k .answer2 .given .0 .1 .0 in
+    head-judged (s .args .program .now) (s .args .marks .now) _
+    (record { verdicts = j .before .before .before .verdict-buffer .result; new = s .args .new .now })
+    (record { verdicts = j .judge .last .1 .1 .0; new = j .judge .last .1 .1 .1 .0 })
+    (j .judge .ensures) (j .before .before .before .before .if3 .left) m a _ (k .answer2 .given .1)
+    (omega (arith, counts-most m a (search needs) (search needs), j .before .before .before .before .before .before .if1 .left)) (c .before .before .counts .ensures)
 
 pub write-spec : {M : Type 1} → statement M
 write-spec =

@@ -1,0 +1,4 @@
+pub mod Pieces
+pub mod Starts
+pub mod Stepping
+pub mod Closings
