@@ -85,8 +85,8 @@ line-requires-2 c κs =
 
 same-length-2 : tie.Need-same-length-2 Inv-loop μ-loop
 same-length-2 c =
-    let w = c .before .before in
-    put-length (w .line2 .ensures .0) ∙ w .before .before .before .before .before .before .before .before .before .before .before .before .before .before .before .before .loop .inv .same
+    put-length (c .before .before .line2 .ensures .0)
+    ∙ c .before .before .before .before .before .before .before .before .before .before .before .before .before .before .before .before .before .before .loop .inv .same
 
 returns-2 : tie.Need-returns-2 Inv-loop μ-loop
 returns-2 c =
