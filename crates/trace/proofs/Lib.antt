@@ -1,3 +1,4 @@
 pub mod Series
 pub mod Room
 pub mod Walk
+pub mod Lines

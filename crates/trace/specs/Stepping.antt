@@ -24,19 +24,32 @@ changes-room = variables * change-room
 abbrev pub line-room : ℕ
 line-room = 48 + changes-room
 
+-- the run ended with step k: before it the run stood before place s with the values vs
+pub record Over (P : List Statement) (start : List ℕ) (input k s : ℕ) (vs : List ℕ) : Type 0 where
+  pub value : ℕ
+  pub ends : Ends P start input k value
+  pub place : ends .last ≡ s
+  pub values : ends .left ≡ vs
+
 -- where the run stands after k steps: it ended with the last of them, or stands before place s with the values vs
 abbrev pub Left : List Statement → List ℕ → ℕ → ℕ → Bool → ℕ → List ℕ → Type 0
-Left P start input k true s vs = (v : ℕ) × Ends P start input k v
+Left P start input k true s vs = Over P start input k s vs
 Left P start input k false s vs = (s < length P) × (after P start input k ≡ before s vs)
 
--- from the state after k steps of the run: the lines of further steps stand at the front of the bytes o, all others are kept, and us are
--- the values left
-pub record Traced (P : List Statement) (start : List ℕ) (input budget k : ℕ) (o q us : List ℕ) (r : Progress) : Type 0 where
+-- w is the lines of the n steps of the run that come after the first k; it then stands where r and the values us say
+pub record Goes (P : List Statement) (start : List ℕ) (input k : ℕ) (w us : List ℕ) (r : Progress) : Type 0 where
   pub n : ℕ
   pub counted : r .done ≡ k + n
-  pub put : Put o 0 (stepLines P start input k n) q (r .bytes)
-  pub fits : r .bytes ≤ length o
+  pub lines : w ≡ stepLines P start input k n
   pub left : Left P start input (r .done) (r .ended) (r .at) us
+
+-- from place s with the values vs after k steps: the text w stands at the front of the bytes o, and all others are kept. It is the lines
+-- of further steps of each run that came there; us are the values left
+pub record Traced (P : List Statement) (input budget k s : ℕ) (vs o q us : List ℕ) (r : Progress) : Type 0 where
+  pub w : List ℕ
+  pub put : Put o 0 w q (r .bytes)
+  pub fits : length w ≤ length o
+  pub goes : (start : List ℕ) → after P start input k ≡ before s vs → Goes P start input k w us r
   -- it stops at the budget, where the run has ended, or where a line may have no room; with room for one it goes on
   pub within : k ≤ budget → r .done ≤ budget
   pub stops : r .ended ≡ false → (budget ≤ r .done) ⊎ (length o < r .bytes + line-room)

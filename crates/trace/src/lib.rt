@@ -1,13 +1,10 @@
 // Traces: the lines of a run's steps, as many at a time as the lent bytes have room for.
-ghost use mathlib.Core.Path.{_≡_};
-ghost use mathlib.Core.List.{List};
-ghost use Prim.Native.Nat.{ℕ, _≤_, _<_, _+_};
+ghost use Prim.Native.Nat.{_≤_, _<_, _+_};
 ghost use lib.ListN.{length};
 ghost use Rattle.language.specs.Spelling.{variables, Valid};
 ghost use Rattle.language.specs.Writing.{Put};
 ghost use Rattle.program.specs.Program.{most, Targets, WellFormed};
 ghost use Rattle.program.specs.Reading.{statements};
-ghost use Rattle.machine.specs.Machine.{before, after};
 ghost use Rattle.trace.specs.Trace.{valueText as valueBytes, change as changeBytes, changes as changesBytes, stepHead, lineText};
 ghost use Rattle.trace.specs.Stepping.{Traced, change-room, changes-room, line-room};
 use language::Statement;
@@ -96,7 +93,8 @@ fn line(
     language::write::byte(out, k2, 10)
 }
 
-// The bytes written, the place and the steps done, and whether the run has ended.
+// The bytes written, the steps done, and whether the run has ended with the last of them: `at` is then the place of the statement that it
+// performed, else of the one that comes next.
 pub struct Progress {
     pub bytes: usize,
     pub at: u32,
@@ -104,7 +102,7 @@ pub struct Progress {
     pub ended: bool,
 }
 
-// Goes on with a run that stands before the statement at the place `at` after `done` steps.
+// Goes on with a run that stands before the statement at the place `at` after `done` steps. A step that ends the run leaves the values.
 pub fn steps(
     p: Program,
     at: u32,
@@ -116,7 +114,7 @@ pub fn steps(
 ) -> Progress
     requires { ⌜ WellFormed (statements p) ⌝ }
     requires { ⌜ at < length (statements p) ⌝ }
-    ensures { λ r. ⌜ ((start : List ℕ) → after (statements p) start input done ≡ before at (now (values .entry)) → Traced (statements p) start input budget done (now (out .entry)) (now (out .exit)) (now (values .exit)) r) ⌝ }
+    ensures { λ r. ⌜ Traced (statements p) input budget done at (now (values .entry)) (now (out .entry)) (now (out .exit)) (now (values .exit)) r ⌝ }
 {
     let mut place = at;
     let mut k = done;
@@ -133,16 +131,17 @@ pub fn steps(
         let i = place as usize;
         let e = p.entries[i];
         let s = e.statement;
-        let old = *values;
-        let next = machine::step(s, place, input, values);
+        let mut new = *values;
+        let next = machine::step(s, place, input, &mut new);
         k += 1;
         match next {
             Next::Goto(t) => {
-                to = line(out, to, k, place, s, &old, &*values);
+                to = line(out, to, k, place, s, &*values, &new);
+                *values = new;
                 place = t;
             }
             Next::Finish(_) => {
-                to = line(out, to, k, place, s, &old, &old);
+                to = line(out, to, k, place, s, &*values, &*values);
                 return Progress {
                     bytes: to,
                     at: place,

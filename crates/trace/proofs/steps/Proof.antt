@@ -33,39 +33,60 @@ returns c = stopped (c .before .before .loop .inv) _ refl refl refl refl (inr (o
 
 step-requires : tie.Need-step-requires Inv-loop μ-loop
 step-requires c κs =
-    let p = c .before .before .before .before .before .before .before .args .t1 in
-    let inside = c .before .before .before .before .before .loop .inv .inside in
-    let w = c .before .before .before .before .before .before .before .pre .0 in
-    (held-valid (p .entries) (p .count) _ inside w, (held-targets (p .entries) (p .count) _ inside w, omega (arith, inside, w .counted .1)))
+    let l = c .before .before .before .before .before in
+    let i = l .loop .inv in
+    let p = l .before .before .args .t1 in
+    let w = l .before .before .pre .0 in
+    (held-valid (p .entries) (p .count) _ (i .inside) w, (held-targets (p .entries) (p .count) _ (i .inside) w, omega (arith, i .inside, w .counted .1)))
 
 line-requires : tie.Need-line-requires Inv-loop μ-loop
 line-requires c κs =
-    let p = c .before .before .before .before .before .before .before .before .before .before .before .before .before .before .args .t1 in
-    let inside = c .before .before .before .before .before .before .before .before .before .before .before .before .loop .inv .inside in
-    let w = c .before .before .before .before .before .before .before .before .before .before .before .before .before .before .pre .0 in
-    (held-valid (p .entries) (p .count) _ inside w, (held-targets (p .entries) (p .count) _ inside w, (omega (arith, inside, w .counted .1), omega (arith, c .before .before .before .before .before .before .before .before .before .before .if1 .left, c .before .before .before .before .before .before .before .before .before .before .before .before .loop .inv .fits, c .before .before .before .before .before .before .before .before .before .before .before .before .loop .inv .same))))
+    let l = c .before .before .before .before .before .before .before .before .before .before .before .before in
+    let i = l .loop .inv in
+    let p = l .before .before .args .t1 in
+    let w = l .before .before .pre .0 in (
+      held-valid (p .entries) (p .count) _ (i .inside) w,
+      (
+        held-targets (p .entries) (p .count) _ (i .inside) w,
+        (omega (arith, i .inside, w .counted .1), omega (arith, c .before .before .before .before .before .before .before .before .before .before .if1 .left, i .fits, i .same)),
+      ),
+    )
 
 loop-again : tie.Need-loop-again Inv-loop μ-loop
 loop-again c =
-    let i = c .before .before .before .before .before .before .before .before .before .before .before .before .before .before .before .loop .inv in
-    going-more (c .before .before .before .before .before .before .before .before .before .before .before .before .before .before .before .before .before .args .t1) _ _ _ _ _ (c .before .before .before .before .before .before .before .before .before .step .ensures) i (c .before .before .before .before .before .before .before .before .before .before .before .before .before .before .loop-test .taken)
-    (omega (arith, c .before .before .before .before .before .before .before .before .before .before .before .before .before .if1 .left, i .fits, i .same)) _ (c .before .before .before .before .before .before .before .before .before .before .before .before .before .before .before .before .before .pre .0) (c .before .before .before .before .before .before .before .next .given .1) (c .before .before .line .ensures .1) (c .before .before .line .ensures .0)
+    let line = c .before .before .line in
+    let next = c .before .before .before .before .before .before .before in
+    let step = next .before .before in
+    let l = step .before .before .before .before .before .before in
+    let i = l .loop .inv in
+    going-more (l .before .before .args .t1) _ _ _ _ _ (step .step .ensures) i (step .before .before .before .before .before .loop-test .taken)
+    (omega (arith, step .before .before .before .before .if1 .left, i .fits, i .same)) (line .ensures .1) _ (l .before .before .pre .0) (next .next .given .1) (line .ensures .0)
 
 line-requires-2 : tie.Need-line-requires-2 Inv-loop μ-loop
 line-requires-2 c κs =
-    let p = c .before .before .before .before .before .before .before .before .before .before .before .before .before .args .t1 in
-    let inside = c .before .before .before .before .before .before .before .before .before .before .before .loop .inv .inside in
-    let w = c .before .before .before .before .before .before .before .before .before .before .before .before .before .pre .0 in
-    (held-valid (p .entries) (p .count) _ inside w, (held-targets (p .entries) (p .count) _ inside w, (omega (arith, inside, w .counted .1), omega (arith, c .before .before .before .before .before .before .before .before .before .if1 .left, c .before .before .before .before .before .before .before .before .before .before .before .loop .inv .fits, c .before .before .before .before .before .before .before .before .before .before .before .loop .inv .same))))
+    let l = c .before .before .before .before .before .before .before .before .before .before in
+    let i = l .loop .inv in
+    let p = l .before .before .args .t1 in
+    let w = l .before .before .pre .0 in (
+      held-valid (p .entries) (p .count) _ (i .inside) w,
+      (
+        held-targets (p .entries) (p .count) _ (i .inside) w,
+        (omega (arith, i .inside, w .counted .1), omega (arith, c .before .before .before .before .before .before .before .before .if1 .left, i .fits, i .same)),
+      ),
+    )
 
 same-length-2 : tie.Need-same-length-2 Inv-loop μ-loop
-same-length-2 c = put-length (c .before .before .line2 .ensures .0) ∙ c .before .before .before .before .before .before .before .before .before .before .before .before .before .before .loop .inv .same
+same-length-2 c = put-length (c .before .before .line2 .ensures .0) ∙ c .before .before .before .before .before .before .before .before .before .before .before .before .before .loop .inv .same
 
 returns-2 : tie.Need-returns-2 Inv-loop μ-loop
 returns-2 c =
-    let i = c .before .before .before .before .before .before .before .before .before .before .before .before .before .before .loop .inv in
-    let end : c .before .before .line2 .result ≤ length (c .before .before .before .before .before .before .before .before .before .before .before .before .before .before .before .before .args .out .now) = omega (arith, c .before .before .line2 .ensures .1, c .before .before .before .before .before .before .before .before .before .before .before .before .if1 .left, i .fits, i .same) in
-    λ start e. ends (c .before .before .before .before .before .before .before .before .before .before .before .before .before .before .before .before .args .t1) _ _ _ _ _ (c .before .before .before .before .before .before .before .before .step .ensures) (i .told start e) _ _ refl refl refl (c .before .before .before .before .before .before .enum-told .given .1) (c .before .before .before .before .before .before .before .before .before .before .before .before .before .loop-test .taken) end (c .before .before .line2 .ensures .0)
+    let line = c .before .before .line2 in
+    let next = c .before .before .before .before .before in
+    let step = next .before .before in
+    let l = step .before .before .before .before .before .before in
+    let i = l .loop .inv in
+    ends (l .before .before .args .t1) _ _ _ _ _ (step .step .ensures) i (step .before .before .before .before .before .loop-test .taken)
+    (omega (arith, step .before .before .before .before .if1 .left, i .fits, i .same)) (line .ensures .1) _ _ refl refl refl refl (next .enum-told .given .1) (line .ensures .0)
 
 same-length-3 : tie.Need-same-length-3 Inv-loop μ-loop
 same-length-3 c = c .before .loop .inv .same
