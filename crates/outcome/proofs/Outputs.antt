@@ -1,79 +1,61 @@
--- From what `start::read`, `run` and `line_of` answer to what is printed. Assumes nothing.
-use mathlib.Core.Path.{_≡_, refl, ap, sym, _∙_}
+-- From what `start::read`, `run` and `line_of_number` answer to what is printed. Assumes nothing.
+use mathlib.Core.Path.{_≡_, refl}
+use mathlib.Core.Logic.{inl, inr}
 use mathlib.Core.List.{List}
-use Prim.Native.Nat.{ℕ, _≤_, _<_}
-use native.Mathlib.Omega.{arith}
+use Prim.Native.Nat.{ℕ, _≤_}
+use lib.IntN.{ℤ}
 use lib.ListN.{length}
 use Rattle.language.specs.Writing.{Put}
-use Rattle.program.specs.Reading.{Refused, number}
-use Rattle.program.specs.declared.Refusal.{Refusal}
-use Rattle.program.specs.declared.Refusal.the-variants.{Misspelled, LineCount, Placement, Target}
-use Rattle.blame.specs.Blame.{Blames}
-use Rattle.rewrites.specs.Run.{RunAnswers}
+use Rattle.blame.specs.Blame.{Blamed}
+use Rattle.machine.specs.declared.Answer.the-variants.{Ended, Spent}
+use Rattle.rewrites.specs.Run.{RunRefused, RunAnswers}
 use Rattle.rewrites.specs.declared.RunAnswer.{RunAnswer}
+use Rattle.rewrites.specs.declared.RunAnswer.the-variants as run
+use Rattle.desk.specs.Refusals.{refusalText}
 use Rattle.start.specs.Start.{StartRead}
-use Rattle.start.specs.declared.Answer.{Answer}
-use Rattle.start.specs.declared.Answer.the-variants.{Taken, Few, Many, Line}
+use Rattle.start.specs.declared.Answer as start
+use Rattle.start.specs.declared.Answer.the-variants.{Taken}
 use Rattle.language.proofs.Puts.{put-within}
-use Rattle.outcome.specs.Outcome.{Tells, Blamed, Says, startText, outcome-room, RunPrinted, Printed, Prints}
+use Rattle.outcome.specs.Outcome.{endedText, spentText, answerText, startText, Printed, Prints, RunPrints}
 use Rattle.outcome.specs.declared.Told.{Told}
-use Rattle.outcome.specs.declared.Told.the-variants.{Written}
-
--- a refusal is known by its number
-numbered : (r s : Refusal) → number r ≡ number s → r ≡ s
-numbered Misspelled Misspelled e = refl
-numbered Misspelled LineCount e = absurd (omega (arith, e))
-numbered Misspelled Placement e = absurd (omega (arith, e))
-numbered Misspelled Target e = absurd (omega (arith, e))
-numbered LineCount Misspelled e = absurd (omega (arith, e))
-numbered LineCount LineCount e = refl
-numbered LineCount Placement e = absurd (omega (arith, e))
-numbered LineCount Target e = absurd (omega (arith, e))
-numbered Placement Misspelled e = absurd (omega (arith, e))
-numbered Placement LineCount e = absurd (omega (arith, e))
-numbered Placement Placement e = refl
-numbered Placement Target e = absurd (omega (arith, e))
-numbered Target Misspelled e = absurd (omega (arith, e))
-numbered Target LineCount e = absurd (omega (arith, e))
-numbered Target Placement e = absurd (omega (arith, e))
-numbered Target Target e = refl
-
-pub blamed : (t : List ℕ) (s : Refusal) (n line : ℕ) → n ≡ number s → (Refused t s → Blames t s line) → Blamed t n line
-blamed t s n line is f r g e =
-    let h : r ≡ s = numbered r s (sym e ∙ is) in
-    rw h (f (rw h at g))
-
-pub blames-none : (t : List ℕ) (n line : ℕ) → (n ≡ 2 → ⊥) → (n ≡ 3 → ⊥) → (n ≡ 4 → ⊥) → (n ≡ 5 → ⊥) → Blamed t n line
-blames-none t n line a b c d Misspelled g e = absurd (a e)
-blames-none t n line a b c d LineCount g e = absurd (b e)
-blames-none t n line a b c d Placement g e = absurd (c e)
-blames-none t n line a b c d Target g e = absurd (d e)
+use Rattle.outcome.specs.declared.Told.the-variants.{Written, Refused, NoRoom}
 
 -- an answer that is told
-pub run-printed : {t vs : List ℕ} {input budget : ℕ} {a b : RunAnswer} {o q : List ℕ} {n : ℕ} (left w : List ℕ)
-    → RunAnswers t vs input budget a left → a ≡ b → Tells t b left w → length w ≤ outcome-room → Put o 0 w q n → RunPrinted t vs input budget o q n
-run-printed {b = b} left w h is tells short put =
-    record { w = w; told = record { answer = b; left = left; answers = rw is at h; tells = tells }; short = short; put = put }
+module _ {t : List ℕ} (vs : List ℕ) (input : ℕ) {budget : ℕ} {a : RunAnswer} {o q : List ℕ} {n : ℕ} (left : List ℕ) where
+  pub refusal-printed : (k line : ℕ) → RunAnswers t vs input budget a left → a ≡ run.Refused k → Blamed t k line
+      → length (refusalText k line) ≤ length o → Put o 0 (refusalText k line) q n → RunPrints t vs input budget o q (Refused n)
+  refusal-printed k line h is about fits put =
+      let r : RunRefused t budget k × (left ≡ vs) = rw is at h in
+      record { w = refusalText k line; told = record { n = k; line = line; refused = r .0; blamed = about; tells = refl }; fits = fits; put = put }
 
-module _ {t u o q : List ℕ} {n : ℕ} {a : Answer} (input budget : ℕ) (vs : List ℕ) (read : StartRead u a input budget vs) (room : outcome-room ≤ length o) where
-  pub run-output : a ≡ Taken → RunPrinted t vs input budget o q n → Printed t u o q n
-  run-output is p =
-      record {
-        w = p .w;
-        output = record { answer = Taken; input = input; budget = budget; values = vs; read = rw is at read; says = p .told };
-        fits = omega (arith, p .short);
-        put = p .put;
-      }
+  pub ended-printed : (v : ℤ) (k : ℕ) → RunAnswers t vs input budget a left → a ≡ run.Ended v k
+      → length (endedText v k) ≤ length o → Put o 0 (endedText v k) q n → RunPrints t vs input budget o q (Written n)
+  unfolding answerText
+  ended-printed v k h is fits put =
+      record { w = endedText v k; told = record { answer = Ended v k; left = left; finished = rw is at h; tells = refl }; fits = fits; put = put }
 
-  pub start-output : (b : Answer) → a ≡ b → Says t b input budget vs (startText b) → length (startText b) ≤ outcome-room → Put o 0 (startText b) q n → Printed t u o q n
-  start-output b is says short put =
+  pub spent-printed : (k : ℕ) → RunAnswers t vs input budget a left → a ≡ run.Spent k
+      → length (spentText k left) ≤ length o → Put o 0 (spentText k left) q n → RunPrints t vs input budget o q (Written n)
+  unfolding answerText
+  spent-printed k h is fits put =
+      record { w = spentText k left; told = record { answer = Spent k; left = left; finished = rw is at h; tells = refl }; fits = fits; put = put }
+
+module _ (t u o q : List ℕ) {a : start.Answer} (input budget : ℕ) (vs : List ℕ) (read : StartRead u a input budget vs) where
+  pub run-output : (r : Told) → a ≡ Taken → RunPrints t vs input budget o q r → Prints t u o q r
+  run-output (Written n) is p =
+      record { w = p .w; told = record { input = input; budget = budget; values = vs; start = rw is at read; run = p .told }; fits = p .fits; put = p .put }
+  run-output (Refused n) is p = record { w = p .w; told = inr (input, budget, vs, rw is at read, p .told); fits = p .fits; put = p .put }
+  run-output NoRoom is p = absurd p
+
+  pub start-output : {n : ℕ} (b : start.Answer) → a ≡ b → (b ≡ Taken → ⊥) → length (startText b) ≤ length o → Put o 0 (startText b) q n → Prints t u o q (Refused n)
+  start-output b is wrong fits put =
       record {
         w = startText b;
-        output = record { answer = b; input = input; budget = budget; values = vs; read = rw is at read; says = says };
-        fits = omega arith;
+        told = inl (record { answer = b; input = input; budget = budget; values = vs; read = rw is at read; wrong = wrong; tells = refl });
+        fits = fits;
         put = put;
       }
 
 -- an output's end lies within the lent bytes
-pub printed-within : (t u o q : List ℕ) {r : Told} {n : ℕ} → r ≡ Written n → Prints t u o q r → n ≤ length q
-printed-within t u o q is h = let p : Printed t u o q _ = rw is at h in put-within (p .put) (p .fits)
+pub printed-within : {Claim : List ℕ → Type 0} {o q : List ℕ} {n : ℕ} → Printed Claim o q n → n ≤ length q
+printed-within p = put-within (p .put) (p .fits)

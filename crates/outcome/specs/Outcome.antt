@@ -1,5 +1,6 @@
 -- What is printed of a run: its outcome, or the refusal in words, for every program text and start text.
 use mathlib.Core.Path.{_≡_}
+use mathlib.Core.Logic.{_⊎_}
 use mathlib.Core.List.{List, [], _∷_, _++_}
 use Prim.Native.Nat.{ℕ, zero, suc, _+_, _*_, _≤_, _<_}
 use lib.Dec.{eqb}
@@ -7,20 +8,20 @@ use lib.IntN.{ℤ}
 use lib.ListN.{length, getD}
 use Rattle.language.specs.Spelling.{variables, pickList, digits}
 use Rattle.language.specs.Writing.{Put}
-use Rattle.program.specs.Reading.{Refused, number}
-use Rattle.program.specs.declared.Refusal.{Refusal}
-use Rattle.blame.specs.Blame.{Blames}
-use Rattle.rewrites.specs.Run.{RunAnswers}
-use Rattle.rewrites.specs.declared.RunAnswer.{RunAnswer}
-use Rattle.rewrites.specs.declared.RunAnswer.the-variants as run
+use Rattle.language.specs.declared.Statement.{Statement}
+use Rattle.program.specs.Program as program
+use Rattle.blame.specs.Blame.{Blamed}
+use Rattle.machine.specs.declared.Answer.{Answer}
+use Rattle.machine.specs.declared.Answer.the-variants.{Ended, Spent}
+use Rattle.rewrites.specs.Run.{most-steps, RunRefused, RunFinished}
 use Rattle.desk.specs.Columns.{signedDigits}
 use Rattle.desk.specs.Refusals.{bytes, onLine, refusalText}
-use Rattle.start.specs.Start.{StartRead}
-use Rattle.start.specs.declared.Answer.{Answer}
+use Rattle.start.specs.Start.{StartTaken, StartRead}
+use Rattle.start.specs.declared.Answer as start
 use Rattle.start.specs.declared.Answer.the-variants.{Taken, Few, Many, Line}
 use Rattle.trace.specs.Trace.{valueText}
 use Rattle.outcome.specs.declared.Told.{Told}
-use Rattle.outcome.specs.declared.Told.the-variants.{Written, NoRoom}
+use Rattle.outcome.specs.declared.Told.the-variants.{Written, Refused, NoRoom}
 
 -- `ended 9 steps 12`
 unfoldable pub endedText : ℤ → ℕ → List ℕ
@@ -35,52 +36,71 @@ valueLines (suc n) vs = valueLines n vs ++ (valueText n (getD vs n 0) ++ 10 ∷ 
 unfoldable pub spentText : ℕ → List ℕ → List ℕ
 spentText n vs = bytes "spent at " ++ (digits n ++ 10 ∷ valueLines variables vs)
 
--- the refusal with number n is about this line of the program's text t, where it is one of the program's
-abbrev pub Blamed : List ℕ → ℕ → ℕ → Type 0
-Blamed t n line = (r : Refusal) → Refused t r → n ≡ number r → Blames t r line
-
--- the text w tells an answer of `run`, with the values vs beside it
-abbrev pub Tells : List ℕ → RunAnswer → List ℕ → List ℕ → Type 0
-Tells t (run.Refused n) vs w = (line : ℕ) × Blamed t n line × (w ≡ refusalText n line)
-Tells t (run.Ended v k) vs w = w ≡ endedText v k
-Tells t (run.Spent n) vs w = w ≡ spentText n vs
+-- how a run that isn't refused went, with the values ws beside the answer
+unfoldable pub answerText : Answer → List ℕ → List ℕ
+answerText (Ended v k) ws = endedText v k
+answerText (Spent n) ws = spentText n ws
 
 -- the run of the program text t answers so, and w tells it
-pub record RunTold (t vs : List ℕ) (input budget : ℕ) (w : List ℕ) : Type 0 where
-  pub answer : RunAnswer
+pub record RunResult (t vs : List ℕ) (input budget : ℕ) (w : List ℕ) : Type 0 where
+  pub answer : Answer
   pub left : List ℕ
-  pub answers : RunAnswers t vs input budget answer left
-  pub tells : Tells t answer left w
+  pub finished : RunFinished t vs input budget answer left
+  pub tells : w ≡ answerText answer left
+
+-- the run is refused, and w is the refusal in words
+pub record RunRefusal (t : List ℕ) (budget : ℕ) (w : List ℕ) : Type 0 where
+  pub n : ℕ
+  pub line : ℕ
+  pub refused : RunRefused t budget n
+  pub blamed : Blamed t n line
+  pub tells : w ≡ refusalText n line
 
 -- what line n of a start has to be: line 2 is the budget
 unfoldable pub lineRange : ℕ → List ℕ
 lineRange n = pickList (eqb n 2) (bytes " isn't a whole number from 0 to 2147483647") (bytes " isn't a whole number from -2147483648 to 2147483647")
 
 -- what is wrong with a start, in words
-unfoldable pub startWords : Answer → List ℕ
+unfoldable pub startWords : start.Answer → List ℕ
 startWords Taken = []
 startWords Few = bytes "under 2 lines"
 startWords Many = bytes "over 34 lines"
 startWords (Line n) = bytes "line " ++ (digits n ++ lineRange n)
 
-unfoldable pub startText : Answer → List ℕ
+unfoldable pub startText : start.Answer → List ℕ
 startText a = bytes "refused start" ++ 10 ∷ (bytes "the start: " ++ (startWords a ++ 10 ∷ []))
 
--- a start that is wrong is refused, whatever the program; else the run is told
-abbrev pub Says : List ℕ → Answer → ℕ → ℕ → List ℕ → List ℕ → Type 0
-Says t Taken input budget vs w = RunTold t vs input budget w
-Says t Few input budget vs w = w ≡ startText Few
-Says t Many input budget vs w = w ≡ startText Many
-Says t (Line n) input budget vs w = w ≡ startText (Line n)
-
--- w is what is printed for the program text t and the start text u
-pub record Output (t u w : List ℕ) : Type 0 where
-  pub answer : Answer
+-- the start text u is wrong, and w says what is
+pub record StartRefusal (u w : List ℕ) : Type 0 where
+  pub answer : start.Answer
   pub input : ℕ
   pub budget : ℕ
   pub values : List ℕ
   pub read : StartRead u answer input budget values
-  pub says : Says t answer input budget values w
+  pub wrong : answer ≡ Taken → ⊥
+  pub tells : w ≡ startText answer
+
+-- w tells how the run of the program text t from the start text u went
+pub record Result (t u w : List ℕ) : Type 0 where
+  pub input : ℕ
+  pub budget : ℕ
+  pub values : List ℕ
+  pub start : StartTaken u input budget values
+  pub run : RunResult t values input budget w
+
+-- a start that is wrong is refused, whatever the program; else the run is
+abbrev pub Refusal : List ℕ → List ℕ → List ℕ → Type 0
+Refusal t u w = StartRefusal u w ⊎ ((input : ℕ) × (budget : ℕ) × (values : List ℕ) × StartTaken u input budget values × RunRefusal t budget w)
+
+-- w is what is printed for the program text t and the start text u
+abbrev pub Output : List ℕ → List ℕ → List ℕ → Type 0
+Output t u w = Result t u w ⊎ Refusal t u w
+
+-- the run that the texts t and u ask for isn't refused: the program P from these values and this input, under this budget
+pub record Runs (t u : List ℕ) (P : List Statement) (vs : List ℕ) (input budget : ℕ) : Type 0 where
+  pub start : StartTaken u input budget vs
+  pub allowed : budget ≤ most-steps
+  pub taken : program.Taken t P
 
 -- room for every output: a line as long as `spent at 4294967295`, and 32 as long as `i31 = -2147483648`
 abbrev pub value-room : ℕ
@@ -89,21 +109,21 @@ value-room = 18
 abbrev pub outcome-room : ℕ
 outcome-room = 20 + variables * value-room
 
--- the output stands at the front of the lent bytes o, all others are kept, and n is its length
-pub record Printed (t u o q : List ℕ) (n : ℕ) : Type 0 where
+-- a text of which the claim holds stands at the front of the lent bytes o, all others are kept, and n is its length
+pub record Printed (Claim : List ℕ → Type 0) (o q : List ℕ) (n : ℕ) : Type 0 where
   pub w : List ℕ
-  pub output : Output t u w
+  pub told : Claim w
   pub fits : length w ≤ length o
   pub put : Put o 0 w q n
 
 -- too few bytes are kept as they are
 abbrev pub Prints : List ℕ → List ℕ → List ℕ → List ℕ → Told → Type 0
-Prints t u o q (Written n) = Printed t u o q n
+Prints t u o q (Written n) = Printed (Result t u) o q n
+Prints t u o q (Refused n) = Printed (Refusal t u) o q n
 Prints t u o q NoRoom = (length o < outcome-room) × (q ≡ o)
 
--- the same of the part that tells the run
-pub record RunPrinted (t vs : List ℕ) (input budget : ℕ) (o q : List ℕ) (n : ℕ) : Type 0 where
-  pub w : List ℕ
-  pub told : RunTold t vs input budget w
-  pub short : length w ≤ outcome-room
-  pub put : Put o 0 w q n
+-- the same of the part that tells the run, for which there is room
+abbrev pub RunPrints : List ℕ → List ℕ → ℕ → ℕ → List ℕ → List ℕ → Told → Type 0
+RunPrints t vs input budget o q (Written n) = Printed (RunResult t vs input budget) o q n
+RunPrints t vs input budget o q (Refused n) = Printed (RunRefusal t budget) o q n
+RunPrints t vs input budget o q NoRoom = ⊥

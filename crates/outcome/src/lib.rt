@@ -3,9 +3,8 @@ ghost use Prim.Native.Nat.{_≤_, _+_, _*_};
 ghost use lib.ListN.{length};
 ghost use Rattle.language.specs.Spelling.{variables};
 ghost use Rattle.language.specs.Writing.{Put};
-ghost use Rattle.outcome.specs.Outcome.{endedText, valueLines, spentText, Blamed, startWords, startText, lineRange, value-room, outcome-room, Prints, RunPrinted};
+ghost use Rattle.outcome.specs.Outcome.{endedText, valueLines, spentText, startWords, startText, lineRange, value-room, outcome-room, Prints, RunPrints};
 use machine::VALUES;
-use program::Refusal;
 use rewrites::RunAnswer;
 use start::Answer;
 
@@ -14,9 +13,10 @@ const VALUE_ROOM: usize = 18;
 
 pub const OUTCOME_ROOM: usize = 20 + VALUES * VALUE_ROOM;
 
-// Written: the number of bytes of the output. NoRoom: under OUTCOME_ROOM bytes are lent.
+// The number of bytes: Written, of a result; Refused, of a refusal's text. NoRoom: under OUTCOME_ROOM bytes are lent.
 pub enum Told {
     Written(usize),
+    Refused(usize),
     NoRoom,
 }
 
@@ -58,19 +58,6 @@ fn spent(out: &mut [u8], n: u32, values: &[u32; VALUES]) -> usize
     value_lines(out, k3, values)
 }
 
-// The line that the refusal with number n is about, where it is one of the program's.
-pub fn refusal_line(program: &[u8], n: u8) -> u32
-    ensures { λ r. ⌜ Blamed (now (program .entry)) n r ⌝ }
-{
-    match n {
-        2 => blame::line_of(program, Refusal::Misspelled),
-        3 => blame::line_of(program, Refusal::LineCount),
-        4 => blame::line_of(program, Refusal::Placement),
-        5 => blame::line_of(program, Refusal::Target),
-        _ => 0,
-    }
-}
-
 // Runs the program and tells how it went, at the front of the lent bytes.
 fn run_outcome(
     out: &mut [u8],
@@ -78,20 +65,20 @@ fn run_outcome(
     values: [u32; VALUES],
     input: u32,
     budget: u32,
-) -> usize
+) -> Told
     requires { ⌜ outcome-room ≤ length (now out) ⌝ }
-    ensures { λ r. ⌜ RunPrinted (now (program .entry)) values input budget (now (out .entry)) (now (out .exit)) r ⌝ }
+    ensures { λ r. ⌜ RunPrints (now (program .entry)) values input budget (now (out .entry)) (now (out .exit)) r ⌝ }
 {
     let ran = rewrites::run(program, values, input, budget);
     let left = ran.values;
     let answer = ran.answer;
     match answer {
         RunAnswer::Refused(n) => {
-            let line = refusal_line(program, n);
-            desk::refusals::refusal(out, 0, n, line)
+            let line = blame::line_of_number(program, n);
+            Told::Refused(desk::refusals::refusal(out, 0, n, line))
         }
-        RunAnswer::Ended(v, k) => ended(out, 0, v, k),
-        RunAnswer::Spent(n) => spent(out, n, &left),
+        RunAnswer::Ended(v, k) => Told::Written(ended(out, 0, v, k)),
+        RunAnswer::Spent(n) => Told::Written(spent(out, n, &left)),
     }
 }
 
@@ -149,10 +136,10 @@ pub fn outcome(program: &[u8], start: &[u8], out: &mut [u8]) -> Told
     match answer {
         Answer::Taken => {
             let values = read.values;
-            Told::Written(run_outcome(out, program, values, read.input, read.budget))
+            run_outcome(out, program, values, read.input, read.budget)
         }
-        Answer::Few => Told::Written(start_refused(out, Answer::Few)),
-        Answer::Many => Told::Written(start_refused(out, Answer::Many)),
-        Answer::Line(n) => Told::Written(start_refused(out, Answer::Line(n))),
+        Answer::Few => Told::Refused(start_refused(out, Answer::Few)),
+        Answer::Many => Told::Refused(start_refused(out, Answer::Many)),
+        Answer::Line(n) => Told::Refused(start_refused(out, Answer::Line(n))),
     }
 }
