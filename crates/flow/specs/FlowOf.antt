@@ -1,4 +1,4 @@
--- Where a control-flow graph stands in lent numbers, and what it means that it is that of a program.
+-- A proof device: where a control-flow graph stands in lent numbers, and what it means that it is that of a program.
 use mathlib.Core.Path.{_≡_}
 use mathlib.Core.List.{List}
 use Prim.Native.Nat.{ℕ, _+_, _<_}

@@ -1,4 +1,4 @@
--- The steps of a graph in one direction and in the other, as lists, and where these stand in a lent slice.
+-- A proof device: the steps of a graph in one direction and in the other, as lists, and where these stand in a lent slice.
 use mathlib.Core.Path.{_≡_}
 use mathlib.Core.List.{List}
 use mathlib.Core.Bool.{Bool, _||_, _&&_}

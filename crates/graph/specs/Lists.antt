@@ -1,5 +1,5 @@
--- A graph as lists of edges: `head` has an entry for each place, `link` and `to` one for each edge. A position is 0 at the end of a
--- list, and e + 1 at edge e. `head` holds the position of a place's first edge, `link` that of the next edge of the same place, `to`
+-- A proof device: a graph as lists of edges. `head` has an entry for each place, `link` and `to` one for each edge. A position is 0 at
+-- the end of a list, and e + 1 at edge e. `head` holds the position of a place's first edge, `link` that of the next edge of the same place, `to`
 -- the place that the edge leads to.
 use mathlib.Core.Path.{_≡_}
 use mathlib.Core.List.{List}

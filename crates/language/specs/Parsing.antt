@@ -1,4 +1,4 @@
--- What each small reader finds at the front of a text: the readers' common language, for proofs. It promises nothing by itself:
+-- A proof device: what each small reader finds at the front of a text, the readers' common language. It promises nothing by itself:
 -- proofs/Numbers.antt and proofs/Lines.antt hold it to the spelling, both ways round.
 use Prim.Native.Nat.{ℕ, zero, suc, _+_, _-_, _*_, _≤_, _<_}
 use mathlib.Core.List.{List, [], _∷_, _++_}

@@ -1,4 +1,4 @@
--- What the contracts of the functions that put the output together ask. No sentence of document 01 stands here.
+-- Proof devices: what the contracts of the functions that put the output together ask. No sentence of document 01 stands here.
 use mathlib.Core.List.{List, _++_}
 use Prim.Native.Nat.{ℕ, _+_, _≤_}
 use lib.ListN.{length}

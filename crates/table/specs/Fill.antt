@@ -1,4 +1,5 @@
--- How the table is filled, part after part: what the contracts of the functions within say. No sentence of document 01 stands here.
+-- Proof devices: how the table is filled, part after part, as the contracts of the functions within say it. No sentence of document 01
+-- stands here.
 use mathlib.Core.Path.{_≡_}
 use mathlib.Core.List.{List}
 use mathlib.Core.Bool.{Bool, true, false}

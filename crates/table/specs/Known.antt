@@ -1,4 +1,4 @@
--- What is known of a program when its conditions are tabulated. No sentence of document 01 stands here.
+-- A proof device: what is known of a program when its conditions are tabulated. No sentence of document 01 stands here.
 use mathlib.Core.Path.{_≡_}
 use mathlib.Core.List.{List}
 use Prim.Native.Nat.{ℕ, _≤_}

@@ -1,4 +1,4 @@
--- The code's rule for each operator, and what it says of the operands.
+-- A proof device: the code's rule for each operator, and what it says of the operands. proofs/ holds it to the truth by paths.
 use mathlib.Core.Path.{_≡_}
 use mathlib.Core.List.{List}
 use mathlib.Core.Bool.{Bool, true, false}

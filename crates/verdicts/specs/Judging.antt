@@ -1,4 +1,4 @@
--- What the contracts of the functions that judge a mark say. No sentence of document 01 stands here.
+-- Proof devices: what the contracts of the functions that judge a mark say. No sentence of document 01 stands here.
 use mathlib.Core.Path.{_≡_}
 use mathlib.Core.Bool.{true}
 use mathlib.Core.List.{List, [], _∷_}

@@ -1,4 +1,4 @@
--- What the contracts of the functions that put the view together ask. No sentence of document 01 stands here.
+-- Proof devices: what the contracts of the functions that put the view together ask. No sentence of document 01 stands here.
 use mathlib.Core.Path.{_≡_}
 use mathlib.Core.Bool.{Bool}
 use mathlib.Core.Logic.{_⊎_}
