@@ -1,4 +1,5 @@
-//! The check program on random files: what it prints is held to the second implementation's output.
+//! The check program on random files: what it prints, and says on standard error, is held to the
+//! second implementation's output.
 //!
 //! `DIFFERENTIAL_SEED` and `CHECK_CASES` choose other cases, and how many there are.
 
@@ -12,9 +13,9 @@ use oracle::{check, marks};
 
 const CASES: u64 = 4_000;
 
-/// The first line of an output, or its first word.
-const FIRST: [&str; 7] =
-    ["marks", "refused 2", "refused 3", "refused 4", "refused 5", "refused 9", "refused 10"];
+/// The first line of an output, or its first word. A file that is too long leaves nothing.
+const FIRST: [&str; 8] =
+    ["marks", "refused 2", "refused 3", "refused 4", "refused 5", "refused 9", "refused 10", ""];
 
 /// Lines of good statements or marks until the file has over so many bytes.
 fn long(line: &str, bytes: usize) -> Vec<u8> {
@@ -62,9 +63,11 @@ fn outputs_are_as_by_the_oracle() {
             missing.met(name);
         }
         let output = in_folder(&program, "check", &files, &[]);
+        let said = check::said(contents[0].as_deref(), contents[1].as_deref());
         let [given, list] = contents.map(Option::unwrap_or_default);
         let expected = check::check(&given, &list);
-        assert!(output.status.success() && output.stderr.is_empty(), "seed {seed} case {case}");
+        assert!(output.status.success(), "seed {seed} case {case}");
+        assert_eq!(shown(&output.stderr), shown(said.as_bytes()), "seed {seed} case {case}");
         assert_eq!(
             shown(&output.stdout),
             shown(&expected),

@@ -26,7 +26,8 @@ fn line_of(program: &[u8], number: u8) -> usize {
     lines.iter().enumerate().position(wrong).expect("a refused line") + 1
 }
 
-fn refused(number: u8, program: &[u8]) -> String {
+/// The words of a refusal, on a line of their own.
+pub fn words(number: u8, program: &[u8]) -> String {
     let line = || line_of(program, number);
     let words = match number {
         2 => format!("line {} isn't spelled as a statement, or lacks its byte 10", line()),
@@ -48,7 +49,11 @@ fn refused(number: u8, program: &[u8]) -> String {
         9 | 10 => "the optimiser",
         _ => "the host program",
     };
-    format!("refused {number}\n{author}: {words}\n")
+    format!("{author}: {words}\n")
+}
+
+fn refused(number: u8, program: &[u8]) -> String {
+    format!("refused {number}\n{}", words(number, program))
 }
 
 // The viewer

@@ -1,7 +1,7 @@
 //! Random cases.
 
 use super::naive;
-use crate::check::check;
+use crate::check::{LARGEST_FILE, check};
 use crate::condition::{tabulate, Atom, Checker, Condition, Demand, Direction, Part, Quantifier};
 use crate::generate::{self, Random};
 use crate::machine::{first_difference, run, run_program, Outcome, Run, State};
@@ -450,7 +450,9 @@ fn refused_calls_keep_what_is_lent() {
         match judge(&text, &list, &mut verdicts, &mut new_text) {
             Err(number) => {
                 assert_eq!((verdicts, new_text), ([5; 256], [5; 8_192]));
-                assert_eq!(check(&text, &list), format!("refused {number}\n").as_bytes());
+                let long = text.len().max(list.len()) > LARGEST_FILE;
+                let line = if long { String::new() } else { format!("refused {number}\n") };
+                assert_eq!(check(&text, &list), line.as_bytes());
             }
             Ok((count, accepted, bytes)) => {
                 let output = check(&text, &list);

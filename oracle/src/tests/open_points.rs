@@ -1,7 +1,7 @@
 //! Points that the defining document leaves open, as they were decided.
 
 use super::{condition_refusal, judged, lines, refusal, skips, whole, words, P};
-use crate::check::check;
+use crate::check::{check, said};
 use crate::machine::{run, Outcome};
 use crate::marks;
 use crate::program::Program;
@@ -475,15 +475,36 @@ fn budgets() {
 fn files_of_the_check_program() {
     assert_eq!(check(b"", b""), b"refused 3\n");
     assert_eq!(check(P.as_bytes(), b""), format!("marks 0 accepted 0\n{P}").as_bytes());
-    // Files over 65,535 bytes count by their first 65,536, cut there.
-    let cut_in_a_line = skips(30_000);
-    assert_eq!(check(cut_in_a_line.as_bytes(), b""), b"refused 2\n");
-    let cut_after_a_line = "i1 := 1\n".repeat(8_192) + "rubbish";
-    assert_eq!(cut_after_a_line.len(), 65_536 + 7);
-    assert_eq!(check(cut_after_a_line.as_bytes(), b""), b"refused 3\n");
-    let cut_in_a_mark = "1: mark(rm, i0, 1)\n".repeat(4_000);
-    assert_eq!(check(P.as_bytes(), cut_in_a_mark.as_bytes()), b"refused 9\n");
-    let cut_after_a_mark = "1: mark(rm, i0, 10000 + 100000)\n".repeat(2_048) + "rubbish";
-    assert_eq!(cut_after_a_mark.len(), 65_536 + 7);
-    assert_eq!(check(P.as_bytes(), cut_after_a_mark.as_bytes()), b"refused 10\n");
+    // 65,535 bytes are read, and a longer file prints nothing, whatever it holds.
+    assert_eq!(check(&"skip\n".repeat(13_107).into_bytes(), b""), b"refused 3\n");
+    let longer = [skips(30_000), "i1 := 1\n".repeat(8_192), "rubbish\n".repeat(8_192)];
+    for text in longer {
+        assert!(text.len() > 65_535);
+        assert_eq!(check(text.as_bytes(), b""), b"");
+        assert_eq!(check(P.as_bytes(), text.as_bytes()), b"");
+    }
+}
+
+#[test]
+fn what_the_check_program_says() {
+    let p = P.as_bytes();
+    assert_eq!(said(Some(p), Some(b"")), "");
+    assert_eq!(
+        said(None, None),
+        "given is read as empty: No such file or directory\n\
+         marks is read as empty: No such file or directory\n\
+         the author of the shift program: under 2 or over 256 lines\n"
+    );
+    assert_eq!(said(Some(p), None), "marks is read as empty: No such file or directory\n");
+    let long = skips(65_536);
+    assert_eq!(said(None, Some(long.as_bytes())), "given is read as empty: No such file or directory\nmarks can't be read: over 65,535 bytes\n");
+    assert_eq!(said(Some(long.as_bytes()), None), "given can't be read: over 65,535 bytes\n");
+    assert_eq!(
+        said(Some(p), Some(b"x")),
+        "the optimiser: some line misspelled, or the last without its byte 10\n"
+    );
+    assert_eq!(
+        said(Some(b"read i0\nif i0 goto 9 else 3\nwrite i0\n"), Some(b"")),
+        "the author of the shift program: line 2: a target outside 2 to N\n"
+    );
 }
