@@ -1,5 +1,5 @@
 //! The viewer, the runner and the comparison on random files: what they print is held to the second
-//! implementation's output.
+//! implementation's output. A file that is too long leaves nothing printed, and is told.
 //!
 //! `DIFFERENTIAL_SEED` and `DESK_CASES` choose other cases, and how many of each program there are.
 
@@ -8,6 +8,7 @@ mod coverage;
 
 use common::{built, in_folder, option, shown};
 use coverage::Tally;
+use oracle::check::LARGEST_FILE;
 use oracle::desk;
 use oracle::generate::{self, Random};
 use oracle::marks;
@@ -22,11 +23,23 @@ fn cases(program: &str) -> impl Iterator<Item = (u64, Random)> {
     (0..count).map(move |case| (case, Random::new(start.wrapping_add(case))))
 }
 
+/// What is said of the first file that is too long.
+fn said(files: &[(&str, &[u8])]) -> Option<String> {
+    let (name, _) = files.iter().find(|(_, bytes)| bytes.len() > LARGEST_FILE)?;
+    Some(format!("{name} can't be read: over 65,535 bytes\n"))
+}
+
 /// Runs a program on files of these contents, by the folder's and the files' names.
 fn printed(program: &Path, folder: &str, files: &[(&str, &[u8])], words: &[&str]) -> Vec<u8> {
     let output = in_folder(program, folder, files, words);
-    assert!(output.status.success() && output.stderr.is_empty());
+    assert!(output.status.success());
+    assert_eq!(shown(&output.stderr), shown(said(files).unwrap_or_default().as_bytes()));
     output.stdout
+}
+
+/// What is printed for files of which none is too long is this.
+fn of_whole_files(files: &[(&str, &[u8])], output: String) -> String {
+    said(files).map_or(output, |_| String::new())
 }
 
 fn same(case: u64, output: &[u8], expected: &str, files: &[(&str, &[u8])]) {
@@ -69,14 +82,16 @@ fn start(random: &mut Random) -> Vec<u8> {
     }
 }
 
-/// What the first line of an output is: the refusal, or a result.
+/// What the first line of an output is: the refusal, or a result; nothing of files that are too long.
 fn class(output: &str) -> &'static str {
     #[rustfmt::skip]
     let refusals = [
         "refused start", "refused 2", "refused 3", "refused 4", "refused 5", "refused 6",
         "refused 7", "refused 8", "refused 9", "refused 10", "refused 15",
     ];
-    let line = output.lines().next().unwrap_or("");
+    let Some(line) = output.lines().next() else {
+        return "nothing";
+    };
     refusals.into_iter().find(|&refusal| refusal == line).unwrap_or("result")
 }
 
@@ -114,7 +129,7 @@ fn views_are_as_by_the_oracle() {
             file.push(10);
         }
         let files = [("given", &text[..]), ("condition", &file[..])];
-        let expected = desk::view(&text, bare);
+        let expected = of_whole_files(&files, desk::view(&text, bare));
         same(case, &printed(&viewer, "view", &files, &[]), &expected, &files);
         met.met(class(&expected));
     }
@@ -130,7 +145,7 @@ fn runs_are_as_by_the_oracle() {
         let ((_, text), start, trace) = (program(random), start(random), random.chance(70));
         let files = [("given", &text[..]), ("start", &start[..])];
         let words: &[&str] = if trace { &["given", "start", "trace"] } else { &[] };
-        let expected = desk::run(&text, &start, trace);
+        let expected = of_whole_files(&files, desk::run(&text, &start, trace));
         same(case, &printed(&runner, "run", &files, words), &expected, &files);
         met.met(class(&expected));
     }
@@ -149,7 +164,7 @@ fn comparisons_are_as_by_the_oracle() {
         let list = marks::text(&generate::marks(random, &given, count));
         let list = if random.below(12) == 0 { generate::damage(random, &list) } else { list };
         let files = [("given", &text[..]), ("marks", &list[..]), ("start", &start[..])];
-        let expected = desk::compare(&text, &list, &start);
+        let expected = of_whole_files(&files, desk::compare(&text, &list, &start));
         same(case, &printed(&comparer, "compare", &files, &[]), &expected, &files);
         met.met(class(&expected));
     }
