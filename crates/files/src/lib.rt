@@ -1,8 +1,6 @@
 // A program's arguments, the files that they name, its standard output and its status. What can't be read or written is told in a line on
 // standard error.
-ghost use mathlib.Core.Path.{_≡_};
-ghost use Prim.Native.Nat.{_≤_, _<_, _+_, _%_};
-ghost use lib.ListN.{length};
+ghost use Prim.Native.Nat.{_≤_};
 ghost use Rattle.io.specs.Counts.{Counts};
 ghost use Rattle.files.specs.Files.{Opens, Takes, Ends, Reads, Settles};
 use language::read::WordRead;
@@ -10,7 +8,7 @@ use libc::STDERR_FILENO;
 use libc::STDOUT_FILENO;
 
 // A file has at most 65,535 bytes; one byte more is lent, by which a longer one is told.
-pub const FILE_ROOM: usize = 65536;
+const FILE_ROOM: usize = 65536;
 // What a program tells of how it went: a result, a refusal, usage or a file that can't be read, output that wasn't written.
 pub const RESULT: u8 = 0;
 

@@ -1,7 +1,7 @@
 //! Random cases.
 
 use super::naive;
-use crate::check::{LARGEST_FILE, check};
+use crate::check::{check, LARGEST_FILE};
 use crate::condition::{tabulate, Atom, Checker, Condition, Demand, Direction, Part, Quantifier};
 use crate::generate::{self, Random};
 use crate::machine::{first_difference, run, run_program, Outcome, Run, State};
