@@ -2,10 +2,10 @@
 use mathlib.Core.Path.{_≡_, refl}
 use mathlib.Core.List.{List, [], _∷_, _++_}
 use mathlib.Core.Bool.{Bool, true, false}
-use Prim.Native.Nat.{ℕ, suc, _+_, _*_, _^_, _≤_, _<_}
+use Prim.Native.Nat.{ℕ, suc, _+_, _^_, _≤_, _<_}
 use native.Mathlib.Omega.{arith}
 use lib.Dec.{eqb}
-use lib.IntN.{ℤ, pos, negsuc, natAbs}
+use lib.IntN.{ℤ, pos, negsuc}
 use lib.ListN.{length, getD, length-append}
 use mir.Syntax.{w32}
 use mir.Val.{SFits}
@@ -15,7 +15,7 @@ use Rattle.desk.specs.Columns.{signedDigits}
 use Rattle.desk.specs.Refusals.{bytes, refusalText}
 use Rattle.desk.proofs.Rooms.{refusal-most}
 use Rattle.start.specs.declared.Answer.{Answer}
-use Rattle.start.specs.declared.Answer.the-variants.{Taken, Few, Many, Line}
+use Rattle.start.specs.declared.Answer.the-variants.{Few, Many, Line}
 use Rattle.trace.specs.Trace.{valueText}
 use Rattle.trace.proofs.Room.{value-most}
 use Rattle.trace.proofs.Series.{Parts, parts-most}

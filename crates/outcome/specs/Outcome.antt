@@ -15,7 +15,7 @@ use Rattle.machine.specs.declared.Answer.{Answer}
 use Rattle.machine.specs.declared.Answer.the-variants.{Ended, Spent}
 use Rattle.rewrites.specs.Run.{most-steps, RunRefused, RunFinished}
 use Rattle.desk.specs.Columns.{signedDigits}
-use Rattle.desk.specs.Refusals.{bytes, onLine, refusalText}
+use Rattle.desk.specs.Refusals.{bytes, refusalText}
 use Rattle.start.specs.Start.{StartTaken, StartRead}
 use Rattle.start.specs.declared.Answer as start
 use Rattle.start.specs.declared.Answer.the-variants.{Taken, Few, Many, Line}

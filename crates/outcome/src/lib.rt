@@ -11,7 +11,7 @@ use start::Answer;
 // A line `i31 = -2147483648` has room in this many bytes, and every outcome in this many.
 const VALUE_ROOM: usize = 18;
 
-pub const OUTCOME_ROOM: usize = 20 + VALUES * VALUE_ROOM;
+const OUTCOME_ROOM: usize = 20 + VALUES * VALUE_ROOM;
 
 // The number of bytes: Written, of a result; Refused, of a refusal's text. NoRoom: under OUTCOME_ROOM bytes are lent.
 pub enum Told {

@@ -2,7 +2,7 @@
 use mathlib.Core.Path.{_≡_, refl, ap, sym, _∙_}
 use mathlib.Core.Logic.{_⊎_, inl, inr}
 use mathlib.Core.List.{List, [], _++_}
-use mathlib.Core.Bool.{Bool, true, false}
+use mathlib.Core.Bool.{true, false}
 use Prim.Native.Nat.{ℕ, suc, _+_, _≤_, _<_}
 use native.Mathlib.Omega.{arith}
 use native.Mathlib.Numerals.{add-one}
@@ -15,7 +15,7 @@ use Rattle.program.specs.Reading.{statements}
 use Rattle.program.specs.declared.Program.{Program}
 use Rattle.program.proofs.Held.{held, at-held}
 use Rattle.machine.specs.Machine.{State, before, ended, perform, after}
-use Rattle.machine.specs.Answer.{stateOf, Ends}
+use Rattle.machine.specs.Answer.{stateOf}
 use Rattle.machine.specs.declared.Next.{Next}
 use Rattle.machine.specs.declared.Next.the-variants.{Goto, Finish}
 use Rattle.machine.proofs.Runs.{Stands, perform-inside, step-inside, step-over}
@@ -105,7 +105,8 @@ module _ (p : Program) (input s : ℕ) (vs us : List ℕ) (next : Next) (told : 
       perform-inside (length (statements p)) s input t vs us (at (statements p) s) (w .counted .0) (w .placed s h) (w .aimed s h)
       (rw (at-held (p .entries) (p .count) s h) (sym told ∙ ap (λ (x : Next). stateOf x us) e))
 
-  module _ {budget k s₀ j : ℕ} {vs₀ o q r : List ℕ} {to end : ℕ} (i : Going p input budget k s₀ vs₀ o q vs s j to) (h : j < budget) (room : to + line-room ≤ length o) (short : end ≤ to + line-room) where
+  module _ {budget k s₀ j : ℕ} {vs₀ o q r : List ℕ} {to end : ℕ} (i : Going p input budget k s₀ vs₀ o q vs s j to) (h : j < budget)
+      (room : to + line-room ≤ length o) (short : end ≤ to + line-room) where
     pub going-more : (t : ℕ) → WellFormed (statements p) → next ≡ Goto t
         → Put q to (lineText (j + 1) s (held (p .entries) s) vs us) r end → Going p input budget k s₀ vs₀ o r us t (j + 1) end
     going-more t w e l =

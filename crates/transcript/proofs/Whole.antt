@@ -1,5 +1,5 @@
 -- The pieces handed out up to the end are all that is printed, and that is one text only. Assumes nothing.
-use mathlib.Core.Path.{_≡_, refl, ap, ap₂, sym, subst, _∙_}
+use mathlib.Core.Path.{_≡_, refl, sym, subst, _∙_}
 use mathlib.Core.Logic.{inl, inr}
 use mathlib.Core.List.{List, [], _++_}
 use mathlib.Core.Bool.{Bool}
@@ -7,7 +7,7 @@ use Prim.Native.Nat.{ℕ}
 use lib.ListN.{take}
 use Rattle.language.proofs.Puts.{put-front}
 use Rattle.outcome.proofs.Unique.{runs-unique, runs-refused, result-runs, result-unique, refusal-unique}
-use Rattle.transcript.specs.Transcript.{traceLines, Whole, Output, HandedAt, Handed, beginning, Hands}
+use Rattle.transcript.specs.Transcript.{Whole, Output, HandedAt, Handed, beginning, Hands}
 use Rattle.transcript.specs.declared.Stage.{Stage}
 use Rattle.transcript.specs.declared.Stage.the-variants.{Ended, Refused}
 use Rattle.transcript.specs.declared.Position.{Position}

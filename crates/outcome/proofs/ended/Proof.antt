@@ -22,20 +22,34 @@ word-requires : tie.Need-word-requires
 word-requires c κs = omega (arith, ended-length (c .before .before .before .args .v) (c .before .before .before .args .k))
 
 signed-requires : tie.Need-signed-requires
-signed-requires c κs = omega (arith, ended-length (c .before .before .before .before .before .before .before .args .v) (c .before .before .before .before .before .before .before .args .k), kept-length (c .before .before .before .before .before .before .before .args .v) (c .before .before .before .before .before .before .before .fits .v))
+signed-requires c κs =
+    let s = c .before .before .before .before .before .before .before in
+    omega (arith, ended-length (s .args .v) (s .args .k), kept-length (s .args .v) (s .fits .v))
 
 word-requires-2 : tie.Need-word-requires-2
-word-requires-2 c κs = omega (arith, ended-length (c .before .before .before .before .before .before .before .before .before .before .before .before .args .v) (c .before .before .before .before .before .before .before .before .before .before .before .before .args .k), kept-length (c .before .before .before .before .before .before .before .before .before .before .before .before .args .v) (c .before .before .before .before .before .before .before .before .before .before .before .before .fits .v))
+word-requires-2 c κs =
+    let s = c .before .before .before .before .before .before .before .before .before .before .before .before in
+    omega (arith, ended-length (s .args .v) (s .args .k), kept-length (s .args .v) (s .fits .v))
 
 number-requires : tie.Need-number-requires
-number-requires c κs = omega (arith, ended-length (c .before .before .before .before .before .before .before .before .before .before .before .before .before .before .before .before .args .v) (c .before .before .before .before .before .before .before .before .before .before .before .before .before .before .before .before .args .k), kept-length (c .before .before .before .before .before .before .before .before .before .before .before .before .before .before .before .before .args .v) (c .before .before .before .before .before .before .before .before .before .before .before .before .before .before .before .before .fits .v))
+number-requires c κs =
+    let s = c .before .before .before .before .before .before .before .before .before .before .before .before .before .before .before .before in
+    omega (arith, ended-length (s .args .v) (s .args .k), kept-length (s .args .v) (s .fits .v))
 
 byte-requires : tie.Need-byte-requires
-byte-requires c κs = omega (arith, ended-length (c .before .before .before .before .before .before .before .before .before .before .before .before .before .before .before .before .before .before .before .before .args .v) (c .before .before .before .before .before .before .before .before .before .before .before .before .before .before .before .before .before .before .before .before .args .k), kept-length (c .before .before .before .before .before .before .before .before .before .before .before .before .before .before .before .before .before .before .before .before .args .v) (c .before .before .before .before .before .before .before .before .before .before .before .before .before .before .before .before .before .before .before .before .fits .v))
+byte-requires c κs =
+    let s = c .before .before .before .before .before .before .before .before .before .before .before .before .before .before .before .before .before .before .before .before in
+    omega (arith, ended-length (s .args .v) (s .args .k), kept-length (s .args .v) (s .fits .v))
 
 returns : tie.Need-returns
 unfolding endedText
-returns c = put-then (c .before .before .before .before .before .before .before .before .before .before .before .before .before .before .before .before .before .before .before .word .ensures) (put-then (rw (toZ-ofZ {w = w32} (c .before .before .before .before .before .before .before .before .before .before .before .before .before .before .before .before .before .before .before .before .before .before .before .fits .v)) at (c .before .before .before .before .before .before .before .before .before .before .before .before .before .before .before .signed .ensures)) (put-then (c .before .before .before .before .before .before .before .before .before .before .word2 .ensures) (put-then (c .before .before .before .before .before .before .number .ensures) (c .before .before .byte .ensures))))
+returns c =
+    let fits = c .before .before .before .before .before .before .before .before .before .before .before .before .before .before .before .before .before .before .before .before .before .before .before .fits in
+    let word = c .before .before .before .before .before .before .before .before .before .before .before .before .before .before .before .before .before .before .before .word in
+    let signed = c .before .before .before .before .before .before .before .before .before .before .before .before .before .before .before .signed in
+    let word2 = c .before .before .before .before .before .before .before .before .before .before .word2 in
+    let number = c .before .before .before .before .before .before .number in
+    put-then (word .ensures) (put-then (rw (toZ-ofZ {w = w32} (fits .v)) at (signed .ensures)) (put-then (word2 .ensures) (put-then (number .ensures) (c .before .before .byte .ensures))))
 
 pub ended-spec : {M : Type 1} → statement M
 ended-spec =

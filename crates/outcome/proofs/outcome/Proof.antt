@@ -26,18 +26,21 @@ returns-2 c =
 returns-3 : tie.Need-returns-3
 returns-3 c =
     let told = c .before .before .before .before in
-    start-output _ _ _ _ _ _ _ (told .before .before .read .ensures) Few (told .enum-told2 .given .1) (λ e. let z : _≡_ {A = ℕ} 0 1 = cc in omega arith) (omega (arith, few-most)) (c .before .before .start-refused .ensures)
+    start-output _ _ _ _ _ _ _ (told .before .before .read .ensures) Few (told .enum-told2 .given .1)
+    (λ e. let z : _≡_ {A = ℕ} 0 1 = cc in omega arith) (omega (arith, few-most)) (c .before .before .start-refused .ensures)
 
 returns-4 : tie.Need-returns-4
 returns-4 c =
     let told = c .before .before .before .before in
-    start-output _ _ _ _ _ _ _ (told .before .before .read .ensures) Many (told .enum-told3 .given .1) (λ e. let z : _≡_ {A = ℕ} 0 1 = cc in omega arith) (omega (arith, many-most)) (c .before .before .start-refused2 .ensures)
+    start-output _ _ _ _ _ _ _ (told .before .before .read .ensures) Many (told .enum-told3 .given .1)
+    (λ e. let z : _≡_ {A = ℕ} 0 1 = cc in omega arith) (omega (arith, many-most)) (c .before .before .start-refused2 .ensures)
 
 returns-5 : tie.Need-returns-5
 returns-5 c =
     let told = c .before .before .before .before .before in
     let n = told .answer .given .0 .0 in
-    start-output _ _ _ _ _ _ _ (told .before .before .read .ensures) (Line n) (told .answer .given .1) (λ e. let z : _≡_ {A = ℕ} 0 1 = cc in omega arith) (omega (arith, line-most n (search needs))) (c .before .before .start-refused3 .ensures)
+    start-output _ _ _ _ _ _ _ (told .before .before .read .ensures) (Line n) (told .answer .given .1)
+    (λ e. let z : _≡_ {A = ℕ} 0 1 = cc in omega arith) (omega (arith, line-most n (search needs))) (c .before .before .start-refused3 .ensures)
 
 pub outcome-spec : {M : Type 1} → statement M
 outcome-spec =

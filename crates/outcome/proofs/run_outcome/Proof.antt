@@ -12,7 +12,9 @@ use Rattle.outcome.proofs.run_outcome.Statement.{statement}
 use Rattle.outcome.proofs.run_outcome.Tie as tie
 
 refusal-requires : tie.Need-refusal-requires
-refusal-requires c κs = omega (arith, refused-most (c .before .before .before .answer .given .0 .0) (c .before .line-of-number .result) (search needs) (search needs))
+refusal-requires c κs =
+    let answer = c .before .before .before .answer in
+    omega (arith, refused-most (answer .given .0 .0) (c .before .line-of-number .result) (search needs) (search needs))
 
 ended-requires : tie.Need-ended-requires
 ended-requires c κs =

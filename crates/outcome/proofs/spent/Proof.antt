@@ -11,14 +11,22 @@ number-requires : tie.Need-number-requires
 number-requires c κs = omega (arith, digits-length 9 (c .before .before .before .before .before .before .before .args .n) (search needs))
 
 byte-requires : tie.Need-byte-requires
-byte-requires c κs = omega (arith, digits-length 9 (c .before .before .before .before .before .before .before .before .before .before .before .args .n) (search needs))
+byte-requires c κs =
+    let args = c .before .before .before .before .before .before .before .before .before .before .before .args in
+    omega (arith, digits-length 9 (args .n) (search needs))
 
 value-lines-requires : tie.Need-value-lines-requires
-value-lines-requires c κs = omega (arith, digits-length 9 (c .before .before .before .before .before .before .before .before .before .before .before .before .before .before .before .args .n) (search needs))
+value-lines-requires c κs =
+    let args = c .before .before .before .before .before .before .before .before .before .before .before .before .before .before .before .args in
+    omega (arith, digits-length 9 (args .n) (search needs))
 
 returns : tie.Need-returns
 unfolding spentText
-returns c = put-then (c .before .before .before .before .before .before .before .before .before .before .before .before .before .before .word .ensures) (put-then (c .before .before .before .before .before .before .before .before .before .before .number .ensures) (put-then (c .before .before .before .before .before .before .byte .ensures) (c .before .before .value-lines .ensures)))
+returns c =
+    let word = c .before .before .before .before .before .before .before .before .before .before .before .before .before .before .word in
+    let number = c .before .before .before .before .before .before .before .before .before .before .number in
+    let byte = c .before .before .before .before .before .before .byte in
+    put-then (word .ensures) (put-then (number .ensures) (put-then (byte .ensures) (c .before .before .value-lines .ensures)))
 
 pub spent-spec : {M : Type 1} → statement M
 spent-spec =

@@ -18,7 +18,10 @@ byte-requires c κs = omega (arith, start-length (c .before .before .before .bef
 
 returns : tie.Need-returns
 unfolding startText
-returns c = put-then (c .before .before .before .before .before .before .before .before .before .before .word .ensures) (put-then (c .before .before .before .before .before .before .start-words .ensures) (c .before .before .byte .ensures))
+returns c =
+    let word = c .before .before .before .before .before .before .before .before .before .before .word in
+    let start-words = c .before .before .before .before .before .before .start-words in
+    put-then (word .ensures) (put-then (start-words .ensures) (c .before .before .byte .ensures))
 
 pub start-refused-spec : {M : Type 1} → statement M
 start-refused-spec =

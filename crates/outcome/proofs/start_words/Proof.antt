@@ -17,13 +17,22 @@ unfolding startWords
 word-requires-2 c κs = rw (c .before .before .enum-told3 .given .1) at (c .before .before .before .before .before .pre)
 
 word-requires-3 : tie.Need-word-requires-3
-word-requires-3 c κs = omega (arith, line-words-length (c .before .before .before .a .given .0 .0), rw (c .before .before .before .a .given .1) at (c .before .before .before .before .before .before .pre))
+word-requires-3 c κs =
+    let pre = c .before .before .before .before .before .before .pre in
+    let a = c .before .before .before .a in
+    omega (arith, line-words-length (a .given .0 .0), rw (a .given .1) at (pre))
 
 number-requires : tie.Need-number-requires
-number-requires c κs = omega (arith, line-words-length (c .before .before .before .before .before .before .before .a .given .0 .0), rw (c .before .before .before .before .before .before .before .a .given .1) at (c .before .before .before .before .before .before .before .before .before .before .pre))
+number-requires c κs =
+    let pre = c .before .before .before .before .before .before .before .before .before .before .pre in
+    let a = c .before .before .before .before .before .before .before .a in
+    omega (arith, line-words-length (a .given .0 .0), rw (a .given .1) at (pre))
 
 line-range-requires : tie.Need-line-range-requires
-line-range-requires c κs = omega (arith, line-words-length (c .before .before .before .before .before .before .before .before .before .before .before .a .given .0 .0), rw (c .before .before .before .before .before .before .before .before .before .before .before .a .given .1) at (c .before .before .before .before .before .before .before .before .before .before .before .before .before .before .pre))
+line-range-requires c κs =
+    let pre = c .before .before .before .before .before .before .before .before .before .before .before .before .before .before .pre in
+    let a = c .before .before .before .before .before .before .before .before .before .before .before .a in
+    omega (arith, line-words-length (a .given .0 .0), rw (a .given .1) at (pre))
 
 returns : tie.Need-returns
 unfolding startWords
@@ -39,7 +48,11 @@ returns-3 c = rw (c .before .before .before .before .before .enum-told3 .given .
 
 returns-4 : tie.Need-returns-4
 unfolding startWords
-returns-4 c = rw (c .before .before .before .before .before .before .before .before .before .before .before .before .before .before .a .given .1) (put-then (c .before .before .before .before .before .before .before .before .before .before .word3 .ensures) (put-then (c .before .before .before .before .before .before .number .ensures) (c .before .before .line-range .ensures)))
+returns-4 c =
+    let a = c .before .before .before .before .before .before .before .before .before .before .before .before .before .before .a in
+    let word3 = c .before .before .before .before .before .before .before .before .before .before .word3 in
+    let number = c .before .before .before .before .before .before .number in
+    rw (a .given .1) (put-then (word3 .ensures) (put-then (number .ensures) (c .before .before .line-range .ensures)))
 
 pub start-words-spec : {M : Type 1} → statement M
 start-words-spec =

@@ -29,12 +29,18 @@ value-requires c κs =
 byte-requires : tie.Need-byte-requires Inv-loop μ-loop
 byte-requires c κs =
     let vs = c .before .before .before .before .before .before .before .before .before .args .values .now in
-    let x = c .before .before .before .before .before .before .before .loop .x in
+    let loop = c .before .before .before .before .before .before .before .loop in
+    let more = c .before .before .before .before .before .before .loop-test .taken in
     let w = c .before .before .before .value .ensures in
-    omega (arith, w .after, put-length w, part-room (lines-parts vs) (c .before .before .before .before .before .before .before .loop .inv) (c .before .before .before .before .before .before .loop-test .taken), value-most x (getD vs x 0) (c .before .before .before .before .before .before .loop-test .taken))
+    omega (arith, w .after, put-length w, part-room (lines-parts vs) (loop .inv) more, value-most (loop .x) (getD vs (loop .x) 0) more)
 
 loop-again : tie.Need-loop-again Inv-loop μ-loop
-loop-again c = one-written (lines-parts (c .before .before .before .before .before .before .before .before .before .before .before .before .args .values .now)) (c .before .before .before .before .before .before .before .before .before .before .loop .inv) (c .before .before .before .before .before .before .before .before .before .loop-test .taken) (put-then (c .before .before .before .before .before .before .value .ensures) (c .before .before .byte .ensures))
+loop-again c =
+    let args = c .before .before .before .before .before .before .before .before .before .before .before .before .args in
+    let loop = c .before .before .before .before .before .before .before .before .before .before .loop in
+    let loop-test = c .before .before .before .before .before .before .before .before .before .loop-test in
+    let value = c .before .before .before .before .before .before .value in
+    one-written (lines-parts (args .values .now)) (loop .inv) (loop-test .taken) (put-then (value .ensures) (c .before .before .byte .ensures))
 
 same-length : tie.Need-same-length Inv-loop μ-loop
 same-length c = put-length (c .before .loop .inv .put)

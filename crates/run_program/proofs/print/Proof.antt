@@ -1,5 +1,5 @@
 -- `print` meets its contract. The invariant: the lent bytes are as many as at first. The measure: the pieces that are left. Assumes nothing.
-use mathlib.Core.Path.{_≡_, refl, sym, _∙_}
+use mathlib.Core.Path.{_≡_, sym, _∙_}
 use native.Mathlib.Omega.{arith}
 use lib.ListN.{length}
 use lib.Seq.{length-take-le}
@@ -30,11 +30,15 @@ slice-aggregate-write c = sym (length-take-le _ _ (hands-within (c .before .befo
 
 loop-less : tie.Need-loop-less Inv-loop μ-loop
 loop-less c =
-    let l = c .before .before .before .before .before .before .before .before .before in
-    hands-fewer (c .before .before .before .before .before .next .ensures) (omega (arith, l .loop .inv)) (sym (c .before .before .before .before .before .before .before .before .over .ensures) ∙ not-true _ (c .before .before .before .before .before .before .before .if1 .taken))
+    let next = c .before .before .before .before .before in
+    let over = next .before .before .before in
+    hands-fewer (next .next .ensures) (omega (arith, over .before .loop .inv)) (sym (over .over .ensures) ∙ not-true _ (next .before .before .if1 .taken))
 
 loop-again : tie.Need-loop-again Inv-loop μ-loop
-loop-again c = hands-length (c .before .before .before .before .before .next .ensures) ∙ c .before .before .before .before .before .before .before .before .before .loop .inv
+loop-again c =
+    let loop = c .before .before .before .before .before .before .before .before .before .loop in
+    let next = c .before .before .before .before .before .next in
+    hands-length (next .ensures) ∙ loop .inv
 
 pub print-spec : {M : Type 1} → statement M
 print-spec =

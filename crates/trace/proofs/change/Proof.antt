@@ -15,11 +15,17 @@ unfolding change
 returns c = rw (eq-eqb _ _ (c .if1 .taken)) (record { text = refl; after = omega arith })
 
 value-requires : tie.Need-value-requires
-value-requires c κs = omega (arith, value-most (c .before .before .before .before .before .before .before .before .before .before .args .x) (getD (c .before .before .before .before .before .before .before .before .before .before .args .new .now) (c .before .before .before .before .before .before .before .before .before .before .args .x) 0) (c .before .before .before .before .before .before .before .before .before .before .pre .0))
+value-requires c κs =
+    let args = c .before .before .before .before .before .before .before .before .before .before .args in
+    let pre = c .before .before .before .before .before .before .before .before .before .before .pre in
+    omega (arith, value-most (args .x) (getD (args .new .now) (args .x) 0) (pre .0))
 
 returns-2 : tie.Need-returns-2
 unfolding change
-returns-2 c = rw (ne-eqb _ _ (c .before .before .before .before .before .before .before .before .before .if1 .left)) (put-then (c .before .before .before .before .before .before .before .spaces .ensures) (c .before .before .value .ensures))
+returns-2 c =
+    let if1 = c .before .before .before .before .before .before .before .before .before .if1 in
+    let spaces = c .before .before .before .before .before .before .before .spaces in
+    rw (ne-eqb _ _ (if1 .left)) (put-then (spaces .ensures) (c .before .before .value .ensures))
 
 pub change-spec : {M : Type 1} → statement M
 change-spec =

@@ -18,10 +18,17 @@ loop-holds : tie.Need-loop-holds Inv-loop μ-loop
 loop-holds c = none-written (changes-parts (c .before .args .old .now) (c .before .args .new .now)) (c .before .pre)
 
 change-requires : tie.Need-change-requires Inv-loop μ-loop
-change-requires c κs = (c .before .loop-test .taken, part-room (changes-parts (c .before .before .before .before .args .old .now) (c .before .before .before .before .args .new .now)) (c .before .before .loop .inv) (c .before .loop-test .taken))
+change-requires c κs =
+    let args = c .before .before .before .before .args in
+    let loop-test = c .before .loop-test in
+    (loop-test .taken, part-room (changes-parts (args .old .now) (args .new .now)) (c .before .before .loop .inv) (loop-test .taken))
 
 loop-again : tie.Need-loop-again Inv-loop μ-loop
-loop-again c = one-written (changes-parts (c .before .before .before .before .before .before .before .args .old .now) (c .before .before .before .before .before .before .before .args .new .now)) (c .before .before .before .before .before .loop .inv) (c .before .before .before .before .loop-test .taken) (c .before .before .change .ensures)
+loop-again c =
+    let args = c .before .before .before .before .before .before .before .args in
+    let loop = c .before .before .before .before .before .loop in
+    let loop-test = c .before .before .before .before .loop-test in
+    one-written (changes-parts (args .old .now) (args .new .now)) (loop .inv) (loop-test .taken) (c .before .before .change .ensures)
 
 same-length : tie.Need-same-length Inv-loop μ-loop
 same-length c = put-length (c .before .loop .inv .put)

@@ -21,13 +21,19 @@ changes-requires c κs =
 byte-requires : tie.Need-byte-requires
 byte-requires c κs =
     let s = c .before .before .before .before .before .before .before .before .before .before in
-    omega (arith, head-most (s .args .k) (s .args .place) (s .args .s) (search needs) (s .pre .1 .1 .0) (s .pre .0) (s .pre .1 .0), parts-most (changes-parts (s .args .old .now) (s .args .new .now)) 32 (omega arith))
+    omega (
+      arith,
+      head-most (s .args .k) (s .args .place) (s .args .s) (search needs) (s .pre .1 .1 .0) (s .pre .0) (s .pre .1 .0),
+      parts-most (changes-parts (s .args .old .now) (s .args .new .now)) 32 (omega arith),
+    )
 
 returns : tie.Need-returns
 unfolding lineText
 returns c =
     let s = c .before .before .before .before .before .before .before .before .before .before .before .before .before in
-    let p = put-then (c .before .before .before .before .before .before .before .before .before .before .head .ensures) (put-then (c .before .before .before .before .before .before .changes .ensures) (c .before .before .byte .ensures)) in
+    let head = c .before .before .before .before .before .before .before .before .before .before .head in
+    let changes = c .before .before .before .before .before .before .changes in
+    let p = put-then (head .ensures) (put-then (changes .ensures) (c .before .before .byte .ensures)) in
     (p, omega (arith, p .after, line-most (s .args .k) (s .args .place) (s .args .s) (s .args .old .now) (s .args .new .now) (search needs) (s .pre .1 .1 .0) (s .pre .0) (s .pre .1 .0)))
 
 pub line-spec : {M : Type 1} → statement M

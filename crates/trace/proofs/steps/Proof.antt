@@ -1,11 +1,9 @@
 -- `steps` meets its contract. The invariant: the lines of the steps so far are written, and the run stands before the place. Assumes nothing.
-use mathlib.Core.Path.{_≡_, refl, ap, _∙_}
+use mathlib.Core.Path.{refl, _∙_}
 use mathlib.Core.Logic.{inl, inr}
-use Prim.Native.Nat.{_+_, _-_, _≤_}
+use Prim.Native.Nat.{_-_}
 use native.Mathlib.Omega.{arith}
-use lib.ListN.{length}
 use Rattle.program.proofs.Held.{held-valid, held-targets}
-use Rattle.trace.specs.Stepping.{line-room}
 use Rattle.trace.proofs.Series.{put-length}
 use Rattle.trace.proofs.Walk.{Going, not-gone, going-more, ends, stopped}
 use borrow.Author.Needs.{needs}
@@ -29,7 +27,9 @@ same-length : tie.Need-same-length Inv-loop μ-loop
 same-length c = c .before .before .loop .inv .same
 
 returns : tie.Need-returns Inv-loop μ-loop
-returns c = stopped (c .before .before .loop .inv) _ refl refl refl refl (inr (omega (arith, c .if1 .taken, c .before .before .loop .inv .fits, c .before .before .loop .inv .same)))
+returns c =
+    let loop = c .before .before .loop in
+    stopped (loop .inv) _ refl refl refl refl (inr (omega (arith, c .if1 .taken, loop .inv .fits, loop .inv .same)))
 
 step-requires : tie.Need-step-requires Inv-loop μ-loop
 step-requires c κs =
@@ -76,7 +76,9 @@ line-requires-2 c κs =
     )
 
 same-length-2 : tie.Need-same-length-2 Inv-loop μ-loop
-same-length-2 c = put-length (c .before .before .line2 .ensures .0) ∙ c .before .before .before .before .before .before .before .before .before .before .before .before .before .loop .inv .same
+same-length-2 c =
+    let loop = c .before .before .before .before .before .before .before .before .before .before .before .before .before .loop in
+    put-length (c .before .before .line2 .ensures .0) ∙ loop .inv .same
 
 returns-2 : tie.Need-returns-2 Inv-loop μ-loop
 returns-2 c =

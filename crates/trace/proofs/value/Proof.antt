@@ -12,14 +12,23 @@ variable-requires : tie.Need-variable-requires
 variable-requires c κs = omega (arith, value-length (c .before .before .args .x) (c .before .before .args .v))
 
 word-requires : tie.Need-word-requires
-word-requires c κs = omega (arith, value-length (c .before .before .before .before .before .before .before .args .x) (c .before .before .before .before .before .before .before .args .v))
+word-requires c κs =
+    let args = c .before .before .before .before .before .before .before .args in
+    omega (arith, value-length (args .x) (args .v))
 
 signed-requires-2 : tie.Need-signed-requires-2
-signed-requires-2 c κs = rw (stored-same (c .before .before .before .before .before .before .before .before .before .before .before .before .args .v) (search needs) (c .signed .ensures)) (omega (arith, value-length (c .before .before .before .before .before .before .before .before .before .before .before .before .args .x) (c .before .before .before .before .before .before .before .before .before .before .before .before .args .v)))
+signed-requires-2 c κs =
+    let args = c .before .before .before .before .before .before .before .before .before .before .before .before .args in
+    rw (stored-same (args .v) (search needs) (c .signed .ensures)) (omega (arith, value-length (args .x) (args .v)))
 
 returns : tie.Need-returns
 unfolding valueText
-returns c = put-then (c .before .before .before .before .before .before .before .before .before .before .before .before .variable .ensures) (put-then (c .before .before .before .before .before .before .before .word .ensures) (rw (stored-same (c .before .before .before .before .before .before .before .before .before .before .before .before .before .before .before .args .v) (search needs) (c .before .before .before .signed .ensures)) at (c .before .before .signed2 .ensures)))
+returns c =
+    let args = c .before .before .before .before .before .before .before .before .before .before .before .before .before .before .before .args in
+    let variable = c .before .before .before .before .before .before .before .before .before .before .before .before .variable in
+    let word = c .before .before .before .before .before .before .before .word in
+    let signed = c .before .before .before .signed in
+    put-then (variable .ensures) (put-then (word .ensures) (rw (stored-same (args .v) (search needs) (signed .ensures)) at (c .before .before .signed2 .ensures)))
 
 pub value-spec : {M : Type 1} → statement M
 value-spec =

@@ -15,10 +15,17 @@ returns-2 : tie.Need-returns-2
 returns-2 c = rw (c .before .before .before .before .if2 .taken) (c .before .before .begin .ensures)
 
 returns-3 : tie.Need-returns-3
-returns-3 c = rw (c .before .before .before .before .if2 .left) (told-hands Begin (c .before .before .before .before .before .enum-told .given .1) refl (c .before .before .before .before .before .before .before .if1 .left) (λ b h. ready-plain _ _ b h) (c .before .before .tell .ensures))
+returns-3 c =
+    let if1 = c .before .before .before .before .before .before .before .if1 in
+    let enum-told = c .before .before .before .before .before .enum-told in
+    let if2 = c .before .before .before .before .if2 in
+    rw (if2 .left) (told-hands Begin (enum-told .given .1) refl (if1 .left) (λ b h. ready-plain _ _ b h) (c .before .before .tell .ensures))
 
 returns-5 : tie.Need-returns-5
-returns-5 c = told-hands Outcome (c .before .before .before .before .enum-told3 .given .1) refl (c .before .before .before .before .before .before .if1 .left) (λ b h. ready-over h) (c .before .before .tell2 .ensures)
+returns-5 c =
+    let if1 = c .before .before .before .before .before .before .if1 in
+    let enum-told3 = c .before .before .before .before .enum-told3 in
+    told-hands Outcome (enum-told3 .given .1) refl (if1 .left) (λ b h. ready-over h) (c .before .before .tell2 .ensures)
 
 returns-6 : tie.Need-returns-6
 returns-6 c = nothing-hands _ _ _ _ (c .before .before .before .before .before .before .args .from) _ refl (inr (ap isOver (c .enum-told4 .given .1)))

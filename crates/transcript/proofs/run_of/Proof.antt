@@ -3,7 +3,6 @@ use Rattle.transcript.proofs.Runs.{run-read}
 use borrow.Author.Needs.{needs}
 use Rattle.transcript.proofs.run_of.Statement.{statement}
 use Rattle.transcript.proofs.run_of.Tie as tie
-use Rattle.start.proofs.read.Reads as read-reads′
 
 returns : tie.Need-returns
 returns c =
@@ -11,7 +10,8 @@ returns c =
     let s = c .before .before .before .before .before .before .read in
     let d = c .before .before .before .before .read2 in
     rw (c .before .before .start-taken .ensures, c .before .program-taken .ensures)
-    (run-read (texts .program .now) (texts .start .now) (d .result .program) (s .result .input) (s .result .budget) (s .result .values) _ (s .result .answer) (d .result .answer) (s .ensures) (d .ensures))
+    (run-read (texts .program .now) (texts .start .now) (d .result .program) (s .result .input) (s .result .budget) (s .result .values) _
+    (s .result .answer) (d .result .answer) (s .ensures) (d .ensures))
 
 pub run-of-spec : {M : Type 1} → statement M
 run-of-spec =

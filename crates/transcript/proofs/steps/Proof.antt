@@ -18,7 +18,8 @@ returns c =
 steps-requires : tie.Need-steps-requires
 steps-requires c κs =
     let run = c .before .before .before .before .before .before .run-of in
-    let f = further _ _ (run .result) (c .before .before .before .before .before .before .before .before .before .before .args .from) (run .result .taken) (run .ensures) (not-false _ (c .before .before .before .if1 .left)) in
+    let start = c .before .before .before .before .before .before .before .before .before .before in
+    let f = further _ _ (run .result) (start .args .from) (run .result .taken) (run .ensures) (not-false _ (c .before .before .before .if1 .left)) in
     (f .runs .taken .program, f .inside)
 
 returns-2 : tie.Need-returns-2

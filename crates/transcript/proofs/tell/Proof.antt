@@ -6,10 +6,14 @@ use Rattle.transcript.proofs.tell.Statement.{statement}
 use Rattle.transcript.proofs.tell.Tie as tie
 
 returns : tie.Need-returns
-returns c = record { stage = Ended; next = c .at-stage .ensures; told = rw (c .before .before .told .given .1) at (c .before .before .before .before .before .before .outcome .ensures) }
+returns c =
+    let outcome = c .before .before .before .before .before .before .outcome in
+    record { stage = Ended; next = c .at-stage .ensures; told = rw (c .before .before .told .given .1) at (outcome .ensures) }
 
 returns-2 : tie.Need-returns-2
-returns-2 c = record { stage = Refused; next = c .at-stage2 .ensures; told = rw (c .before .before .told2 .given .1) at (c .before .before .before .before .before .before .outcome .ensures) }
+returns-2 c =
+    let outcome = c .before .before .before .before .before .before .outcome in
+    record { stage = Refused; next = c .at-stage2 .ensures; told = rw (c .before .before .told2 .given .1) at (outcome .ensures) }
 
 returns-3 : tie.Need-returns-3
 returns-3 c = absurd (omega (arith, (rw (c .enum-told .given .1) at (c .before .before .before .before .outcome .ensures)) .0))
