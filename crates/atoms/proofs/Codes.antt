@@ -16,8 +16,8 @@ use Rattle.language.specs.declared.Expression.the-variants.{Single, Binary}
 use Rattle.language.specs.declared.Statement.{Statement}
 use Rattle.language.specs.declared.Statement.the-variants.{Read, Write, Assign, Branch, Skip}
 use Rattle.atoms.specs.Codes.{operandCode, assignCode, statementCode}
-use Rattle.program.specs.Reading.{Decides}
-use Rattle.program.proofs.Decides.{decides}
+use Rattle.base.specs.Decides.{Decides}
+use Rattle.base.proofs.Decides.{decides}
 use Rattle.atoms.specs.Facts.{row-words, codeWords}
 use Rattle.atoms.specs.declared.Code.{Code}
 

@@ -24,7 +24,7 @@ use Rattle.program.specs.declared.Program.{Program}
 use Rattle.program.proofs.Held.{held, at-held, held-valid, length-held}
 use Rattle.bits.specs.Row.{member, ZeroRows}
 use Rattle.bits.proofs.Rows.{zeros-member}
-use Rattle.bits.proofs.Tests.{split, clash, or-case, or-left, or-right}
+use Rattle.base.proofs.Bools.{split, clash, or-case, or-left, or-right}
 use Rattle.labelling.specs.Labels.{Labelled}
 use Rattle.labelling.proofs.Labels.{label-skip, label-join}
 use Rattle.condition.specs.Truth.{InOperand, In, Defines, Uses}

@@ -15,10 +15,10 @@ use Rattle.language.specs.declared.Operator.{Operator}
 use Rattle.language.specs.declared.Expression.the-variants.{Single, Binary}
 use Rattle.language.specs.declared.Statement.{Statement}
 use Rattle.program.specs.Program.{at}
-use Rattle.program.specs.Reading.{Decides}
-use Rattle.program.proofs.Decides.{decides-same}
+use Rattle.base.specs.Decides.{Decides}
+use Rattle.base.proofs.Decides.{decides-same, decides-iff}
 use Rattle.bits.specs.Row.{member}
-use Rattle.bits.proofs.Tests.{split, clash, and-left, and-right, and-both, not-of-false, false-of-not}
+use Rattle.base.proofs.Bools.{split, clash, and-left, and-right, and-both, not-of-false, false-of-not}
 use Rattle.ctl.specs.Paths.{So}
 use Rattle.labelling.specs.Labels.{Labelled}
 use Rattle.condition.specs.Truth.{InOperand, In, Defines, Holds}
@@ -27,7 +27,6 @@ use Rattle.atoms.specs.Codes.{statementCode}
 use Rattle.atoms.specs.Facts.{defined-rows, code-rows, codeWords, FactsBelow, FactsOf}
 use Rattle.atoms.specs.declared.Code.{Code}
 use Rattle.atoms.proofs.Codes.{words-unique}
-use Rattle.atoms.proofs.Truths.{decides-iff}
 
 -- the same places, and what is said of them in other words
 label-as : (n : ℕ) (y y′ : ℕ → Bool) (X X′ : ℕ → Type 0) → ((j : ℕ) → y′ j ≡ y j) → ((s : ℕ) → s < n → X s ↔ X′ s) → Labelled n y X → Labelled n y′ X′

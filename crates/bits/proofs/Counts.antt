@@ -15,7 +15,7 @@ use lib.Pow.{pow-pos, shr-lt, field, mod-mod-pow}
 use lib.Pow as pow
 use lib.Count.{ones, ones-cat, onesIn, trailingZeros}
 use Rattle.bits.specs.Row.{bit, member, one, countBelow, First}
-use Rattle.bits.proofs.Tests.{split, clash, last-or-below}
+use Rattle.base.proofs.Bools.{split, clash, last-or-below}
 use Rattle.bits.proofs.Words.{bit-zero, lowest-set, lower-clear}
 use Rattle.bits.proofs.Rows.{word-member}
 

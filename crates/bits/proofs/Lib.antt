@@ -1,4 +1,3 @@
-pub mod Tests
 pub mod Words
 pub mod Rows
 pub mod Counts

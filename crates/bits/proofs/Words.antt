@@ -13,7 +13,7 @@ use lib.Bits.{bitAnd, bitOr, bitXor, and-shr, or-shr, xor-shr, and-mod, or-mod, 
 use lib.Count.{trailingZeros, under}
 use borrow.Author.Tests.{eq-eqb, ne-eqb, lt-ltb, le-ltb}
 use Rattle.bits.specs.Row.{bit}
-use Rattle.bits.proofs.Tests.{clash}
+use Rattle.base.proofs.Bools.{clash}
 
 pub bit-zero : (b : ℕ) → bit 0 b ≡ false
 unfolding bit

@@ -8,11 +8,11 @@ use native.Mathlib.Omega.{arith}
 use lib.ListN.{length, getD, drop, length-append, length-drop, List·getD-append}
 use lib.Seq.{getD-append-seam}
 use borrow.Author.Tests.{ltb-true, ltb-false}
-use Rattle.language.specs.Reading.{LineRead}
+use Rattle.statement_reader.specs.Reading.{LineRead}
 use Rattle.language.specs.declared.Statement.{Statement}
 use Rattle.language.specs.declared.Statement.the-variants.{Skip}
-use Rattle.language.specs.declared.read.StatementRead.{StatementRead}
-use Rattle.language.specs.declared.read.StatementRead.the-variants.{Found, Misspelled}
+use Rattle.statement_reader.specs.declared.StatementRead.{StatementRead}
+use Rattle.statement_reader.specs.declared.StatementRead.the-variants.{Found, Misspelled}
 use Rattle.program.specs.declared.Refusal.{Refusal}
 use Rattle.program.specs.declared.Refusal.the-variants as refusal
 use Rattle.program.specs.Program.{text, AllValid, Spells, at}

@@ -4,10 +4,10 @@ use mathlib.Core.List.{List, [], _∷_, _++_, append-nil}
 use Prim.Native.Nat.{ℕ, _+_, _-_, _≤_, _<_}
 use native.Mathlib.Omega.{arith}
 use lib.ListN.{length, drop, length-append, drop-of-length-le}
-use Rattle.language.specs.Reading.{LineRead}
+use Rattle.statement_reader.specs.Reading.{LineRead}
 use Rattle.language.specs.declared.Statement.{Statement}
-use Rattle.language.specs.declared.read.StatementRead.{StatementRead}
-use Rattle.language.specs.declared.read.StatementRead.the-variants.{Found, Misspelled}
+use Rattle.statement_reader.specs.declared.StatementRead.{StatementRead}
+use Rattle.statement_reader.specs.declared.StatementRead.the-variants.{Found, Misspelled}
 use Rattle.program.specs.Program.{text, AllValid, Spells}
 use Rattle.program.proofs.Texts.{no-lines, line-shorter, one-more, one-more-valid}
 

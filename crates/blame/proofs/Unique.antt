@@ -9,7 +9,7 @@ use lib.ListN.{length}
 use borrow.Author.Tests.{ltb-true, ltb-false}
 use Rattle.language.specs.Spelling.{spell, Valid}
 use Rattle.language.specs.declared.Statement.{Statement}
-use Rattle.language.proofs.Lines.{line-unique}
+use Rattle.statement_reader.proofs.Lines.{line-unique}
 use Rattle.program.specs.Program.{text, AllValid}
 use Rattle.program.specs.declared.Refusal.{Refusal}
 use Rattle.program.specs.declared.Refusal.the-variants.{Misspelled, LineCount, Placement, Target}

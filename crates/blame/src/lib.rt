@@ -4,12 +4,12 @@ ghost use mathlib.Core.List.{List};
 ghost use lib.ListN.{length};
 ghost use Rattle.language.specs.declared.Statement.{Statement as Meant};
 ghost use Rattle.program.specs.Program.{Spells};
-ghost use Rattle.program.specs.Reading.{Decides};
+ghost use Rattle.base.specs.Decides.{Decides};
 ghost use Rattle.blame.specs.Blame.{lineAt, Rule, LineTold, NumberTold};
 ghost use Rattle.blame.specs.Counting.{CountTold};
 use language::Statement;
-use language::read::StatementRead;
 use program::Refusal;
+use statement_reader::StatementRead;
 
 // Lines beyond are all given this number.
 const MOST_LINE: usize = 4294967295;
@@ -37,7 +37,7 @@ fn count_lines(s: &[u8]) -> Counted
     let mut n: usize = 0;
     let mut at: usize = 0;
     while at < s.len() {
-        let StatementRead::Found(_, k) = language::read::line(s, at) else {
+        let StatementRead::Found(_, k) = statement_reader::line(s, at) else {
             return Counted::Misspelled(line_at(n));
         };
         n += 1;
@@ -65,7 +65,7 @@ fn first_broken(text: &[u8], r: Refusal, n: usize) -> u32
     let mut s: usize = 0;
     let mut at: usize = 0;
     while at < text.len() {
-        let StatementRead::Found(e, k) = language::read::line(text, at) else {
+        let StatementRead::Found(e, k) = statement_reader::line(text, at) else {
             return line_at(s);
         };
         if !keeps(r, e, s, n) {

@@ -11,15 +11,15 @@ use Rattle.language.specs.declared.Expression.{Expression}
 use Rattle.language.specs.declared.Expression.the-variants.{Single, Binary}
 use Rattle.language.specs.declared.Statement.{Statement}
 use Rattle.language.specs.declared.Statement.the-variants.{Read, Write, Assign, Branch, Skip}
-use Rattle.program.specs.Reading.{Decides}
-use Rattle.program.proofs.Decides.{decides, decides-eqb}
-use Rattle.bits.proofs.Tests.{clash, and-left, and-right, and-both}
+use Rattle.base.specs.Decides.{Decides}
+use Rattle.base.proofs.Decides.{decides, decides-eqb, decides-either}
+use Rattle.base.proofs.Bools.{clash, and-left, and-right, and-both}
 use Rattle.condition.specs.declared.Atom.{Atom}
 use Rattle.condition.specs.declared.Atom.the-variants.{True, False, Entry, Exit, Node, Stmt, Def, Use, Trans}
 use Rattle.condition.specs.Truth.{InOperand, In, Defines, Uses, HoldsAt}
 use Rattle.atoms.specs.Codes.{statementCode}
 use Rattle.atoms.proofs.Codes.{code-unique}
-use Rattle.atoms.proofs.Truths.{decides-either, decides-none}
+use Rattle.atoms.proofs.Truths.{decides-none}
 
 abbrev in-operand : ℕ → Operand → Bool
 in-operand x (Variable y) = eqb x y

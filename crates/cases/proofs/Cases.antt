@@ -8,9 +8,10 @@ use Prim.Native.Nat.{ℕ, zero, suc}
 use native.Mathlib.Omega.{arith}
 use lib.ListN.{length, drop}
 use Rattle.language.specs.Spelling.{variables}
-use Rattle.language.specs.Parsing.{found}
+use Rattle.tokens.specs.Parsing.{found}
 use Rattle.machine.specs.Machine.{after}
-use Rattle.cases.specs.Cases.{bytes, lines, P-text, Case, table, ends, spent, check, cases, Is, Each}
+use Rattle.base.specs.Bytes.{bytes}
+use Rattle.cases.specs.Cases.{lines, P-text, Case, table, ends, spent, check, cases, Is, Each}
 use Rattle.cases.proofs.Taken.{P-program, P-taken}
 use Rattle.cases.proofs.Words.{right, right-tabulates}
 use Rattle.cases.proofs.Runs.{Ending, Standing, ending-answers, standing-answers}

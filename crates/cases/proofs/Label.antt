@@ -8,7 +8,7 @@ use Prim.Native.Nat.{ℕ, _<_}
 use lib.ListN.{length}
 use Rattle.language.specs.declared.Statement.{Statement}
 use Rattle.program.specs.Program.{at, WellFormed}
-use Rattle.bits.proofs.Tests.{split, clash, and-left, and-right, and-both, or-case, or-left, or-right, not-of-false, false-of-not}
+use Rattle.base.proofs.Bools.{split, clash, and-left, and-right, and-both, or-case, or-left, or-right, not-of-false, false-of-not}
 use Rattle.ctl.specs.Paths.{Quant, Paths, So}
 use Rattle.ctl.specs.Tables.{other}
 use Rattle.ctl.proofs.Least.{every, any, tests, test, tests-at, grow, done, least, onto, onto-iff, until-rule, until-least}
@@ -21,7 +21,7 @@ use Rattle.flow.specs.Flow.{some, Direction, steps}
 use Rattle.flow.proofs.Model.{steps-graph}
 use Rattle.condition.specs.Condition.{PathUnary, next, finally, globally, PathBinary, until, weak, Unary, negation, Binary, conjunction, disjunction, Condition, atom, unary, binary}
 use Rattle.condition.specs.Truth.{SaidOne, SaidTwo, Sat}
-use Rattle.atoms.proofs.Truths.{decides-iff}
+use Rattle.base.proofs.Decides.{decides-iff}
 use Rattle.cases.proofs.Atoms.{holds, holds-decides}
 
 -- a set made by a test has the places at which the test holds

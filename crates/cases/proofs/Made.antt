@@ -12,7 +12,7 @@ use borrow.Author.Tests.{eqb-true, eq-eqb}
 use Rattle.language.specs.declared.Statement.{Statement}
 use Rattle.language.specs.declared.Statement.the-variants.{Skip}
 use Rattle.program.specs.Program.{at}
-use Rattle.bits.proofs.Tests.{clash, last-or-below}
+use Rattle.base.proofs.Bools.{clash, last-or-below}
 use Rattle.marks.specs.declared.Mark.{Mark}
 use Rattle.marks.specs.Marks.{names}
 use Rattle.rewriting.specs.Rewriting.{makes}

@@ -4,8 +4,9 @@ use mathlib.Core.List.{List, [], _∷_, _++_, append-assoc, append-nil}
 use Prim.Native.Nat.{ℕ, zero, suc, _≤_}
 use native.Mathlib.Omega.{arith}
 use lib.ListN.{length}
-use Rattle.language.specs.Parsing.{Parsed, found, after, afterOr, parseWord, digitOf, parseDigits, parseZero, parseNumber, parseVariable, parseOperand, parseOperator, parseExpression}
-use Rattle.language.proofs.Parse.{after-inv, afterOr-inv}
+use Rattle.tokens.specs.Parsing.{Parsed, found, after, afterOr, parseWord, digitOf, parseDigits, parseZero, parseNumber, parseVariable}
+use Rattle.statement_reader.specs.Parsing.{parseOperand, parseOperator, parseExpression}
+use Rattle.tokens.proofs.Parse.{after-inv, afterOr-inv}
 use Rattle.marks.specs.declared.Mark.{Mark}
 use Rattle.marks.specs.Marks.{spellMark, text, AllValid}
 use Rattle.marks.specs.Parsing.{parseFront, parseTail, parseMark, parseMarkLine}

@@ -5,8 +5,8 @@ use Prim.Native.Nat.{ℕ}
 use lib.ListN.{length}
 use Rattle.language.specs.declared.Statement.{Statement}
 use Rattle.language.specs.Spelling.{digitsBy, digits, spellVariable, spellOperand, spellExpression, spell}
-use Rattle.language.specs.Parsing.{Parsed, found, after}
-use Rattle.language.proofs.Parse.{after-inv}
+use Rattle.tokens.specs.Parsing.{Parsed, found, after}
+use Rattle.tokens.proofs.Parse.{after-inv}
 use Rattle.program.specs.Program.{text, WellFormed, Taken}
 use Rattle.bits.specs.Row.{countBelow}
 use Rattle.marks.specs.declared.Mark.{Mark}

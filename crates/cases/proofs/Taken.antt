@@ -11,7 +11,7 @@ use Rattle.language.specs.declared.Statement.{Statement}
 use Rattle.language.specs.declared.Statement.the-variants.{Read, Write, Assign, Branch}
 use Rattle.language.specs.Spelling.{digitsBy, digits, spellVariable, spellOperand, spellExpression, spell}
 use Rattle.program.specs.Program.{text, at, InPlace, Targets, WellFormed, Taken}
-use Rattle.bits.proofs.Tests.{last-or-below}
+use Rattle.base.proofs.Bools.{last-or-below}
 use Rattle.cases.specs.Cases.{P-text}
 
 unfoldable pub P-program : List Statement

@@ -13,9 +13,9 @@ use Rattle.language.specs.declared.Operand.the-variants.{Variable, Constant}
 use Rattle.language.specs.declared.Statement.{Statement}
 use Rattle.language.specs.declared.Statement.the-variants.{Read, Write, Assign, Branch, Skip}
 use Rattle.program.specs.Program.{at, WellFormed}
-use Rattle.program.specs.Reading.{Decides}
-use Rattle.program.proofs.Decides.{decides, decides-eqb}
-use Rattle.bits.proofs.Tests.{clash}
+use Rattle.base.specs.Decides.{Decides}
+use Rattle.base.proofs.Decides.{decides, decides-eqb}
+use Rattle.base.proofs.Bools.{clash}
 use Rattle.ctl.proofs.Least.{test}
 use Rattle.condition.specs.declared.Atom.the-variants.{Stmt, Use}
 use Rattle.condition.specs.Truth.{Sat}

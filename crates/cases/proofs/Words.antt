@@ -8,10 +8,11 @@ use lib.Dec.{leb, ltb}
 use lib.ListN.{length, getD}
 use borrow.Author.Tests.{ltb-true, leb-true, lt-ltb}
 use Rattle.language.specs.declared.Statement.{Statement}
-use Rattle.language.specs.Parsing.{Parsed, found, misspelled, parseWord, digitOf, parseDigits, parseZero, parseNumber, parseVariable, parseOperand, parseOperator, parseExpression, parseRead, parseWrite, parseSkip, parseAssign, parseBranch, parseAssignOrBranch, byFirst, parseStatement}
+use Rattle.tokens.specs.Parsing.{Parsed, found, misspelled, parseWord, digitOf, parseDigits, parseZero, parseNumber, parseVariable}
+use Rattle.statement_reader.specs.Parsing.{parseOperand, parseOperator, parseExpression, parseRead, parseWrite, parseSkip, parseAssign, parseBranch, parseAssignOrBranch, byFirst, parseStatement}
 use Rattle.program.specs.Program.{WellFormed}
 use Rattle.bits.specs.Row.{bit}
-use Rattle.bits.proofs.Tests.{clash, and-left, and-right, and-both}
+use Rattle.base.proofs.Bools.{clash, and-left, and-right, and-both}
 use Rattle.ctl.proofs.Least.{every, every-at, test}
 use Rattle.condition.specs.declared.Atom.the-variants.{True}
 use Rattle.condition.specs.Condition.{Condition, atom, spellCondition, parts}

@@ -4,9 +4,8 @@ use mathlib.Core.List.{List, [], _∷_, _++_}
 use mathlib.Core.Bool.{true}
 use mathlib.Core.Logic.{_↔_}
 use Prim.Native.Nat.{ℕ, _^_, _≤_, _<_}
-use Prim.Native.Char.{code}
 use Prim.Native.String.{String}
-use Prim.Native.String as string
+use Rattle.base.specs.Bytes.{bytes}
 use lib.IntN.{ℤ, pos}
 use lib.ListN.{length, getD, drop}
 use Rattle.language.specs.Spelling.{variables}
@@ -20,11 +19,6 @@ use Rattle.condition.specs.Reading as condition
 use Rattle.condition.specs.Truth.{Sat}
 use Rattle.table.specs.Table.{partAt}
 use Rattle.report.specs.Report.{PrintsReport}
-
--- the bytes of an ASCII text
-unfoldable pub bytes : String → List ℕ
-bytes string.[] = []
-bytes (string._∷_ c s) = code c ∷ bytes s
 
 -- "each line ended by byte 10"
 unfoldable pub lines : List String → List ℕ

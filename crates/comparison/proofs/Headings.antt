@@ -5,7 +5,7 @@ use mathlib.Core.List.{List}
 use Prim.Native.Nat.{ℕ, _+_, _≤_, _<_, _^_}
 use native.Mathlib.Omega.{arith}
 use lib.ListN.{length, take}
-use Rattle.language.specs.Writing.{Put}
+use Rattle.statement_writer.specs.Writing.{Put}
 use Rattle.language.proofs.Lengths.{digits-length}
 use Rattle.rewrites.specs.Run.{most-steps, budget-number}
 use Rattle.rewrites.specs.Judge.{Room, Lent, JudgeAnswers}

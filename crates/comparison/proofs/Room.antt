@@ -8,10 +8,10 @@ use lib.Dec.{eqb}
 use lib.ListN.{length, getD, length-append}
 use mir.Syntax.{w32}
 use mir.Val.{toZ}
-use Rattle.language.specs.Spelling.{pickList, spellVariable, spell, Valid}
+use Rattle.language.specs.Spelling.{spellVariable, spell, Valid}
+use Rattle.base.specs.Pick.{pick}
 use Rattle.language.specs.declared.Statement.{Statement}
-use Rattle.language.proofs.Lengths.{digits-length}
-use Rattle.language.proofs.Puts.{variable-length}
+use Rattle.language.proofs.Lengths.{digits-length, variable-length}
 use Rattle.program.specs.Program.{most, Targets}
 use Rattle.desk.specs.Columns.{padded, signedDigits}
 use Rattle.trace.specs.Trace.{stepHead}
@@ -31,7 +31,7 @@ difference-most : (x : ℕ) (vs ws : List ℕ) → x < 32 → length (difference
 unfolding difference
 difference-most x vs ws h = go (eqb (getD vs x 0) (getD ws x 0))
   where
-    go : (b : Bool) → length (pickList b [] (pairText x (getD vs x 0) (getD ws x 0))) ≤ pair-room
+    go : (b : Bool) → length (pick b [] (pairText x (getD vs x 0) (getD ws x 0))) ≤ pair-room
     go true = omega arith
     go false = pair-most x (getD vs x 0) (getD ws x 0) h
 

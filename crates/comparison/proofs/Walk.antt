@@ -8,9 +8,9 @@ use native.Mathlib.Omega.{arith}
 use native.Mathlib.Numerals.{add-one}
 use lib.ListN.{length, take}
 use Rattle.language.specs.Spelling.{variables}
-use Rattle.language.specs.Writing.{Put}
+use Rattle.statement_writer.specs.Writing.{Put}
 use Rattle.language.specs.declared.Statement.{Statement}
-use Rattle.language.proofs.Puts.{put-then, put-front}
+use Rattle.statement_writer.proofs.Puts.{put-then, put-front}
 use Rattle.program.specs.Program.{WellFormed}
 use Rattle.program.specs.Reading.{statements}
 use Rattle.program.specs.declared.Program.{Program}

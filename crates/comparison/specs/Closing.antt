@@ -4,12 +4,12 @@ use mathlib.Core.List.{List, [], _∷_, _++_}
 use Prim.Native.Nat.{ℕ, _≤_}
 use lib.ListN.{length}
 use Rattle.language.specs.Spelling.{digits}
-use Rattle.language.specs.Writing.{Put}
+use Rattle.statement_writer.specs.Writing.{Put}
 use Rattle.rewrites.specs.Run.{RunAnswers}
 use Rattle.rewrites.specs.Demand.{RunsAlike}
 use Rattle.rewrites.specs.declared.RunAnswer.{RunAnswer}
 use Rattle.rewrites.specs.declared.RunAnswer.the-variants.{Refused, Ended, Spent}
-use Rattle.desk.specs.Refusals.{bytes}
+use Rattle.base.specs.Bytes.{bytes}
 use Rattle.outcome.specs.Outcome.{endedText}
 
 -- `ended 9 steps 12` or `spent at 4`; a run that is refused has no line

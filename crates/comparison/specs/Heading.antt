@@ -4,7 +4,7 @@ use mathlib.Core.Logic.{_⊎_}
 use mathlib.Core.List.{List}
 use Prim.Native.Nat.{ℕ, _≤_, _<_}
 use lib.ListN.{length}
-use Rattle.language.specs.Writing.{Put}
+use Rattle.statement_writer.specs.Writing.{Put}
 use Rattle.rewrites.specs.Run.{most-steps, budget-number}
 use Rattle.rewrites.specs.Judge.{text-bytes, Lent, JudgeFinished}
 use Rattle.report.specs.Report.{countsLine, Refuses}

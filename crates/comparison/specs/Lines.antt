@@ -5,7 +5,8 @@ use lib.Dec.{eqb}
 use lib.ListN.{getD}
 use mir.Syntax.{w32}
 use mir.Val.{toZ}
-use Rattle.language.specs.Spelling.{variables, pickList, spellVariable, spell}
+use Rattle.language.specs.Spelling.{variables, spellVariable, spell}
+use Rattle.base.specs.Pick.{pick}
 use Rattle.language.specs.declared.Statement.{Statement}
 use Rattle.program.specs.Program.{at}
 use Rattle.machine.specs.Machine.{State, before, ended, perform, after}
@@ -18,7 +19,7 @@ pairText x v w = spaces 2 ++ (spellVariable x ++ (32 ∷ (signedDigits (toZ w32 
 
 -- where its values differ
 unfoldable pub difference : ℕ → List ℕ → List ℕ → List ℕ
-difference x vs ws = pickList (eqb (getD vs x 0) (getD ws x 0)) [] (pairText x (getD vs x 0) (getD ws x 0))
+difference x vs ws = pick (eqb (getD vs x 0) (getD ws x 0)) [] (pairText x (getD vs x 0) (getD ws x 0))
 
 -- the same for each of the first n variables, in order
 unfoldable pub differences : ℕ → List ℕ → List ℕ → List ℕ

@@ -1,7 +1,7 @@
 // What is printed after the steps: the outcome of each run, and that they agree.
 ghost use Prim.Native.Nat.{_≤_, _+_};
 ghost use lib.ListN.{length};
-ghost use Rattle.language.specs.Writing.{Put};
+ghost use Rattle.statement_writer.specs.Writing.{Put};
 ghost use Rattle.comparison.specs.Closing.{answerLine, answer-room, closing-room, RunAlike, Closes};
 use machine::VALUES;
 use rewrites::RunAnswer;
@@ -15,9 +15,9 @@ fn answer(out: &mut [u8], at: usize, a: RunAnswer) -> usize
         RunAnswer::Refused(_) => at,
         RunAnswer::Ended(v, k) => outcome::ended(out, at, v, k),
         RunAnswer::Spent(n) => {
-            let k1 = language::write::word(out, at, b"spent at ");
-            let k2 = language::write::number(out, k1, n);
-            language::write::byte(out, k2, 10)
+            let k1 = statement_writer::word(out, at, b"spent at ");
+            let k2 = statement_writer::number(out, k1, n);
+            statement_writer::byte(out, k2, 10)
         }
     }
 }
@@ -39,9 +39,9 @@ pub fn write(
     let a = one.answer;
     let two = rewrites::run(new, values, input, budget);
     let b = two.answer;
-    let k1 = language::write::word(out, 0, b"given ");
+    let k1 = statement_writer::word(out, 0, b"given ");
     let k2 = answer(out, k1, a);
-    let k3 = language::write::word(out, k2, b"rewritten ");
+    let k3 = statement_writer::word(out, k2, b"rewritten ");
     let k4 = answer(out, k3, b);
-    language::write::word(out, k4, b"statements and outcome agree\n")
+    statement_writer::word(out, k4, b"statements and outcome agree\n")
 }

@@ -2,7 +2,7 @@
 ghost use mathlib.Core.Path.{_≡_};
 ghost use Prim.Native.Nat.{_≤_};
 ghost use lib.ListN.{length};
-ghost use Rattle.language.specs.Writing.{Put};
+ghost use Rattle.statement_writer.specs.Writing.{Put};
 ghost use Rattle.report.specs.Report.{countsLine};
 ghost use Rattle.rewrites.specs.Judge.{verdict-bytes};
 ghost use Rattle.comparison.specs.Heading.{Heads};
@@ -27,11 +27,11 @@ fn counts(out: &mut [u8], count: u32, accepted: u32) -> usize
     requires { ⌜ length (countsLine count accepted) ≤ length (now out) ⌝ }
     ensures { λ r. ⌜ Put (now (out .entry)) 0 (countsLine count accepted) (now (out .exit)) r ⌝ }
 {
-    let k1 = language::write::word(out, 0, b"marks ");
-    let k2 = language::write::number(out, k1, count);
-    let k3 = language::write::word(out, k2, b" accepted ");
-    let k4 = language::write::number(out, k3, accepted);
-    language::write::byte(out, k4, 10)
+    let k1 = statement_writer::word(out, 0, b"marks ");
+    let k2 = statement_writer::number(out, k1, count);
+    let k3 = statement_writer::word(out, k2, b" accepted ");
+    let k4 = statement_writer::number(out, k3, accepted);
+    statement_writer::byte(out, k4, 10)
 }
 
 fn verdict_buffer() -> [u8; VERDICT_BYTES]

@@ -3,7 +3,7 @@ ghost use mathlib.Core.Path.{_≡_};
 ghost use Prim.Native.Nat.{_≤_, _<_, _+_};
 ghost use lib.ListN.{length};
 ghost use Rattle.language.specs.Spelling.{variables, Valid};
-ghost use Rattle.language.specs.Writing.{Put};
+ghost use Rattle.statement_writer.specs.Writing.{Put};
 ghost use Rattle.program.specs.Program.{most, Targets, WellFormed};
 ghost use Rattle.program.specs.Reading.{statements};
 ghost use Rattle.comparison.specs.Lines.{pairText, difference as differenceBytes, differences as differencesBytes, pairLine};
@@ -29,10 +29,10 @@ fn pair(out: &mut [u8], at: usize, x: u8, v: u32, w: u32) -> usize
     ensures { λ r. ⌜ Put (now (out .entry)) at (pairText x v w) (now (out .exit)) r ⌝ }
 {
     let k1 = desk::columns::spaces(out, at, 2);
-    let k2 = language::write::variable(out, k1, x);
-    let k3 = language::write::byte(out, k2, b' ');
+    let k2 = statement_writer::variable(out, k1, x);
+    let k3 = statement_writer::byte(out, k2, b' ');
     let k4 = desk::columns::signed(out, k3, machine::signed(v));
-    let k5 = language::write::byte(out, k4, b' ');
+    let k5 = statement_writer::byte(out, k4, b' ');
     desk::columns::signed(out, k5, machine::signed(w))
 }
 
@@ -81,7 +81,7 @@ fn line(
     let k2 = desk::columns::spaces(out, k1, 2);
     let k3 = desk::columns::statement(out, k2, TEXT_COLUMNS, t);
     let k4 = differences(out, k3, a, b);
-    language::write::byte(out, k4, 10)
+    statement_writer::byte(out, k4, 10)
 }
 
 // The bytes written, the place and the steps done, and whether the runs have ended; then the place is that of the statement that ended them.

@@ -3,7 +3,7 @@ use mathlib.Core.Path.{_≡_, refl, sym}
 use mathlib.Core.List.{List, [], _∷_}
 use Prim.Native.Nat.{ℕ, _+_}
 use native.Mathlib.Omega.{arith}
-use Rattle.language.specs.Parsing.{Parsed, found, misspelled, after, parseWord}
+use Rattle.tokens.specs.Parsing.{Parsed, found, misspelled, after, parseWord}
 use Rattle.ctl.specs.Paths.{Quant, E, A}
 use Rattle.flow.specs.Flow.{Direction, forward, backward}
 use Rattle.condition.specs.Condition.{PathUnary, next, finally, globally, PathBinary, until, weak, Unary, Binary}

@@ -8,9 +8,9 @@ use native.Mathlib.Omega.{arith}
 use native.Mathlib.Nat.{le-refl}
 use lib.ListN.{length, drop, set, getD, length-append, length-drop}
 use lib.Seq.{sets, length-sets}
-use Rattle.language.specs.Parsing.{Parsed, found, misspelled, after, parseWord}
-use Rattle.language.proofs.Steps.{at-end, at-byte}
-use Rattle.language.proofs.Puts.{sets-append}
+use Rattle.tokens.specs.Parsing.{Parsed, found, misspelled, after, parseWord}
+use Rattle.tokens.proofs.Steps.{at-end, at-byte}
+use Rattle.statement_writer.proofs.Puts.{sets-append}
 use Rattle.condition.specs.declared.Atom.{Atom}
 use Rattle.condition.specs.declared.read.Bracket.{Bracket}
 use Rattle.condition.specs.declared.read.Bracket.the-variants.{Round, Some, All}

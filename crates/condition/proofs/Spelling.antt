@@ -8,10 +8,12 @@ use lib.Dec.{leb, ltb, eqb}
 use lib.ListN.{length, getD, length-append}
 use borrow.Author.Tests.{eqb-true, eq-eqb}
 use Rattle.language.specs.Spelling.{digits, spellVariable, spellExpression, spell}
-use Rattle.language.specs.Parsing.{Parsed, found, misspelled, after, pick, parseWord, digitOf, parseNumber, parseVariable, parseExpression, parseStatement}
-use Rattle.language.proofs.Parse.{after-inv, afterOr-inv, skip-sound}
-use Rattle.language.proofs.Numbers.{number-sound, number-complete}
-use Rattle.language.proofs.Lines.{variable-sound, variable-complete, expression-sound, expression-complete, statement-sound, statement-complete}
+use Rattle.tokens.specs.Parsing.{Parsed, found, misspelled, after, parseWord, digitOf, parseNumber, parseVariable}
+use Rattle.base.specs.Pick.{pick}
+use Rattle.statement_reader.specs.Parsing.{parseExpression, parseStatement}
+use Rattle.tokens.proofs.Parse.{after-inv, afterOr-inv, skip-sound}
+use Rattle.tokens.proofs.Numbers.{number-sound, number-complete, variable-sound, variable-complete}
+use Rattle.statement_reader.proofs.Lines.{expression-sound, expression-complete, statement-sound, statement-complete}
 use Rattle.ctl.specs.Paths.{Quant, E, A}
 use Rattle.flow.specs.Flow.{forward, backward}
 use Rattle.condition.specs.declared.Atom.{Atom}

@@ -7,7 +7,9 @@ use Prim.Native.Nat.{ℕ, zero, suc, _+_, _-_, _≤_}
 use lib.Dec.{leb, ltb, eqb}
 use lib.ListN.{length, drop, getD}
 use lib.Seq.{sets}
-use Rattle.language.specs.Parsing.{Parsed, found, misspelled, after, afterOr, pick, parseWord, parseStatementNumber, parseVariable, parseExpression, parseStatement}
+use Rattle.tokens.specs.Parsing.{Parsed, found, misspelled, after, afterOr, parseWord, parseStatementNumber, parseVariable}
+use Rattle.base.specs.Pick.{pick}
+use Rattle.statement_reader.specs.Parsing.{parseExpression, parseStatement}
 use Rattle.ctl.specs.Paths.{Quant, E, A}
 use Rattle.flow.specs.Flow.{forward, backward}
 use Rattle.condition.specs.Condition.{next, finally, globally, until, weak, Unary, negation, Binary, conjunction, disjunction, Condition, atom, unary, binary, prefix, middle, parts, true-word, false-word, entry-word, exit-word, node-word, stmt-word, def-word, use-word, trans-word}

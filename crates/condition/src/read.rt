@@ -5,7 +5,7 @@ ghost use mathlib.Core.Path.{_≡_};
 ghost use Prim.Native.Nat.{_≤_, _<_};
 ghost use lib.ListN.{length, drop, set, replicate};
 ghost use Rattle.ctl.specs.Paths.{Quant};
-ghost use Rattle.language.specs.Parsing.{parsedWord, wordEnd, parseWord};
+ghost use Rattle.tokens.specs.Parsing.{parsedWord, wordEnd, parseWord};
 ghost use Rattle.condition.specs.Condition.{prefix, middle};
 ghost use Rattle.condition.specs.Reading.{most-bytes, most-parts, ConditionRead as WholeRead, word, unaryCode, binaryCode};
 ghost use Rattle.condition.specs.Parsing.{parsedAtom, atomEnd, parseEnded, parseNode, parseStmt, parseDef, parseUse, parseTrans, parseTrueOrTrans, parseEntryOrExit, parseAtom, parsedOperator, operatorEnd, coded, allOf, parseLetter, unaries, parsePrefix, binaries, opened, openingOf, closingOf, parsedBracket, bracketEnd, parseOpening, parseMiddle, parseLeaf, parseUnary, parseBinary, parseBracketed, conditionEnd, Tells, Reads, ReadsBy, TellsWhole, Ready};
@@ -15,11 +15,11 @@ use crate::MOST_BYTES;
 use crate::MOST_PARTS;
 use crate::Reading;
 use crate::Refusal;
-use language::read::ExpressionRead;
-use language::read::NumberRead;
-use language::read::StatementRead;
-use language::read::VariableRead;
-use language::read::WordRead;
+use statement_reader::ExpressionRead;
+use statement_reader::StatementRead;
+use tokens::NumberRead;
+use tokens::VariableRead;
+use tokens::WordRead;
 
 pub enum AtomRead {
     Found(Atom, usize),
@@ -55,7 +55,7 @@ fn ended(s: &[u8], at: usize, w: &[u8], a: Atom) -> AtomRead
     ensures { λ r. ⌜ parsedAtom (now (s .entry)) r ≡ parseEnded (now (w .entry)) a (drop at (now (s .entry))) ⌝ }
     ensures { λ r. ⌜ (0 < length (now (w .entry)) → atomEnd r ≤ length (now (s .entry))) ⌝ }
 {
-    let WordRead::Found(k) = language::read::word(s, at, w) else {
+    let WordRead::Found(k) = tokens::word(s, at, w) else {
         return AtomRead::Misspelled;
     };
     AtomRead::Found(a, k)
@@ -66,10 +66,10 @@ fn node(s: &[u8], at: usize) -> AtomRead
     ensures { λ r. ⌜ parsedAtom (now (s .entry)) r ≡ parseNode (drop at (now (s .entry))) ⌝ }
     ensures { λ r. ⌜ atomEnd r ≤ length (now (s .entry)) ⌝ }
 {
-    let WordRead::Found(k) = language::read::word(s, at, b"node(") else {
+    let WordRead::Found(k) = tokens::word(s, at, b"node(") else {
         return AtomRead::Misspelled;
     };
-    let NumberRead::Found(n, k1) = language::read::statement_number(s, k) else {
+    let NumberRead::Found(n, k1) = tokens::statement_number(s, k) else {
         return AtomRead::Misspelled;
     };
     ended(s, k1, b")", Atom::Node(n))
@@ -80,10 +80,10 @@ fn stmt(s: &[u8], at: usize) -> AtomRead
     ensures { λ r. ⌜ parsedAtom (now (s .entry)) r ≡ parseStmt (drop at (now (s .entry))) ⌝ }
     ensures { λ r. ⌜ atomEnd r ≤ length (now (s .entry)) ⌝ }
 {
-    let WordRead::Found(k) = language::read::word(s, at, b"stmt(") else {
+    let WordRead::Found(k) = tokens::word(s, at, b"stmt(") else {
         return AtomRead::Misspelled;
     };
-    let StatementRead::Found(i, k1) = language::read::statement(s, k) else {
+    let StatementRead::Found(i, k1) = statement_reader::statement(s, k) else {
         return AtomRead::Misspelled;
     };
     ended(s, k1, b")", Atom::Stmt(i))
@@ -94,10 +94,10 @@ fn def(s: &[u8], at: usize) -> AtomRead
     ensures { λ r. ⌜ parsedAtom (now (s .entry)) r ≡ parseDef (drop at (now (s .entry))) ⌝ }
     ensures { λ r. ⌜ atomEnd r ≤ length (now (s .entry)) ⌝ }
 {
-    let WordRead::Found(k) = language::read::word(s, at, b"def(") else {
+    let WordRead::Found(k) = tokens::word(s, at, b"def(") else {
         return AtomRead::Misspelled;
     };
-    let VariableRead::Found(x, k1) = language::read::variable(s, k) else {
+    let VariableRead::Found(x, k1) = tokens::variable(s, k) else {
         return AtomRead::Misspelled;
     };
     ended(s, k1, b")", Atom::Def(x))
@@ -108,10 +108,10 @@ fn used(s: &[u8], at: usize) -> AtomRead
     ensures { λ r. ⌜ parsedAtom (now (s .entry)) r ≡ parseUse (drop at (now (s .entry))) ⌝ }
     ensures { λ r. ⌜ atomEnd r ≤ length (now (s .entry)) ⌝ }
 {
-    let WordRead::Found(k) = language::read::word(s, at, b"use(") else {
+    let WordRead::Found(k) = tokens::word(s, at, b"use(") else {
         return AtomRead::Misspelled;
     };
-    let VariableRead::Found(x, k1) = language::read::variable(s, k) else {
+    let VariableRead::Found(x, k1) = tokens::variable(s, k) else {
         return AtomRead::Misspelled;
     };
     ended(s, k1, b")", Atom::Use(x))
@@ -122,10 +122,10 @@ fn trans(s: &[u8], at: usize) -> AtomRead
     ensures { λ r. ⌜ parsedAtom (now (s .entry)) r ≡ parseTrans (drop at (now (s .entry))) ⌝ }
     ensures { λ r. ⌜ atomEnd r ≤ length (now (s .entry)) ⌝ }
 {
-    let WordRead::Found(k) = language::read::word(s, at, b"trans(") else {
+    let WordRead::Found(k) = tokens::word(s, at, b"trans(") else {
         return AtomRead::Misspelled;
     };
-    let ExpressionRead::Found(e, k1) = language::read::expression(s, k) else {
+    let ExpressionRead::Found(e, k1) = statement_reader::expression(s, k) else {
         return AtomRead::Misspelled;
     };
     ended(s, k1, b")", Atom::Trans(e))
@@ -136,7 +136,7 @@ fn true_or_trans(s: &[u8], at: usize) -> AtomRead
     ensures { λ r. ⌜ parsedAtom (now (s .entry)) r ≡ parseTrueOrTrans (drop at (now (s .entry))) ⌝ }
     ensures { λ r. ⌜ atomEnd r ≤ length (now (s .entry)) ⌝ }
 {
-    let WordRead::Found(k) = language::read::word(s, at, b"true") else {
+    let WordRead::Found(k) = tokens::word(s, at, b"true") else {
         return trans(s, at);
     };
     AtomRead::Found(Atom::True, k)
@@ -147,7 +147,7 @@ fn entry_or_exit(s: &[u8], at: usize) -> AtomRead
     ensures { λ r. ⌜ parsedAtom (now (s .entry)) r ≡ parseEntryOrExit (drop at (now (s .entry))) ⌝ }
     ensures { λ r. ⌜ atomEnd r ≤ length (now (s .entry)) ⌝ }
 {
-    let WordRead::Found(k) = language::read::word(s, at, b"entry") else {
+    let WordRead::Found(k) = tokens::word(s, at, b"entry") else {
         return ended(s, at, b"exit", Atom::Exit);
     };
     AtomRead::Found(Atom::Entry, k)
@@ -178,7 +178,7 @@ fn spaced(s: &[u8], at: usize, code: u8) -> OperatorRead
     ensures { λ r. ⌜ parsedOperator (now (s .entry)) r ≡ parseEnded (32 ∷ []) code (drop at (now (s .entry))) ⌝ }
     ensures { λ r. ⌜ operatorEnd r ≤ length (now (s .entry)) ⌝ }
 {
-    let WordRead::Found(k) = language::read::word(s, at, b" ") else {
+    let WordRead::Found(k) = tokens::word(s, at, b" ") else {
         return OperatorRead::Misspelled;
     };
     OperatorRead::Found(code, k)
@@ -266,7 +266,7 @@ fn square(s: &[u8], at: usize, bracket: Bracket) -> BracketRead
     ensures { λ r. ⌜ parsedBracket (now (s .entry)) r ≡ parseEnded (91 ∷ []) bracket (drop at (now (s .entry))) ⌝ }
     ensures { λ r. ⌜ bracketEnd r ≤ length (now (s .entry)) ⌝ }
 {
-    let WordRead::Found(k) = language::read::word(s, at, b"[") else {
+    let WordRead::Found(k) = tokens::word(s, at, b"[") else {
         return BracketRead::Misspelled;
     };
     BracketRead::Found(bracket, k)
@@ -295,7 +295,7 @@ fn middle(s: &[u8], at: usize, bracket: Bracket) -> OperatorRead
     ensures { λ r. ⌜ parsedOperator (now (s .entry)) r ≡ coded binaryCode (parseMiddle bracket (drop at (now (s .entry)))) ⌝ }
     ensures { λ r. ⌜ operatorEnd r ≤ length (now (s .entry)) ⌝ }
 {
-    let WordRead::Found(k) = language::read::word(s, at, b" ") else {
+    let WordRead::Found(k) = tokens::word(s, at, b" ") else {
         return OperatorRead::Misspelled;
     };
     match bracket {
@@ -311,9 +311,9 @@ fn closing(s: &[u8], at: usize, bracket: Bracket) -> WordRead
     ensures { λ r. ⌜ wordEnd r ≤ length (now (s .entry)) ⌝ }
 {
     match bracket {
-        Bracket::Round => language::read::word(s, at, b")"),
-        Bracket::Some => language::read::word(s, at, b"]"),
-        Bracket::All => language::read::word(s, at, b"]"),
+        Bracket::Round => tokens::word(s, at, b")"),
+        Bracket::Some => tokens::word(s, at, b"]"),
+        Bracket::All => tokens::word(s, at, b"]"),
     }
 }
 

@@ -9,7 +9,7 @@ use native.Mathlib.Omega.{arith}
 use native.Mathlib.Nat.{not-suc-le-zero, le-of-suc-le-suc}
 use lib.ListN.{getD}
 use Rattle.bits.specs.Row.{countBelow}
-use Rattle.bits.proofs.Tests.{clash, and-left, and-right, and-both, or-case, or-left, or-right, imply-use, imply-make, imply-fail, last-or-below, search-below}
+use Rattle.base.proofs.Bools.{clash, and-left, and-right, and-both, or-case, or-left, or-right, imply-use, imply-make, imply-fail, last-or-below, search-below}
 use Rattle.bits.proofs.Counts.{count-less, count-full}
 use Rattle.ctl.specs.Paths.{Quant, E, A, So, Graph}
 use Rattle.ctl.specs.Tables.{Onto, Reach, Table}

@@ -6,7 +6,7 @@ use mathlib.Core.Logic.{_⊎_, _↔_, ⊎-elim}
 use Prim.Native.Nat.{ℕ, zero, suc, _<_, _≤_, suc-le-suc}
 use native.Mathlib.Omega.{arith}
 use native.Mathlib.Nat.{le-of-suc-le-suc}
-use Rattle.bits.proofs.Tests.{split, clash}
+use Rattle.base.proofs.Bools.{split, clash}
 use Rattle.ctl.specs.Paths.{Path, Quant, E, A, Paths, Next, Finally, Globally, Until, Weak, So, Graph}
 use Rattle.ctl.specs.Tables.{Onto}
 

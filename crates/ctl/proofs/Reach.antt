@@ -7,7 +7,7 @@ use Prim.Native.Nat.{ℕ, _<_}
 use native.Mathlib.Omega.{arith}
 use lib.Dec.{eqb}
 use borrow.Author.Tests.{eqb-true, eq-eqb, ne-eqb}
-use Rattle.bits.proofs.Tests.{split, or-case, or-left, or-right}
+use Rattle.base.proofs.Bools.{split, or-case, or-left, or-right}
 use Rattle.ctl.specs.Paths.{Quant, E, A, So, Graph}
 use Rattle.ctl.specs.Tables.{Onto, Some, All, now, later, Reach, Table, Joins, Grew, Grown}
 

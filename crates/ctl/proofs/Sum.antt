@@ -7,7 +7,7 @@ use Prim.Native.Nat.{ℕ, zero, suc, _<_}
 use native.Mathlib.Omega.{arith}
 use lib.Dec.{ltb}
 use borrow.Author.Tests.{ltb-true, lt-ltb}
-use Rattle.bits.proofs.Tests.{split, clash}
+use Rattle.base.proofs.Bools.{split, clash}
 use Rattle.ctl.specs.Paths.{E, A, Paths, Until, Globally, Weak, So, Graph}
 use Rattle.ctl.proofs.Paths.{paths-map}
 use Rattle.ctl.proofs.Until.{until-table}

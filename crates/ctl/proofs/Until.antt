@@ -6,7 +6,7 @@ use mathlib.Core.Logic.{_⊎_, inl, inr, _↔_, ⊎-elim}
 use Prim.Native.Nat.{ℕ, zero, suc, _<_, suc-le-suc}
 use native.Mathlib.Omega.{arith}
 use native.Mathlib.Nat.{not-suc-le-zero, le-of-suc-le-suc}
-use Rattle.bits.proofs.Tests.{split, clash, imply-use, imply-fail, search-below}
+use Rattle.base.proofs.Bools.{split, clash, imply-use, imply-fail, search-below}
 use Rattle.ctl.specs.Paths.{Path, Quant, E, A, Paths, Until, So, Graph}
 use Rattle.ctl.specs.Tables.{Some, All, now, later, Table}
 use Rattle.ctl.proofs.Paths.{path-inside, path-first, path-tail, cons, path-cons, path-made, some-path}

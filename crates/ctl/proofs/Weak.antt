@@ -8,7 +8,7 @@ use Prim.Native.Nat.{ℕ, zero, suc, _<_, _≤_}
 use native.Mathlib.Omega.{arith}
 use native.Mathlib.Nat.{not-suc-le-zero}
 use native.Mathlib.Decide.{decLt}
-use Rattle.bits.proofs.Tests.{split, clash, find-below, last-or-below, and-left, and-right, and-both, not-of-false, false-of-not}
+use Rattle.base.proofs.Bools.{split, clash, find-below, last-or-below, and-left, and-right, and-both, not-of-false, false-of-not}
 use Rattle.ctl.specs.Paths.{Path, Quant, E, A, Paths, Until, Weak, So, Graph}
 use Rattle.ctl.specs.Tables.{other, Table}
 use Rattle.ctl.proofs.Paths.{path-inside, paths-iff}

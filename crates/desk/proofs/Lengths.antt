@@ -7,8 +7,8 @@ use lib.ListN.{length, set, length-append, length-replicate, replicate-append-re
 use lib.Seq.{sets}
 use lib.IntN.{ℤ, natAbs}
 use Rattle.language.specs.Spelling.{digits}
-use Rattle.language.specs.Writing.{Put}
-use Rattle.language.proofs.Puts.{sets-append, put-then, room}
+use Rattle.statement_writer.specs.Writing.{Put}
+use Rattle.statement_writer.proofs.Puts.{sets-append, put-then, room}
 use Rattle.desk.specs.Columns.{spaces, wide, padded, signMark, signedDigits}
 
 pub wide-length : (w n : ℕ) → length (wide w n) ≡ (w - length (digits n)) + length (digits n)

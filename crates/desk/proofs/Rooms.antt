@@ -7,16 +7,18 @@ use native.Mathlib.Omega.{arith}
 use Prim.Native.String.{String}
 use lib.Dec.{eqb}
 use lib.ListN.{length, length-append}
-use Rattle.language.specs.Spelling.{pickList, digits}
+use Rattle.language.specs.Spelling.{digits}
+use Rattle.base.specs.Pick.{pick}
 use Rattle.language.proofs.Lengths.{digits-length}
-use Rattle.desk.specs.Refusals.{bytes, onLine, refusalWords, refusalText, refusal-room}
+use Rattle.base.specs.Bytes.{bytes}
+use Rattle.desk.specs.Refusals.{onLine, refusalWords, refusalText, refusal-room}
 
 pub refusal-length : (n line : ℕ) → length (refusalText n line) ≡ 8 + (length (digits n) + (1 + (length (refusalWords n line) + 1)))
 unfolding refusalText
 refusal-length n line = simp length-append (omega arith)
 
 -- one text or the other
-pick-most : (b : Bool) (xs ys : List ℕ) (m : ℕ) → length xs ≤ m → length ys ≤ m → length (pickList b xs ys) ≤ m
+pick-most : (b : Bool) (xs ys : List ℕ) (m : ℕ) → length xs ≤ m → length ys ≤ m → length (pick b xs ys) ≤ m
 pick-most true xs ys m h k = h
 pick-most false xs ys m h k = k
 

@@ -4,7 +4,7 @@ ghost use lib.ListN.{length};
 ghost use lib.IntN.{natAbs};
 ghost use Prim.Native.Nat.{_≤_, _+_, _-_};
 ghost use Rattle.language.specs.Spelling.{digits, spell};
-ghost use Rattle.language.specs.Writing.{Put};
+ghost use Rattle.statement_writer.specs.Writing.{Put};
 ghost use Rattle.desk.specs.Columns.{spaces as blanks, wide, padded, signedDigits};
 use language::Statement;
 
@@ -39,7 +39,7 @@ pub fn number(out: &mut [u8], at: usize, w: usize, n: u32) -> usize
     ensures { λ r. ⌜ Put (now (out .entry)) at (wide w n) (now (out .exit)) r ⌝ }
 {
     let k = spaces(out, at, gap(w, digit_count(n)));
-    language::write::number(out, k, n)
+    statement_writer::number(out, k, n)
 }
 
 // The statement's text, filled with spaces to w columns.
@@ -47,7 +47,7 @@ pub fn statement(out: &mut [u8], at: usize, w: usize, s: Statement) -> usize
     requires { ⌜ at + length (padded w (spell s)) ≤ length (now out) ⌝ }
     ensures { λ r. ⌜ Put (now (out .entry)) at (padded w (spell s)) (now (out .exit)) r ⌝ }
 {
-    let k = language::write::statement(out, at, s);
+    let k = statement_writer::statement(out, at, s);
     spaces(out, k, gap(w, k - at))
 }
 
@@ -68,8 +68,8 @@ pub fn signed(out: &mut [u8], at: usize, v: i32) -> usize
     ensures { λ r. ⌜ Put (now (out .entry)) at (signedDigits v) (now (out .exit)) r ⌝ }
 {
     if v < 0 {
-        let k = language::write::byte(out, at, b'-');
-        return language::write::number(out, k, magnitude(v));
+        let k = statement_writer::byte(out, at, b'-');
+        return statement_writer::number(out, k, magnitude(v));
     }
-    language::write::number(out, at, magnitude(v))
+    statement_writer::number(out, at, magnitude(v))
 }

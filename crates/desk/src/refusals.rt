@@ -3,7 +3,7 @@ ghost use mathlib.Core.List.{_++_};
 ghost use lib.ListN.{length};
 ghost use Prim.Native.Nat.{_≤_, _+_};
 ghost use Rattle.language.specs.Spelling.{digits};
-ghost use Rattle.language.specs.Writing.{Put};
+ghost use Rattle.statement_writer.specs.Writing.{Put};
 ghost use Rattle.desk.specs.Refusals.{refusalWords, refusalText};
 
 // Every refusal has room in this many bytes.
@@ -14,9 +14,9 @@ fn on_line(out: &mut [u8], at: usize, before: &[u8], line: u32, after: &[u8]) ->
     requires { ⌜ at + length (now before ++ (digits line ++ now after)) ≤ length (now out) ⌝ }
     ensures { λ r. ⌜ Put (now (out .entry)) at (now (before .entry) ++ (digits line ++ now (after .entry))) (now (out .exit)) r ⌝ }
 {
-    let k1 = language::write::word(out, at, before);
-    let k2 = language::write::number(out, k1, line);
-    language::write::word(out, k2, after)
+    let k1 = statement_writer::word(out, at, before);
+    let k2 = statement_writer::number(out, k1, line);
+    statement_writer::word(out, k2, after)
 }
 
 // The words of the refusal with number n.
@@ -26,13 +26,13 @@ pub fn words(out: &mut [u8], at: usize, n: u8, line: u32) -> usize
 {
     match n {
         1 => {
-            language::write::word(
+            statement_writer::word(
                 out,
                 at,
                 b"the host program: table under 256 words, verdicts under 256 bytes or new text under 8,192 bytes",
             )
         }
-        15 => language::write::word(out, at, b"the host program: budget over 1,000,000"),
+        15 => statement_writer::word(out, at, b"the host program: budget over 1,000,000"),
         2 => {
             on_line(
                 out,
@@ -43,7 +43,7 @@ pub fn words(out: &mut [u8], at: usize, n: u8, line: u32) -> usize
             )
         }
         3 => {
-            language::write::word(
+            statement_writer::word(
                 out,
                 at,
                 b"the author of the shift program: under 2 or over 256 lines",
@@ -67,21 +67,21 @@ pub fn words(out: &mut [u8], at: usize, n: u8, line: u32) -> usize
                 b": a target outside 2 to N",
             )
         }
-        6 => language::write::word(
+        6 => statement_writer::word(
             out,
             at,
             b"the author of the condition: longer than 1,024 bytes",
         ),
-        7 => language::write::word(out, at, b"the author of the condition: misspelled"),
-        8 => language::write::word(out, at, b"the author of the condition: over 64 parts"),
+        7 => statement_writer::word(out, at, b"the author of the condition: misspelled"),
+        8 => statement_writer::word(out, at, b"the author of the condition: over 64 parts"),
         9 => {
-            language::write::word(
+            statement_writer::word(
                 out,
                 at,
                 b"the optimiser: some line misspelled, or the last without its byte 10",
             )
         }
-        10 => language::write::word(out, at, b"the optimiser: over 256 lines"),
+        10 => statement_writer::word(out, at, b"the optimiser: over 256 lines"),
         _ => at,
     }
 }
@@ -91,9 +91,9 @@ pub fn refusal(out: &mut [u8], at: usize, n: u8, line: u32) -> usize
     requires { ⌜ at + length (refusalText n line) ≤ length (now out) ⌝ }
     ensures { λ r. ⌜ Put (now (out .entry)) at (refusalText n line) (now (out .exit)) r ⌝ }
 {
-    let k1 = language::write::word(out, at, b"refused ");
-    let k2 = language::write::number(out, k1, n as u32);
-    let k3 = language::write::byte(out, k2, 10);
+    let k1 = statement_writer::word(out, at, b"refused ");
+    let k2 = statement_writer::number(out, k1, n as u32);
+    let k3 = statement_writer::byte(out, k2, 10);
     let k4 = words(out, k3, n, line);
-    language::write::byte(out, k4, 10)
+    statement_writer::byte(out, k4, 10)
 }

@@ -3,9 +3,9 @@
 ghost use Prim.Native.Nat.{_≤_};
 ghost use Rattle.io.specs.Counts.{Counts};
 ghost use Rattle.files.specs.Files.{Opens, Takes, Ends, Reads, Settles};
-use language::read::WordRead;
 use libc::STDERR_FILENO;
 use libc::STDOUT_FILENO;
+use tokens::WordRead;
 
 // A file has at most 65,535 bytes; one byte more is lent, by which a longer one is told.
 const FILE_ROOM: usize = 65536;
@@ -51,7 +51,7 @@ enum Ended {
 fn asks_status() -> bool {
     let mut first = io::buffer();
     let n = os::arg(1, &mut first);
-    let WordRead::Found(k) = language::read::word(&first[..n], 0, b"--status") else {
+    let WordRead::Found(k) = tokens::word(&first[..n], 0, b"--status") else {
         return false;
     };
     k == n

@@ -9,7 +9,7 @@ use lib.ListN.{length, getD, take, drop, length-append, length-drop, drop-of-len
 use lib.Seq.{length-take-le, take-take, take-at, drop-at}
 use lib.Dec.{eqb, ltb}
 use borrow.Author.Tests.{eq-eqb, ne-eqb, lt-ltb, le-ltb}
-use Rattle.bits.proofs.Tests.{or-left}
+use Rattle.base.proofs.Bools.{or-left}
 use Rattle.graph.specs.Lists.{listed, Blank}
 use Rattle.graph.specs.Graphs.{places, entries, edgesAt, headOf, stepOf, ListsAt, Room, Added}
 use Rattle.graph.proofs.Lists.{listed-end, listed-step, blank-lists, blank-step}

@@ -10,7 +10,7 @@ use native.Mathlib.Omega.{arith}
 use lib.ListN.{length}
 use lib.Dec.{eqb, ltb}
 use borrow.Author.Tests.{ltb-true, eqb-true, eq-eqb, ne-eqb, lt-ltb, le-ltb}
-use Rattle.bits.proofs.Tests.{and-left, and-right, and-both, or-case, or-left, or-right, not-of-false, find-below}
+use Rattle.base.proofs.Bools.{and-left, and-right, and-both, or-case, or-left, or-right, not-of-false, find-below}
 use Rattle.language.specs.declared.Statement.{Statement}
 use Rattle.language.specs.declared.Statement.the-variants.{Read, Write, Assign, Branch, Skip}
 use Rattle.program.specs.Program.{at, InPlace, Targets, WellFormed}

@@ -3,7 +3,7 @@ use mathlib.Core.Path.{_≡_, refl, ap₂}
 use mathlib.Core.Bool.{Bool, true, false, _||_}
 use Prim.Native.Nat.{ℕ, zero, suc, _<_}
 use native.Mathlib.Omega.{arith}
-use Rattle.bits.proofs.Tests.{or-left, or-right, last-or-below}
+use Rattle.base.proofs.Bools.{or-left, or-right, last-or-below}
 use Rattle.flow.specs.Flow.{some}
 
 pub some-none : (n : ℕ) (f : ℕ → Bool) → ((t : ℕ) → t < n → f t ≡ false) → some n f ≡ false

@@ -10,7 +10,7 @@ use lib.Dec.{eqb}
 use borrow.Author.Count.{below-more}
 use borrow.Author.Tests.{eq-eqb}
 use Rattle.language.specs.declared.Statement.{Statement}
-use Rattle.bits.proofs.Tests.{or-left, or-right}
+use Rattle.base.proofs.Bools.{or-left, or-right}
 use Rattle.program.specs.declared.Entry.{Entry}
 use Rattle.program.specs.declared.Program.{Program}
 use Rattle.program.specs.Program.{at, WellFormed}

@@ -9,7 +9,7 @@ use native.Mathlib.Omega.{arith}
 use lib.ListN.{length, getD}
 use lib.Dec.{eqb}
 use borrow.Author.Tests.{eqb-true, eq-eqb}
-use Rattle.bits.proofs.Tests.{split, clash, or-case, or-left, or-right}
+use Rattle.base.proofs.Bools.{split, clash, or-case, or-left, or-right}
 use Rattle.ctl.specs.Paths.{quant, So}
 use Rattle.ctl.specs.Tables.{Onto}
 use Rattle.graph.specs.Lists.{listed, Linked, From}

@@ -7,7 +7,7 @@ use native.Mathlib.Decide.{decLt, ℕ-discrete}
 use native.Mathlib.Omega.{arith}
 use lib.Dec.{eqb, ltb}
 use borrow.Author.Tests.{eq-eqb, ne-eqb, lt-ltb, le-ltb}
-use Rattle.bits.proofs.Tests.{clash, or-right}
+use Rattle.base.proofs.Bools.{clash, or-right}
 use Rattle.ctl.specs.Paths.{Quant, Paths, quant, Next, Finally, Globally, Until, Weak, So, Graph}
 use Rattle.ctl.specs.Tables.{other, Onto, Table, Grown}
 use Rattle.ctl.proofs.Paths.{path-inside, paths-iff, next-iff, finally-iff, globally-iff, until-map, weak-map}

@@ -11,7 +11,7 @@ use lib.ListN.{length, getD, set, length-set}
 use lib.Seq.{getD-set-same, getD-set-other}
 use lib.Dec.{eqb}
 use borrow.Author.Tests.{eqb-true, eq-eqb}
-use Rattle.bits.proofs.Tests.{split, clash, or-left}
+use Rattle.base.proofs.Bools.{split, clash, or-left}
 use Rattle.ctl.specs.Paths.{quant, A, So}
 use Rattle.ctl.specs.Tables.{Onto, Joins}
 use Rattle.graph.specs.Lists.{step, listed, Linked, From}

@@ -11,7 +11,7 @@ use lib.ListN.{length, getD, set}
 use lib.Seq.{getD-set-same, getD-set-other}
 use lib.Dec.{eqb}
 use Rattle.bits.specs.Row.{countBelow}
-use Rattle.bits.proofs.Tests.{split, clash}
+use Rattle.base.proofs.Bools.{split, clash}
 use Rattle.bits.proofs.Counts.{count-le, count-less, count-up, count-one}
 use Rattle.ctl.specs.Paths.{Quant, quant, So, Graph}
 use Rattle.ctl.specs.Tables.{Joins, Grew, Grown}

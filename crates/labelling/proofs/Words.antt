@@ -12,7 +12,7 @@ use lib.ListN.{length, getD, set}
 use Rattle.bits.specs.Row.{bit, member}
 use Rattle.bits.proofs.Counts.{count-le}
 use Rattle.bits.proofs.Rows.{word-member}
-use Rattle.bits.proofs.Tests.{clash}
+use Rattle.base.proofs.Bools.{clash}
 use Rattle.bits.proofs.Words.{lowest-set, lower-clear, lowest-off, higher-kept}
 use Rattle.labelling.specs.Worklist.{Gathered, lesser}
 use Rattle.labelling.proofs.Stack.{gather-skip, gather-join}

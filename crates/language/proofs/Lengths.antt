@@ -9,13 +9,13 @@ use lib.ListN.{length, length-append}
 use borrow.Author.Tests.{ltb-true, ltb-false}
 use Rattle.language.specs.declared.Operand.{Operand}
 use Rattle.language.specs.declared.Operand.the-variants.{Variable, Constant}
+use Rattle.language.specs.declared.Operator.{Operator}
 use Rattle.language.specs.declared.Expression.{Expression}
 use Rattle.language.specs.declared.Expression.the-variants.{Single, Binary}
 use Rattle.language.specs.declared.Statement.{Statement}
 use Rattle.language.specs.declared.Statement.the-variants.{Read, Write, Assign, Branch, Skip}
 use Rattle.language.specs.Spelling.{largest, digits, spellVariable, spellOperand, spellExpression, spell, ValidOperand, ValidExpression, Valid}
-use Rattle.language.proofs.Numbers.{digits-small, digits-next}
-use Rattle.language.proofs.Puts.{variable-length, binary-length, assign-length, branch-length}
+use Rattle.language.proofs.Digits.{digits-small, digits-next}
 
 pub digits-length : (k n : ℕ) → n < 10 ^ suc k → length (digits n) ≤ suc k
 digits-length zero n h = omega (arith, ap length (digits-small n h))
@@ -24,6 +24,23 @@ digits-length (suc k) n h = go (ltb n 10) refl (digits-length k (n / 10))
     go : (b : Bool) → ltb n 10 ≡ b → (n / 10 < 10 ^ suc k → length (digits (n / 10)) ≤ suc k) → length (digits n) ≤ suc (suc k)
     go true e ih = omega (arith, ap length (digits-small n (ltb-true n 10 e)))
     go false e ih = omega (arith, ap length (digits-next n (ltb-false n 10 e)), length-append (digits (n / 10)) ((48 + n % 10) ∷ []), ih (omega arith))
+
+-- how long a text is, from its parts
+pub variable-length : (x : ℕ) → length (spellVariable x) ≡ 1 + length (digits x)
+unfolding spellVariable
+variable-length x = omega arith
+
+pub binary-length : (a : Operand) (o : Operator) (b : Operand) → length (spellExpression (Binary a o b)) ≡ length (spellOperand a) + (3 + length (spellOperand b))
+unfolding spellExpression
+binary-length a o b = simp length-append (omega arith)
+
+pub assign-length : (x : ℕ) (e : Expression) → length (spell (Assign x e)) ≡ length (spellVariable x) + (4 + length (spellExpression e))
+unfolding spell
+assign-length x e = simp length-append (omega arith)
+
+pub branch-length : (x n m : ℕ) → length (spell (Branch x n m)) ≡ 3 + (length (spellVariable x) + (6 + (length (digits n) + (6 + length (digits m)))))
+unfolding spell
+branch-length x n m = simp length-append (omega arith)
 
 variable-most : (x : ℕ) → x < 32 → length (spellVariable x) ≤ 3
 variable-most x h = omega (arith, variable-length x, digits-length 1 x (omega arith))

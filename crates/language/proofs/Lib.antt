@@ -1,7 +1,2 @@
-pub mod Steps
-pub mod Numbers
-pub mod Parse
-pub mod Lines
-pub mod Puts
+pub mod Digits
 pub mod Lengths
-pub mod RoundTrip

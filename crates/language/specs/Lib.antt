@@ -1,4 +1,1 @@
 pub mod Spelling
-pub mod Reading
-pub mod Writing
-pub mod Parsing

@@ -1,8 +1,9 @@
 -- How statements are spelled, and which are valid: document 01, "The statement language".
 use Prim.Native.Nat.{ℕ, zero, suc, _+_, _/_, _%_, _≤_, _<_}
 use mathlib.Core.List.{List, [], _∷_, _++_}
-use mathlib.Core.Bool.{Bool, true, false}
 use lib.Dec.{ltb}
+use Rattle.base.specs.Bytes.{byte, bytes}
+use Rattle.base.specs.Pick.{pick}
 use Rattle.language.specs.declared.Operand.{Operand}
 use Rattle.language.specs.declared.Operand.the-variants.{Variable, Constant}
 use Rattle.language.specs.declared.Operator.{Operator}
@@ -20,16 +21,12 @@ variables = 32
 abbrev pub largest : ℕ
 largest = 2147483647
 
-abbrev pub pickList : Bool → List ℕ → List ℕ → List ℕ
-pickList true a b = a
-pickList false a b = b
-
 -- the decimal digits of n, by at most `fuel` divisions
 unfoldable pub digitsBy : ℕ → ℕ → List ℕ
 digitsBy zero n = []
 digitsBy (suc fuel) n =
-    let more : List ℕ = digitsBy fuel (n / 10) ++ (48 + n % 10) ∷ [] in
-    pickList (ltb n 10) ((48 + n) ∷ []) more
+    let more : List ℕ = digitsBy fuel (n / 10) ++ (byte "0" + n % 10) ∷ [] in
+    pick (ltb n 10) ((byte "0" + n) ∷ []) more
 
 -- "decimal, .. without leading zeros (`0` itself is right)"
 unfoldable pub digits : ℕ → List ℕ
@@ -49,7 +46,7 @@ abbrev pub ValidStatementNumber : ℕ → Type 0
 ValidStatementNumber n = n ≤ largest
 
 unfoldable pub spellVariable : ℕ → List ℕ
-spellVariable x = 105 ∷ digits x
+spellVariable x = byte "i" ∷ digits x
 
 abbrev pub ValidVariable : ℕ → Type 0
 ValidVariable x = x < variables
@@ -65,42 +62,41 @@ ValidOperand (Constant n) = ValidConstant n
 
 -- "o is `+`, `-`, `*`, `<` or `=`"
 abbrev pub spellOperator : Operator → ℕ
-spellOperator Add = 43
-spellOperator Subtract = 45
-spellOperator Multiply = 42
-spellOperator Less = 60
-spellOperator Equal = 61
+spellOperator Add = byte "+"
+spellOperator Subtract = byte "-"
+spellOperator Multiply = byte "*"
+spellOperator Less = byte "<"
+spellOperator Equal = byte "="
 
 -- "E is `A` or `A o A`"
 unfoldable pub spellExpression : Expression → List ℕ
 spellExpression (Single a) = spellOperand a
-spellExpression (Binary a o b) = spellOperand a ++ 32 ∷ spellOperator o ∷ 32 ∷ spellOperand b
+spellExpression (Binary a o b) = spellOperand a ++ byte " " ∷ spellOperator o ∷ byte " " ∷ spellOperand b
 
 abbrev pub ValidExpression : Expression → Type 0
 ValidExpression (Single a) = ValidOperand a
 ValidExpression (Binary a o b) = ValidOperand a × ValidOperand b
 
--- `read `, `write `, ` := `, `if `, ` goto `, ` else ` and `skip` as bytes
 abbrev pub read-word : List ℕ
-read-word = 114 ∷ 101 ∷ 97 ∷ 100 ∷ 32 ∷ []
+read-word = bytes "read "
 
 abbrev pub write-word : List ℕ
-write-word = 119 ∷ 114 ∷ 105 ∷ 116 ∷ 101 ∷ 32 ∷ []
+write-word = bytes "write "
 
 abbrev pub becomes-word : List ℕ
-becomes-word = 32 ∷ 58 ∷ 61 ∷ 32 ∷ []
+becomes-word = bytes " := "
 
 abbrev pub if-word : List ℕ
-if-word = 105 ∷ 102 ∷ 32 ∷ []
+if-word = bytes "if "
 
 abbrev pub goto-word : List ℕ
-goto-word = 32 ∷ 103 ∷ 111 ∷ 116 ∷ 111 ∷ 32 ∷ []
+goto-word = bytes " goto "
 
 abbrev pub else-word : List ℕ
-else-word = 32 ∷ 101 ∷ 108 ∷ 115 ∷ 101 ∷ 32 ∷ []
+else-word = bytes " else "
 
 abbrev pub skip-word : List ℕ
-skip-word = 115 ∷ 107 ∷ 105 ∷ 112 ∷ []
+skip-word = bytes "skip"
 
 -- `read X`, `write X`, `X := E`, `if X goto n else m`, `skip`: a statement's line without its byte 10
 unfoldable pub spell : Statement → List ℕ

@@ -1,6 +1,4 @@
-// The statement language: its types. `read` takes statements from a text, `write` puts them into one.
-pub mod read;
-pub mod write;
+// The statement language: its types. No functions stand here.
 
 // Variables are i0 to i31.
 pub const VARIABLES: u32 = 32;

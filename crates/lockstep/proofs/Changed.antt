@@ -20,16 +20,17 @@ use Rattle.program.proofs.Held.{at-valid}
 use Rattle.marks.specs.Marks.{ValidMark}
 use Rattle.marks.specs.declared.Mark.{Mark}
 use Rattle.marks.specs.declared.Mark.the-variants.{Rm, Rpl}
-use Rattle.rewriting.specs.Rewriting.{Fits, pickOperand, pickVariable, replaceOperand, replaceIn, replaceVariable, replace, makes}
+use Rattle.rewriting.specs.Rewriting.{Fits, replaceOperand, replaceIn, replaceVariable, replace, makes}
+use Rattle.base.specs.Pick.{pick}
 use Rattle.lockstep.specs.Lockstep.{Change, Changed}
 
 -- ---- what is valid
 
-picked-operand : (b : Bool) (a c : Operand) → ValidOperand a → ValidOperand c → ValidOperand (pickOperand b a c)
+picked-operand : (b : Bool) (a c : Operand) → ValidOperand a → ValidOperand c → ValidOperand (pick b a c)
 picked-operand true a c v u = v
 picked-operand false a c v u = u
 
-picked-variable : (b : Bool) (z y : ℕ) → ValidVariable z → ValidVariable y → ValidVariable (pickVariable b z y)
+picked-variable : (b : Bool) (z y : ℕ) → ValidVariable z → ValidVariable y → ValidVariable (pick b z y)
 picked-variable true z y v u = v
 picked-variable false z y v u = u
 

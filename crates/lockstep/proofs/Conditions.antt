@@ -11,7 +11,7 @@ use native.Mathlib.Nat.{not-suc-le-zero, le-of-suc-le-suc}
 use lib.Dec.{eqb, ltb}
 use lib.ListN.{length}
 use borrow.Author.Tests.{eqb-true, ltb-true, lt-ltb}
-use Rattle.bits.proofs.Tests.{clash, or-case, or-left, and-left, and-right, and-both}
+use Rattle.base.proofs.Bools.{clash, or-case, or-left, and-left, and-right, and-both}
 use Rattle.language.specs.declared.Operand.{Operand}
 use Rattle.language.specs.declared.Expression.the-variants.{Single}
 use Rattle.language.specs.declared.Statement.{Statement}

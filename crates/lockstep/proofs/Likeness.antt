@@ -9,7 +9,7 @@ use lib.Dec.{eqb}
 use lib.ListN.{length, getD, set}
 use lib.Seq.{getD-set-same}
 use borrow.Author.Tests.{eqb-true}
-use Rattle.bits.proofs.Tests.{split}
+use Rattle.base.proofs.Bools.{split}
 use Rattle.language.specs.declared.Operand.{Operand}
 use Rattle.language.specs.declared.Operand.the-variants.{Variable, Constant}
 use Rattle.language.specs.declared.Expression.{Expression}
@@ -18,7 +18,8 @@ use Rattle.language.specs.declared.Statement.{Statement}
 use Rattle.language.specs.declared.Statement.the-variants.{Read, Write, Assign, Branch, Skip}
 use Rattle.machine.specs.Machine.{apply, operandValue, value}
 use Rattle.condition.specs.Truth.{InOperand, In, Shows}
-use Rattle.rewriting.specs.Rewriting.{IsVariable, Takes, pickOperand, pickVariable, replaceOperand, replaceIn, replaceVariable, replace}
+use Rattle.rewriting.specs.Rewriting.{IsVariable, Takes, replaceOperand, replaceIn, replaceVariable, replace}
+use Rattle.base.specs.Pick.{pick}
 
 -- the value stored last is the one found
 pub stored-here : (vs : List ℕ) (x v y : ℕ) → x < length vs → y ≡ x → getD (set vs x v) y 0 ≡ v
@@ -67,10 +68,10 @@ module _ (vs ws : List ℕ) where
     operand-like (Constant n) h = refl
     operand-like (Variable y) h = ⊎-elim there other (split (eqb x y))
       where
-        there : eqb x y ≡ true → getD vs y 0 ≡ operandValue ws (pickOperand (eqb x y) a (Variable y))
+        there : eqb x y ≡ true → getD vs y 0 ≡ operandValue ws (pick (eqb x y) a (Variable y))
         there e = rw e (rw (eqb-true x y e) at same)
 
-        other : eqb x y ≡ false → getD vs y 0 ≡ operandValue ws (pickOperand (eqb x y) a (Variable y))
+        other : eqb x y ≡ false → getD vs y 0 ≡ operandValue ws (pick (eqb x y) a (Variable y))
         other e = rw e (h y refl)
 
     expression-like : (e : Expression) → ((y : ℕ) → In y e → Same vs ws y) → value vs e ≡ value ws (replaceIn x a e)
@@ -84,10 +85,10 @@ module _ (vs ws : List ℕ) where
   variable-like x (Constant n) same v y h = absurd v
   variable-like x (Variable z) same v y h = ⊎-elim there other (split (eqb x y))
     where
-      there : eqb x y ≡ true → getD vs y 0 ≡ getD ws (pickVariable (eqb x y) z y) 0
+      there : eqb x y ≡ true → getD vs y 0 ≡ getD ws (pick (eqb x y) z y) 0
       there e = rw e (rw (eqb-true x y e) at same)
 
-      other : eqb x y ≡ false → getD vs y 0 ≡ getD ws (pickVariable (eqb x y) z y) 0
+      other : eqb x y ≡ false → getD vs y 0 ≡ getD ws (pick (eqb x y) z y) 0
       other e = rw e h
 
   pub replaced-like :

@@ -11,7 +11,7 @@ use lib.Dec.{eqb}
 use lib.ListN.{length, getD, set, length-set}
 use lib.Seq.{getD-set-other}
 use borrow.Author.Tests.{eq-eqb}
-use Rattle.bits.proofs.Tests.{or-left, or-right}
+use Rattle.base.proofs.Bools.{or-left, or-right}
 use Rattle.language.specs.Spelling.{variables, Valid}
 use Rattle.language.specs.declared.Operand.{Operand}
 use Rattle.language.specs.declared.Expression.{Expression}
@@ -20,7 +20,8 @@ use Rattle.language.specs.declared.Statement.{Statement}
 use Rattle.language.specs.declared.Statement.the-variants.{Read, Assign, Branch, Skip}
 use Rattle.program.specs.Program.{at, InPlace, WellFormed}
 use Rattle.program.proofs.Held.{at-valid}
-use Rattle.machine.specs.Machine.{State, before, ended, after, perform, stepFrom, pick, operandValue, value}
+use Rattle.machine.specs.Machine.{State, before, ended, after, perform, stepFrom, operandValue, value}
+use Rattle.base.specs.Pick.{pick}
 use Rattle.flow.specs.Flow.{leads}
 use Rattle.flow.proofs.Model.{forward-inside}
 use Rattle.condition.specs.Truth.{InOperand, Defines, Shows, Uses, Sat}

@@ -13,7 +13,8 @@ use Rattle.program.specs.Program.{at, InPlace, Targets, WellFormed}
 use Rattle.program.specs.Reading.{statements}
 use Rattle.program.specs.declared.Program.{Program}
 use Rattle.program.proofs.Held.{held, at-held}
-use Rattle.machine.specs.Machine.{before, after, perform, pick, stepFrom}
+use Rattle.machine.specs.Machine.{before, after, perform, stepFrom}
+use Rattle.base.specs.Pick.{pick}
 use Rattle.machine.specs.Answer.{stateOf, Ends}
 use Rattle.machine.specs.declared.Next.{Next}
 use Rattle.machine.specs.declared.Next.the-variants.{Goto, Finish}

@@ -7,6 +7,7 @@ use lib.Dec.{eqb}
 use lib.Signed.{ltZ}
 use mir.Syntax.{w32}
 use mir.Val.{toZ}
+use Rattle.base.specs.Pick.{pick}
 use Rattle.language.specs.declared.Operand.{Operand}
 use Rattle.language.specs.declared.Operand.the-variants.{Variable, Constant}
 use Rattle.language.specs.declared.Operator.{Operator}
@@ -41,10 +42,6 @@ value vs (Binary a o b) = apply o (operandValue vs a) (operandValue vs b)
 pub data State : Type 0 where
   before : ℕ → List ℕ → State
   ended : ℕ → State
-
-abbrev pub pick : Bool → ℕ → ℕ → ℕ
-pick true a b = a
-pick false a b = b
 
 -- "`read X` stores the input. `if` goes to n where X isn't 0, else to m. `write X` ends the run with X's value. All others go to the next line."
 abbrev pub perform : Statement → ℕ → ℕ → List ℕ → State

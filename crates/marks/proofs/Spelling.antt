@@ -7,10 +7,11 @@ use lib.ListN.{length, drop}
 use Rattle.language.specs.declared.Operand.{Operand}
 use Rattle.language.specs.declared.Expression.{Expression}
 use Rattle.language.specs.Spelling.{digits, spellVariable, ValidVariable, spellOperand, ValidOperand, spellExpression, ValidExpression}
-use Rattle.language.specs.Parsing.{Parsed, found, misspelled, parseWord, digitOf, parseNumber, parseVariable, parseOperand, parseExpression}
-use Rattle.language.proofs.Numbers.{number-sound, number-complete}
-use Rattle.language.proofs.Parse.{after-inv, either-inv, skip-sound}
-use Rattle.language.proofs.Lines.{variable-sound, variable-complete, operand-sound, operand-complete, expression-sound, expression-complete}
+use Rattle.tokens.specs.Parsing.{Parsed, found, misspelled, parseWord, digitOf, parseNumber, parseVariable}
+use Rattle.statement_reader.specs.Parsing.{parseOperand, parseExpression}
+use Rattle.tokens.proofs.Numbers.{number-sound, number-complete, variable-sound, variable-complete}
+use Rattle.tokens.proofs.Parse.{after-inv, either-inv, skip-sound}
+use Rattle.statement_reader.proofs.Lines.{operand-sound, operand-complete, expression-sound, expression-complete}
 use Rattle.marks.specs.declared.Mark.{Mark}
 use Rattle.marks.specs.declared.Mark.the-variants.{Rm, Rpl}
 use Rattle.marks.specs.declared.read.MarkRead.{MarkRead}

@@ -3,7 +3,8 @@
 use mathlib.Core.List.{List, [], _∷_}
 use Prim.Native.Nat.{ℕ}
 use lib.ListN.{drop}
-use Rattle.language.specs.Parsing.{Parsed, found, misspelled, after, either, parseWord, parseStatementNumber, parseVariable, parseOperand, parseExpression}
+use Rattle.tokens.specs.Parsing.{Parsed, found, misspelled, after, either, parseWord, parseStatementNumber, parseVariable}
+use Rattle.statement_reader.specs.Parsing.{parseOperand, parseExpression}
 use Rattle.marks.specs.Marks.{mark-word, rm-word, rpl-word, comma-word}
 use Rattle.marks.specs.declared.Mark.{Mark}
 use Rattle.marks.specs.declared.Mark.the-variants.{Rm, Rpl}

@@ -2,18 +2,18 @@
 ghost use mathlib.Core.Path.{_≡_};
 ghost use Prim.Native.Nat.{_≤_};
 ghost use lib.ListN.{length, drop};
-ghost use Rattle.language.specs.Parsing.{parsedVariable, variableEnd};
+ghost use Rattle.tokens.specs.Parsing.{parsedVariable, variableEnd};
 ghost use Rattle.marks.specs.Reading.{MarkLineRead, ListRead};
 ghost use Rattle.marks.specs.Parsing.{parseFront, parseRm, parseRpl, parseMark, parseMarkLine, parsedMark, markEnd};
 use crate::Checked;
 use crate::MOST;
 use crate::Mark;
 use crate::Refusal;
-use language::read::ExpressionRead;
-use language::read::NumberRead;
-use language::read::OperandRead;
-use language::read::VariableRead;
-use language::read::WordRead;
+use statement_reader::ExpressionRead;
+use statement_reader::OperandRead;
+use tokens::NumberRead;
+use tokens::VariableRead;
+use tokens::WordRead;
 
 pub enum MarkRead {
     Found(Mark, usize),
@@ -25,13 +25,13 @@ fn front(s: &[u8], at: usize, w: &[u8]) -> VariableRead
     ensures { λ r. ⌜ parsedVariable (now (s .entry)) r ≡ parseFront (now (w .entry)) (drop at (now (s .entry))) ⌝ }
     ensures { λ r. ⌜ variableEnd r ≤ length (now (s .entry)) ⌝ }
 {
-    let WordRead::Found(k) = language::read::word(s, at, w) else {
+    let WordRead::Found(k) = tokens::word(s, at, w) else {
         return VariableRead::Misspelled;
     };
-    let VariableRead::Found(x, k1) = language::read::variable(s, k) else {
+    let VariableRead::Found(x, k1) = tokens::variable(s, k) else {
         return VariableRead::Misspelled;
     };
-    let WordRead::Found(k2) = language::read::word(s, k1, b", ") else {
+    let WordRead::Found(k2) = tokens::word(s, k1, b", ") else {
         return VariableRead::Misspelled;
     };
     VariableRead::Found(x, k2)
@@ -45,10 +45,10 @@ fn rm(s: &[u8], at: usize, n: u32) -> MarkRead
     let VariableRead::Found(x, k) = front(s, at, b"rm, ") else {
         return MarkRead::Misspelled;
     };
-    let ExpressionRead::Found(e, k1) = language::read::expression(s, k) else {
+    let ExpressionRead::Found(e, k1) = statement_reader::expression(s, k) else {
         return MarkRead::Misspelled;
     };
-    let WordRead::Found(k2) = language::read::word(s, k1, b")") else {
+    let WordRead::Found(k2) = tokens::word(s, k1, b")") else {
         return MarkRead::Misspelled;
     };
     MarkRead::Found(Mark::Rm(n, x, e), k2)
@@ -62,10 +62,10 @@ fn rpl(s: &[u8], at: usize, n: u32) -> MarkRead
     let VariableRead::Found(x, k) = front(s, at, b"rpl, ") else {
         return MarkRead::Misspelled;
     };
-    let OperandRead::Found(a, k1) = language::read::operand(s, k) else {
+    let OperandRead::Found(a, k1) = statement_reader::operand(s, k) else {
         return MarkRead::Misspelled;
     };
-    let WordRead::Found(k2) = language::read::word(s, k1, b")") else {
+    let WordRead::Found(k2) = tokens::word(s, k1, b")") else {
         return MarkRead::Misspelled;
     };
     MarkRead::Found(Mark::Rpl(n, x, a), k2)
@@ -75,10 +75,10 @@ fn mark(s: &[u8], at: usize) -> MarkRead
     ensures { λ r. ⌜ parsedMark (now (s .entry)) r ≡ parseMark (drop at (now (s .entry))) ⌝ }
     ensures { λ r. ⌜ markEnd r ≤ length (now (s .entry)) ⌝ }
 {
-    let NumberRead::Found(n, k) = language::read::statement_number(s, at) else {
+    let NumberRead::Found(n, k) = tokens::statement_number(s, at) else {
         return MarkRead::Misspelled;
     };
-    let WordRead::Found(k1) = language::read::word(s, k, b": mark(") else {
+    let WordRead::Found(k1) = tokens::word(s, k, b": mark(") else {
         return MarkRead::Misspelled;
     };
     let MarkRead::Found(m, k2) = rm(s, k1, n) else {
@@ -95,7 +95,7 @@ fn ended_mark(s: &[u8], at: usize) -> MarkRead
     let MarkRead::Found(m, k) = mark(s, at) else {
         return MarkRead::Misspelled;
     };
-    let WordRead::Found(k1) = language::read::word(s, k, b"\n") else {
+    let WordRead::Found(k1) = tokens::word(s, k, b"\n") else {
         return MarkRead::Misspelled;
     };
     MarkRead::Found(m, k1)

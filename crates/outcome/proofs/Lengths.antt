@@ -9,10 +9,12 @@ use lib.IntN.{ℤ, pos, negsuc}
 use lib.ListN.{length, getD, length-append}
 use mir.Syntax.{w32}
 use mir.Val.{SFits}
-use Rattle.language.specs.Spelling.{pickList, digits}
+use Rattle.language.specs.Spelling.{digits}
+use Rattle.base.specs.Pick.{pick}
 use Rattle.language.proofs.Lengths.{digits-length}
 use Rattle.desk.specs.Columns.{signedDigits}
-use Rattle.desk.specs.Refusals.{bytes, refusalText}
+use Rattle.base.specs.Bytes.{bytes}
+use Rattle.desk.specs.Refusals.{refusalText}
 use Rattle.desk.proofs.Rooms.{refusal-most}
 use Rattle.start.specs.declared.Answer.{Answer}
 use Rattle.start.specs.declared.Answer.the-variants.{Few, Many, Line}
@@ -63,7 +65,7 @@ pub range-most : (n : ℕ) → length (lineRange n) ≤ 52
 unfolding lineRange
 range-most n = go (eqb n 2)
   where
-    go : (b : Bool) → length (pickList b (bytes " isn't a whole number from 0 to 2147483647") (bytes " isn't a whole number from -2147483648 to 2147483647")) ≤ 52
+    go : (b : Bool) → length (pick b (bytes " isn't a whole number from 0 to 2147483647") (bytes " isn't a whole number from -2147483648 to 2147483647")) ≤ 52
     go true = omega arith
     go false = omega arith
 

@@ -5,7 +5,7 @@ use mathlib.Core.List.{List}
 use Prim.Native.Nat.{ℕ, _≤_}
 use lib.IntN.{ℤ}
 use lib.ListN.{length}
-use Rattle.language.specs.Writing.{Put}
+use Rattle.statement_writer.specs.Writing.{Put}
 use Rattle.blame.specs.Blame.{Blamed}
 use Rattle.machine.specs.declared.Answer.the-variants.{Ended, Spent}
 use Rattle.rewrites.specs.Run.{RunRefused, RunAnswers}
@@ -15,7 +15,7 @@ use Rattle.desk.specs.Refusals.{refusalText}
 use Rattle.start.specs.Start.{StartRead}
 use Rattle.start.specs.declared.Answer as start
 use Rattle.start.specs.declared.Answer.the-variants.{Taken}
-use Rattle.language.proofs.Puts.{put-within}
+use Rattle.statement_writer.proofs.Puts.{put-within}
 use Rattle.outcome.specs.Outcome.{endedText, spentText, answerText, startText, Printed, Prints, RunPrints}
 use Rattle.outcome.specs.declared.Told.{Told}
 use Rattle.outcome.specs.declared.Told.the-variants.{Written, Refused, NoRoom}

@@ -6,8 +6,9 @@ use Prim.Native.Nat.{ℕ, zero, suc, _+_, _*_, _≤_, _<_}
 use lib.Dec.{eqb}
 use lib.IntN.{ℤ}
 use lib.ListN.{length, getD}
-use Rattle.language.specs.Spelling.{variables, pickList, digits}
-use Rattle.language.specs.Writing.{Put}
+use Rattle.language.specs.Spelling.{variables, digits}
+use Rattle.base.specs.Pick.{pick}
+use Rattle.statement_writer.specs.Writing.{Put}
 use Rattle.language.specs.declared.Statement.{Statement}
 use Rattle.program.specs.Program as program
 use Rattle.blame.specs.Blame.{Blamed}
@@ -15,7 +16,8 @@ use Rattle.machine.specs.declared.Answer.{Answer}
 use Rattle.machine.specs.declared.Answer.the-variants.{Ended, Spent}
 use Rattle.rewrites.specs.Run.{most-steps, RunRefused, RunFinished}
 use Rattle.desk.specs.Columns.{signedDigits}
-use Rattle.desk.specs.Refusals.{bytes, refusalText}
+use Rattle.base.specs.Bytes.{bytes}
+use Rattle.desk.specs.Refusals.{refusalText}
 use Rattle.start.specs.Start.{StartTaken, StartRead}
 use Rattle.start.specs.declared.Answer as start
 use Rattle.start.specs.declared.Answer.the-variants.{Taken, Few, Many, Line}
@@ -58,7 +60,7 @@ pub record RunRefusal (t : List ℕ) (budget : ℕ) (w : List ℕ) : Type 0 wher
 
 -- what line n of a start has to be: line 2 is the budget
 unfoldable pub lineRange : ℕ → List ℕ
-lineRange n = pickList (eqb n 2) (bytes " isn't a whole number from 0 to 2147483647") (bytes " isn't a whole number from -2147483648 to 2147483647")
+lineRange n = pick (eqb n 2) (bytes " isn't a whole number from 0 to 2147483647") (bytes " isn't a whole number from -2147483648 to 2147483647")
 
 -- what is wrong with a start, in words
 unfoldable pub startWords : start.Answer → List ℕ

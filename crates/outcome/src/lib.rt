@@ -2,7 +2,7 @@
 ghost use Prim.Native.Nat.{_≤_, _+_, _*_};
 ghost use lib.ListN.{length};
 ghost use Rattle.language.specs.Spelling.{variables};
-ghost use Rattle.language.specs.Writing.{Put};
+ghost use Rattle.statement_writer.specs.Writing.{Put};
 ghost use Rattle.outcome.specs.Outcome.{endedText, valueLines, spentText, startWords, startText, lineRange, value-room, outcome-room, Prints, RunPrints};
 use machine::VALUES;
 use rewrites::RunAnswer;
@@ -25,11 +25,11 @@ pub fn ended(out: &mut [u8], at: usize, v: i32, k: u32) -> usize
     requires { ⌜ at + length (endedText v k) ≤ length (now out) ⌝ }
     ensures { λ r. ⌜ Put (now (out .entry)) at (endedText v k) (now (out .exit)) r ⌝ }
 {
-    let k1 = language::write::word(out, at, b"ended ");
+    let k1 = statement_writer::word(out, at, b"ended ");
     let k2 = desk::columns::signed(out, k1, v);
-    let k3 = language::write::word(out, k2, b" steps ");
-    let k4 = language::write::number(out, k3, k);
-    language::write::byte(out, k4, 10)
+    let k3 = statement_writer::word(out, k2, b" steps ");
+    let k4 = statement_writer::number(out, k3, k);
+    statement_writer::byte(out, k4, 10)
 }
 
 // A line `i0 = 2` for each variable.
@@ -41,7 +41,7 @@ fn value_lines(out: &mut [u8], at: usize, values: &[u32; VALUES]) -> usize
     let mut x: usize = 0;
     while x < VALUES {
         let k = trace::value(out, to, x as u8, values[x]);
-        to = language::write::byte(out, k, 10);
+        to = statement_writer::byte(out, k, 10);
         x += 1;
     }
     to
@@ -52,9 +52,9 @@ fn spent(out: &mut [u8], n: u32, values: &[u32; VALUES]) -> usize
     requires { ⌜ outcome-room ≤ length (now out) ⌝ }
     ensures { λ r. ⌜ Put (now (out .entry)) 0 (spentText n (now (values .entry))) (now (out .exit)) r ⌝ }
 {
-    let k1 = language::write::word(out, 0, b"spent at ");
-    let k2 = language::write::number(out, k1, n);
-    let k3 = language::write::byte(out, k2, 10);
+    let k1 = statement_writer::word(out, 0, b"spent at ");
+    let k2 = statement_writer::number(out, k1, n);
+    let k3 = statement_writer::byte(out, k2, 10);
     value_lines(out, k3, values)
 }
 
@@ -88,9 +88,9 @@ fn line_range(out: &mut [u8], at: usize, n: u32) -> usize
     ensures { λ r. ⌜ Put (now (out .entry)) at (lineRange n) (now (out .exit)) r ⌝ }
 {
     if n == 2 {
-        return language::write::word(out, at, b" isn't a whole number from 0 to 2147483647");
+        return statement_writer::word(out, at, b" isn't a whole number from 0 to 2147483647");
     }
-    language::write::word(
+    statement_writer::word(
         out,
         at,
         b" isn't a whole number from -2147483648 to 2147483647",
@@ -104,11 +104,11 @@ fn start_words(out: &mut [u8], at: usize, a: Answer) -> usize
 {
     match a {
         Answer::Taken => at,
-        Answer::Few => language::write::word(out, at, b"under 2 lines"),
-        Answer::Many => language::write::word(out, at, b"over 34 lines"),
+        Answer::Few => statement_writer::word(out, at, b"under 2 lines"),
+        Answer::Many => statement_writer::word(out, at, b"over 34 lines"),
         Answer::Line(n) => {
-            let k1 = language::write::word(out, at, b"line ");
-            let k2 = language::write::number(out, k1, n);
+            let k1 = statement_writer::word(out, at, b"line ");
+            let k2 = statement_writer::number(out, k1, n);
             line_range(out, k2, n)
         }
     }
@@ -119,9 +119,9 @@ pub fn start_refused(out: &mut [u8], a: Answer) -> usize
     requires { ⌜ length (startText a) ≤ length (now out) ⌝ }
     ensures { λ r. ⌜ Put (now (out .entry)) 0 (startText a) (now (out .exit)) r ⌝ }
 {
-    let k1 = language::write::word(out, 0, b"refused start\nthe start: ");
+    let k1 = statement_writer::word(out, 0, b"refused start\nthe start: ");
     let k2 = start_words(out, k1, a);
-    language::write::byte(out, k2, 10)
+    statement_writer::byte(out, k2, 10)
 }
 
 // Puts what is printed of the run of the program's text from the start's text at the front of the lent bytes.

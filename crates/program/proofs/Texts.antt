@@ -8,12 +8,12 @@ use native.Mathlib.Numerals.{add-one}
 use lib.ListN.{length, take, drop, set, length-append, length-drop, length-map, drop-of-length-le, take-append-drop}
 use lib.Seq.{take-all, take-suc, take-suc-set, take-append-le}
 use Rattle.language.specs.Spelling.{spell, Valid}
-use Rattle.language.specs.Reading.{LineRead}
+use Rattle.statement_reader.specs.Reading.{LineRead}
 use Rattle.language.specs.declared.Statement.{Statement}
 use Rattle.language.specs.declared.Statement.the-variants.{Skip}
-use Rattle.language.specs.declared.read.StatementRead.{StatementRead}
-use Rattle.language.specs.declared.read.StatementRead.the-variants.{Found, Misspelled}
-use Rattle.language.proofs.Lines.{line-unique}
+use Rattle.statement_reader.specs.declared.StatementRead.{StatementRead}
+use Rattle.statement_reader.specs.declared.StatementRead.the-variants.{Found, Misspelled}
+use Rattle.statement_reader.proofs.Lines.{line-unique}
 use Rattle.program.specs.declared.Entry.{Entry}
 use Rattle.program.specs.declared.Refusal.{Refusal}
 use Rattle.program.specs.Program.{at, text, AllValid, Spells, fewest, most, Counted, Placed, Aimed, Taken}

@@ -48,11 +48,6 @@ abbrev pub ProgramRead : List ℕ → Answer → Program → Type 0
 ProgramRead t answer.Taken p = Taken t (statements p) × Held p
 ProgramRead t (answer.Refused r) p = Refused t r × (p .count ≡ 0)
 
--- a test's answer is the truth of X
-abbrev pub Decides : Bool → Type 0 → Type 0
-Decides true X = X
-Decides false X = X → ⊥
-
 -- the text t is that of n valid statements, of which the first 256 stand in es
 pub record Kept (t : List ℕ) (n : ℕ) (es : List Entry) : Type 0 where
   pub P : List Statement

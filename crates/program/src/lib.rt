@@ -3,10 +3,11 @@ ghost use mathlib.Core.Path.{_≡_};
 ghost use Prim.Native.Nat.{_≤_, _+_};
 ghost use lib.ListN.{length, replicate};
 ghost use Rattle.program.specs.Program.{text, most, Inner, InPlace, Placed, IsTarget, Targets, Aimed};
-ghost use Rattle.program.specs.Reading.{Decides, entry, statements, Held, LinesRead, ProgramRead, number};
-ghost use Rattle.language.specs.Writing.{Put};
+ghost use Rattle.base.specs.Decides.{Decides};
+ghost use Rattle.program.specs.Reading.{entry, statements, Held, LinesRead, ProgramRead, number};
+ghost use Rattle.statement_writer.specs.Writing.{Put};
 use language::Statement;
-use language::read::StatementRead;
+use statement_reader::StatementRead;
 
 // A program has 2 to 256 statements.
 pub const FEWEST: usize = 2;
@@ -66,7 +67,7 @@ fn read_lines(s: &[u8]) -> Lines
     let mut count: usize = 0;
     let mut at: usize = 0;
     while at < s.len() {
-        let StatementRead::Found(e, k) = language::read::line(s, at) else {
+        let StatementRead::Found(e, k) = statement_reader::line(s, at) else {
             return Lines {
                 spelled: false,
                 count: 0,
@@ -255,7 +256,7 @@ pub fn write(p: Program, out: &mut [u8]) -> usize
     while s < n {
         let e = entries[s];
         let t = e.statement;
-        at = language::write::line(out, at, t);
+        at = statement_writer::line(out, at, t);
         s += 1;
     }
     at

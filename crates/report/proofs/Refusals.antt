@@ -4,7 +4,7 @@ use mathlib.Core.List.{List}
 use Prim.Native.Nat.{ℕ, _+_, _≤_, _<_, _^_}
 use native.Mathlib.Omega.{arith}
 use lib.ListN.{length, length-append}
-use Rattle.language.proofs.Puts.{put-within}
+use Rattle.statement_writer.proofs.Puts.{put-within}
 use Rattle.desk.specs.Refusals.{refusalWords, refusal-room}
 use Rattle.desk.proofs.Rooms.{refusal-length, refusal-most}
 use Rattle.report.specs.Words.{wordsLine, RefusalWorded, Words}

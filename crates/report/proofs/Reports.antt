@@ -5,7 +5,7 @@ use mathlib.Core.List.{List, _++_}
 use Prim.Native.Nat.{ℕ, _+_, _≤_, _<_}
 use native.Mathlib.Omega.{arith}
 use lib.ListN.{length, take}
-use Rattle.language.specs.Writing.{Put}
+use Rattle.statement_writer.specs.Writing.{Put}
 use Rattle.language.proofs.Lengths.{digits-length}
 use Rattle.program.specs.Program.{text}
 use Rattle.program.specs.Reading as program
@@ -17,7 +17,7 @@ use Rattle.marks.specs.Reading.{Taken}
 use Rattle.marks.specs.declared.Mark.{Mark}
 use Rattle.marks.specs.declared.Refusal as marks-refusal
 use Rattle.marks.specs.declared.Refusal.the-variants as of-marks
-use Rattle.language.proofs.Puts.{put-front, put-within}
+use Rattle.statement_writer.proofs.Puts.{put-front, put-within}
 use Rattle.rewrites.specs.Judge.{text-bytes, Room, Lent, JudgeRefused, JudgeFinished, JudgeAnswers}
 use Rattle.rewrites.specs.declared.JudgeAnswer.{JudgeAnswer}
 use Rattle.rewrites.specs.declared.JudgeAnswer.the-variants.{Refused, Finished}

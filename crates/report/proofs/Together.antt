@@ -3,8 +3,8 @@ use mathlib.Core.List.{List, _++_}
 use Prim.Native.Nat.{ℕ, _+_, _≤_}
 use native.Mathlib.Omega.{arith}
 use lib.ListN.{length, length-append}
-use Rattle.language.specs.Writing.{Put}
-use Rattle.language.proofs.Puts.{put-then, room, front}
+use Rattle.statement_writer.specs.Writing.{Put}
+use Rattle.statement_writer.proofs.Puts.{put-then, room, front}
 use Rattle.marks.specs.declared.Mark.{Mark}
 use Rattle.marks.specs.Reading.{Taken}
 use Rattle.report.specs.Report.{countsLine, verdictLines}

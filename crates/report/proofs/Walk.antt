@@ -5,8 +5,8 @@ use Prim.Native.Nat.{ℕ, _+_, _≤_, _<_}
 use native.Mathlib.Omega.{arith}
 use lib.ListN.{length, take, getD}
 use lib.Seq.{take-all, length-sets}
-use Rattle.language.specs.Writing.{Put}
-use Rattle.language.proofs.Puts.{put-then, room}
+use Rattle.statement_writer.specs.Writing.{Put}
+use Rattle.statement_writer.proofs.Puts.{put-then, room}
 use Rattle.marks.specs.declared.Mark.{Mark}
 use Rattle.marks.specs.declared.read.MarkRead.{MarkRead}
 use Rattle.marks.specs.declared.read.MarkRead.the-variants.{Found, Misspelled}

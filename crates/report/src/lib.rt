@@ -3,7 +3,7 @@ ghost use mathlib.Core.Path.{_≡_};
 ghost use mathlib.Core.List.{List, _++_};
 ghost use lib.ListN.{length};
 ghost use Prim.Native.Nat.{_≤_, _+_};
-ghost use Rattle.language.specs.Writing.{Put};
+ghost use Rattle.statement_writer.specs.Writing.{Put};
 ghost use Rattle.marks.specs.Reading.{Taken};
 ghost use Rattle.marks.specs.declared.Mark.{Mark};
 ghost use Rattle.report.specs.Report.{refusedLine, countsLine, verdictLine, verdictLines, Reports};
@@ -38,9 +38,9 @@ fn write_refused(out: &mut [u8], n: u8) -> usize
     requires { ⌜ length (refusedLine n) ≤ length (now out) ⌝ }
     ensures { λ r. ⌜ Put (now (out .entry)) 0 (refusedLine n) (now (out .exit)) r ⌝ }
 {
-    let k1 = language::write::word(out, 0, b"refused ");
-    let k2 = language::write::number(out, k1, n as u32);
-    language::write::byte(out, k2, 10)
+    let k1 = statement_writer::word(out, 0, b"refused ");
+    let k2 = statement_writer::number(out, k1, n as u32);
+    statement_writer::byte(out, k2, 10)
 }
 
 // Puts the line with the number of marks and of accepted ones at the front of the lent bytes, and answers its length.
@@ -48,11 +48,11 @@ fn write_counts(out: &mut [u8], count: u32, accepted: u32) -> usize
     requires { ⌜ length (countsLine count accepted) ≤ length (now out) ⌝ }
     ensures { λ r. ⌜ Put (now (out .entry)) 0 (countsLine count accepted) (now (out .exit)) r ⌝ }
 {
-    let k1 = language::write::word(out, 0, b"marks ");
-    let k2 = language::write::number(out, k1, count);
-    let k3 = language::write::word(out, k2, b" accepted ");
-    let k4 = language::write::number(out, k3, accepted);
-    language::write::byte(out, k4, 10)
+    let k1 = statement_writer::word(out, 0, b"marks ");
+    let k2 = statement_writer::number(out, k1, count);
+    let k3 = statement_writer::word(out, k2, b" accepted ");
+    let k4 = statement_writer::number(out, k3, accepted);
+    statement_writer::byte(out, k4, 10)
 }
 
 // A mark's statement and its verdict.
@@ -60,10 +60,10 @@ fn write_verdict(out: &mut [u8], at: usize, n: u32, v: u8) -> usize
     requires { ⌜ at + length (verdictLine n v) ≤ length (now out) ⌝ }
     ensures { λ r. ⌜ Put (now (out .entry)) at (verdictLine n v) (now (out .exit)) r ⌝ }
 {
-    let k1 = language::write::number(out, at, n);
-    let k2 = language::write::byte(out, k1, b' ');
-    let k3 = language::write::number(out, k2, v as u32);
-    language::write::byte(out, k3, 10)
+    let k1 = statement_writer::number(out, at, n);
+    let k2 = statement_writer::byte(out, k1, b' ');
+    let k3 = statement_writer::number(out, k2, v as u32);
+    statement_writer::byte(out, k3, 10)
 }
 
 // The same for each mark of the list, in order.
@@ -99,7 +99,7 @@ fn write_report(
 {
     let k1 = write_counts(out, count, accepted);
     let k2 = write_verdicts(out, k1, list, verdicts);
-    language::write::word(out, k2, text)
+    statement_writer::word(out, k2, text)
 }
 
 fn verdict_buffer() -> [u8; VERDICT_BYTES]
@@ -139,7 +139,7 @@ fn write_words(out: &mut [u8], n: u8, line: u32) -> usize
     ensures { λ r. ⌜ Put (now (out .entry)) 0 (wordsLine n line) (now (out .exit)) r ⌝ }
 {
     let k = desk::refusals::words(out, 0, n, line);
-    language::write::byte(out, k, 10)
+    statement_writer::byte(out, k, 10)
 }
 
 // Puts the words of the refusal of the program's text and the list of marks, whose mistake it is and on which line, at the front of the

@@ -4,9 +4,9 @@ use mathlib.Core.List.{List}
 use Prim.Native.Nat.{ℕ, _≤_}
 use native.Mathlib.Omega.{arith}
 use lib.ListN.{length, getD}
-use Rattle.language.specs.Writing.{Put}
+use Rattle.statement_writer.specs.Writing.{Put}
 use Rattle.language.specs.declared.Statement.{Statement}
-use Rattle.language.proofs.Puts.{put-front}
+use Rattle.statement_writer.proofs.Puts.{put-front}
 use Rattle.program.specs.Program.{text, Taken}
 use Rattle.program.specs.Reading.{statements}
 use Rattle.marks.specs.Reading as marks

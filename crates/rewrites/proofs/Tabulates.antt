@@ -12,7 +12,7 @@ use Rattle.language.specs.declared.Statement.{Statement}
 use Rattle.program.specs.Program.{Taken}
 use Rattle.bits.specs.Row.{bit, member}
 use Rattle.bits.proofs.Rows.{word-member}
-use Rattle.bits.proofs.Tests.{clash}
+use Rattle.base.proofs.Bools.{clash}
 use Rattle.labelling.specs.Labels.{Labelled}
 use Rattle.condition.specs.Condition.{Condition, atom, unary, binary, parts}
 use Rattle.condition.specs.Truth.{Sat}

@@ -20,7 +20,7 @@ use Rattle.machine.specs.declared.Answer.{Answer}
 use Rattle.machine.specs.declared.Answer.the-variants as machine
 use Rattle.machine.proofs.Unique.{answer-unique}
 use Rattle.bits.specs.Row.{bit}
-use Rattle.bits.proofs.Tests.{tests-agree}
+use Rattle.base.proofs.Bools.{tests-agree}
 use Rattle.bits.proofs.Words.{word-unique}
 use Rattle.condition.specs.Condition.{Condition, parts}
 use Rattle.condition.specs.Reading as condition

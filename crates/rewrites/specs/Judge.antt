@@ -5,7 +5,7 @@ use mathlib.Core.List.{List}
 use Prim.Native.Nat.{ℕ, _≤_, _<_}
 use lib.ListN.{length, getD, take}
 use Rattle.language.specs.declared.Statement.{Statement}
-use Rattle.language.specs.Writing.{Put}
+use Rattle.statement_writer.specs.Writing.{Put}
 use Rattle.program.specs.Program.{text, Taken}
 use Rattle.program.specs.Reading as program
 use Rattle.program.specs.declared.Refusal as program-refusal

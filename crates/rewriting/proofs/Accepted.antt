@@ -9,7 +9,7 @@ use lib.Dec.{eqb}
 use lib.ListN.{length, getD, take}
 use lib.Seq.{ext-getD}
 use borrow.Author.Tests.{eqb-true, eq-eqb}
-use Rattle.bits.proofs.Tests.{clash, and-left, and-right, and-both, find-below}
+use Rattle.base.proofs.Bools.{clash, and-left, and-right, and-both, find-below}
 use Rattle.language.specs.declared.Statement.{Statement}
 use Rattle.language.specs.declared.Statement.the-variants.{Skip}
 use Rattle.program.specs.Program.{at}

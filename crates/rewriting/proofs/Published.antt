@@ -10,8 +10,7 @@ use Rattle.language.specs.declared.Operand.{Operand}
 use Rattle.language.specs.declared.Operand.the-variants.{Variable, Constant}
 use Rattle.language.specs.declared.Expression.the-variants.{Single}
 use Rattle.language.specs.declared.Statement.the-variants.{Assign}
-use Rattle.language.proofs.Lengths.{digits-length}
-use Rattle.language.proofs.Puts.{assign-length}
+use Rattle.language.proofs.Lengths.{digits-length, assign-length}
 use Rattle.condition.specs.Condition.{spellCondition, spellAtom, ValidCondition, parts}
 use Rattle.condition.specs.Reading.{Taken}
 use Rattle.marks.specs.Marks.{ValidMark}

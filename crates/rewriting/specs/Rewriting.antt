@@ -3,6 +3,7 @@ use mathlib.Core.Path.{_≡_}
 use mathlib.Core.Bool.{Bool, true, false}
 use Prim.Native.Nat.{ℕ}
 use lib.Dec.{eqb}
+use Rattle.base.specs.Pick.{pick}
 use Rattle.language.specs.declared.Operand.{Operand}
 use Rattle.language.specs.declared.Operand.the-variants.{Variable, Constant}
 use Rattle.language.specs.declared.Expression.{Expression}
@@ -58,17 +59,8 @@ abbrev pub published : Mark → Condition
 published (Rm n x e) = unneeded x
 published (Rpl n x a) = copiedBefore x a
 
--- "A for every use of X": in an operand, in an expression, where only a variable can stand
-abbrev pub pickOperand : Bool → Operand → Operand → Operand
-pickOperand true a b = a
-pickOperand false a b = b
-
-abbrev pub pickVariable : Bool → ℕ → ℕ → ℕ
-pickVariable true x y = x
-pickVariable false x y = y
-
 abbrev pub replaceOperand : ℕ → Operand → Operand → Operand
-replaceOperand x a (Variable y) = pickOperand (eqb x y) a (Variable y)
+replaceOperand x a (Variable y) = pick (eqb x y) a (Variable y)
 replaceOperand x a (Constant n) = Constant n
 
 abbrev pub replaceIn : ℕ → Operand → Expression → Expression
@@ -76,7 +68,7 @@ replaceIn x a (Single b) = Single (replaceOperand x a b)
 replaceIn x a (Binary b o c) = Binary (replaceOperand x a b) o (replaceOperand x a c)
 
 abbrev pub replaceVariable : ℕ → Operand → ℕ → ℕ
-replaceVariable x (Variable z) y = pickVariable (eqb x y) z y
+replaceVariable x (Variable z) y = pick (eqb x y) z y
 replaceVariable x (Constant n) y = y
 
 -- "Made: A for every use of X in n"

@@ -3,8 +3,8 @@
 ghost use mathlib.Core.Path.{_≡_};
 ghost use lib.ListN.{length};
 use files::FileRead;
-use language::read::WordRead;
 use libc::STDERR_FILENO;
+use tokens::WordRead;
 use transcript::Stage;
 
 // Pieces of the output are written from this many bytes.
@@ -39,7 +39,7 @@ fn print(program: &[u8], start: &[u8], trace: bool) -> u8 {
 fn traced() -> bool {
     let mut word = io::buffer();
     let n = files::arg(3, &mut word);
-    let WordRead::Found(k) = language::read::word(&word[..n], 0, b"trace") else {
+    let WordRead::Found(k) = tokens::word(&word[..n], 0, b"trace") else {
         return false;
     };
     k == n

@@ -6,7 +6,7 @@ use Prim.Native.Nat.{ℕ, _≤_, _<_}
 use native.Mathlib.Omega.{arith}
 use lib.ListN.{length, getD, take}
 use Rattle.language.specs.declared.Statement.{Statement}
-use Rattle.language.proofs.Puts.{put-front}
+use Rattle.statement_writer.proofs.Puts.{put-front}
 use Rattle.program.specs.Program.{text}
 use Rattle.program.proofs.RoundTrip.{taken-unique}
 use Rattle.program.proofs.Unique.{taken-refused}

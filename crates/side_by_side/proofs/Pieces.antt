@@ -5,8 +5,8 @@ use mathlib.Core.List.{List, _++_, append-nil}
 use Prim.Native.Nat.{ℕ, _≤_, _<_}
 use native.Mathlib.Omega.{arith}
 use lib.ListN.{length, take, length-take}
-use Rattle.language.specs.Writing.{Put}
-use Rattle.language.proofs.Puts.{put-front}
+use Rattle.statement_writer.specs.Writing.{Put}
+use Rattle.statement_writer.proofs.Puts.{put-front}
 use Rattle.rewrites.specs.Judge.{text-bytes}
 use Rattle.trace.proofs.Series.{put-length}
 use Rattle.side_by_side.specs.SideBySide.{atStage, HandedAt, Handed, aheadAt, ahead, stays, Stays, Kept, Prints, side-by-side-room, Next}

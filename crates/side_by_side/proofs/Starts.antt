@@ -5,8 +5,8 @@ use mathlib.Core.List.{List, [], _++_, append-nil}
 use Prim.Native.Nat.{ℕ, _≤_, _<_}
 use native.Mathlib.Omega.{arith}
 use lib.ListN.{length, take}
-use Rattle.language.specs.Writing.{Put}
-use Rattle.language.proofs.Puts.{put-front}
+use Rattle.statement_writer.specs.Writing.{Put}
+use Rattle.statement_writer.proofs.Puts.{put-front}
 use Rattle.program.proofs.RoundTrip.{text-fits}
 use Rattle.machine.proofs.Runs.{stands-first}
 use Rattle.marks.proofs.Lists.{taken-unique}

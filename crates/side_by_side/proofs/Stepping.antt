@@ -7,7 +7,7 @@ use Prim.Native.Nat.{ℕ, zero, suc, _+_, _-_, _≤_, _<_}
 use native.Mathlib.Omega.{arith}
 use lib.ListN.{length, take}
 use Rattle.language.specs.declared.Statement.{Statement}
-use Rattle.language.proofs.Puts.{put-front}
+use Rattle.statement_writer.proofs.Puts.{put-front}
 use Rattle.program.specs.Program.{Taken}
 use Rattle.program.specs.Reading.{statements, Held}
 use Rattle.program.specs.declared.Program.{Program}

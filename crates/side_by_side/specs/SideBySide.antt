@@ -6,7 +6,7 @@ use mathlib.Core.List.{List, [], _++_}
 use Prim.Native.Nat.{ℕ, _+_, _-_, _≤_, _<_}
 use lib.ListN.{length, take, replicate}
 use Rattle.language.specs.Spelling.{variables}
-use Rattle.language.specs.Writing.{Put}
+use Rattle.statement_writer.specs.Writing.{Put}
 use Rattle.rewriting.specs.Verdicts.{acceptedCount}
 use Rattle.rewrites.specs.Run.{most-steps, RunAnswers}
 use Rattle.rewrites.specs.Judge.{text-bytes}

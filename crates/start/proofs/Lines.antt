@@ -8,8 +8,8 @@ use native.Mathlib.Omega.{arith}
 use lib.ListN.{length, getD, set, drop, length-append, length-drop, length-set, length-replicate, replicate, getD-replicate, drop-of-length-le, List·getD-append, List·getD-eq-default}
 use borrow.Author.Count.{below-more}
 use lib.Seq.{getD-set-same, getD-set-other, getD-append-seam}
-use Rattle.language.specs.declared.read.NumberRead.{NumberRead}
-use Rattle.language.specs.declared.read.NumberRead.the-variants.{Found, Misspelled}
+use Rattle.tokens.specs.declared.NumberRead.{NumberRead}
+use Rattle.tokens.specs.declared.NumberRead.the-variants.{Found, Misspelled}
 use Rattle.start.specs.Start.{spellLine, RightLine, startLines, AllRight, fewest, most, Begins, StartTaken, WrongLine, LineRead}
 
 lines-append : (k : ℕ) (ls : List ℕ) (v : ℕ) → startLines k (ls ++ v ∷ []) ≡ startLines k ls ++ (spellLine (k + length ls) v ++ 10 ∷ [])

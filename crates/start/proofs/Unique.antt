@@ -8,7 +8,7 @@ use lib.Dec.{ltb, eqb}
 use lib.ListN.{length, getD, length-append}
 use lib.Seq.{ext-getD}
 use borrow.Author.Tests.{lt-ltb, le-ltb, eq-eqb, ne-eqb}
-use Rattle.language.specs.Parsing.{found}
+use Rattle.tokens.specs.Parsing.{found}
 use Rattle.start.specs.Start.{spellLine, RightLine, startLines, AllRight, fewest, most, Begins, StartTaken, WrongLine, Nothing, StartRead}
 use Rattle.start.specs.Parsing.{parseStartLine}
 use Rattle.start.specs.declared.Answer.{Answer}

@@ -8,13 +8,13 @@ use native.Mathlib.Omega.{arith}
 use lib.Dec.{ltb, eqb}
 use lib.ListN.{length, drop}
 use borrow.Author.Tests.{lt-ltb, le-ltb, ltb-true}
-use Rattle.language.specs.Spelling.{largest, digits, digitsBy, pickList}
-use Rattle.language.specs.Parsing.{Parsed, found, misspelled, after, afterOr, where?, either, pick as pickParsed, parseWord, digitOf, parseDigits, parseNumber, parsedNumber, numberEnd}
-use Rattle.language.specs.declared.read.NumberRead.{NumberRead}
-use Rattle.language.specs.declared.read.NumberRead.the-variants.{Found, Misspelled}
-use Rattle.language.proofs.Numbers.{NoDigit, number-sound, number-complete}
-use Rattle.language.proofs.Parse.{after-inv, afterOr-inv, where-inv, either-inv, skip-sound}
-use Rattle.machine.specs.Machine.{pick}
+use Rattle.language.specs.Spelling.{largest, digits, digitsBy}
+use Rattle.base.specs.Pick.{pick}
+use Rattle.tokens.specs.Parsing.{Parsed, found, misspelled, after, afterOr, where?, either, parseWord, digitOf, parseDigits, parseNumber, parsedNumber, numberEnd}
+use Rattle.tokens.specs.declared.NumberRead.{NumberRead}
+use Rattle.tokens.specs.declared.NumberRead.the-variants.{Found, Misspelled}
+use Rattle.tokens.proofs.Numbers.{NoDigit, number-sound, number-complete}
+use Rattle.tokens.proofs.Parse.{after-inv, afterOr-inv, where-inv, either-inv, skip-sound}
 use Rattle.desk.specs.Columns.{signedDigits}
 use Rattle.start.specs.Start.{spellValue, spellLine, RightLine, LineRead}
 use Rattle.start.specs.Parsing.{least-word, parseNegative, parseSigned, parseField, parseStartLine}
@@ -98,8 +98,8 @@ field-sound : (k : ℕ) (l : List ℕ) (v : ℕ) (rest : List ℕ) → parseFiel
 unfolding parseField
 field-sound k l v rest e = go (eqb k 1) e
   where
-    go : (b : Bool) → pickParsed b (parseNumber l) (parseSigned l) ≡ found v rest
-        → (l ≡ pickList b (digits v) (spellValue v) ++ rest) × (v < pick b (2 ^ 31) (2 ^ 32))
+    go : (b : Bool) → pick b (parseNumber l) (parseSigned l) ≡ found v rest
+        → (l ≡ pick b (digits v) (spellValue v) ++ rest) × (v < pick b (2 ^ 31) (2 ^ 32))
     go true p = let h = number-sound l v rest p in (h .0, omega (arith, h .1))
     go false p = signed-sound l v rest p
 
@@ -108,7 +108,7 @@ unfolding parseField
 field-complete k v rest r h = go (eqb k 1) r
   where
     go : (b : Bool) → v < pick b (2 ^ 31) (2 ^ 32)
-        → pickParsed b (parseNumber (pickList b (digits v) (spellValue v) ++ rest)) (parseSigned (pickList b (digits v) (spellValue v) ++ rest)) ≡ found v rest
+        → pick b (parseNumber (pick b (digits v) (spellValue v) ++ rest)) (parseSigned (pick b (digits v) (spellValue v) ++ rest)) ≡ found v rest
     go true p = number-complete v rest (omega arith) h
     go false p = signed-complete v rest p h
 

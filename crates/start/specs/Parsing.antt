@@ -2,7 +2,8 @@
 use mathlib.Core.List.{List, [], _∷_}
 use Prim.Native.Nat.{ℕ, _-_, _^_}
 use lib.Dec.{ltb, eqb}
-use Rattle.language.specs.Parsing.{Parsed, found, misspelled, after, afterOr, where?, either, pick, parseWord, parseNumber}
+use Rattle.tokens.specs.Parsing.{Parsed, found, misspelled, after, afterOr, where?, either, parseWord, parseNumber}
+use Rattle.base.specs.Pick.{pick}
 
 -- 2147483648, which is no constant
 abbrev pub least-word : List ℕ

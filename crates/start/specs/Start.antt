@@ -6,10 +6,10 @@ use lib.Dec.{eqb}
 use lib.ListN.{length, getD, drop, replicate}
 use mir.Syntax.{w32}
 use mir.Val.{toZ}
-use Rattle.language.specs.Spelling.{variables, digits, pickList}
-use Rattle.language.specs.declared.read.NumberRead.{NumberRead}
-use Rattle.language.specs.declared.read.NumberRead.the-variants.{Found, Misspelled}
-use Rattle.machine.specs.Machine.{pick}
+use Rattle.language.specs.Spelling.{variables, digits}
+use Rattle.base.specs.Pick.{pick}
+use Rattle.tokens.specs.declared.NumberRead.{NumberRead}
+use Rattle.tokens.specs.declared.NumberRead.the-variants.{Found, Misspelled}
 use Rattle.desk.specs.Columns.{signedDigits}
 use Rattle.start.specs.declared.Answer.{Answer}
 use Rattle.start.specs.declared.Answer.the-variants.{Taken, Few, Many, Line}
@@ -20,7 +20,7 @@ spellValue v = signedDigits (toZ w32 v)
 
 -- line k, counted from 0: line 1 is the budget, 0 to 2147483647 without sign; each other is a value of 32 bits
 abbrev pub spellLine : ℕ → ℕ → List ℕ
-spellLine k v = pickList (eqb k 1) (digits v) (spellValue v)
+spellLine k v = pick (eqb k 1) (digits v) (spellValue v)
 
 abbrev pub RightLine : ℕ → ℕ → Type 0
 RightLine k v = v < pick (eqb k 1) (2 ^ 31) (2 ^ 32)

@@ -3,12 +3,12 @@ ghost use mathlib.Core.Path.{_≡_};
 ghost use Prim.Native.Nat.{ℕ, _≤_, _<_, _+_};
 ghost use lib.ListN.{length, getD, drop, replicate};
 ghost use Rattle.language.specs.Spelling.{variables};
-ghost use Rattle.language.specs.Parsing.{parsedNumber, numberEnd};
+ghost use Rattle.tokens.specs.Parsing.{parsedNumber, numberEnd};
 ghost use Rattle.start.specs.Start.{StartRead, Nothing, LineRead, most};
 ghost use Rattle.start.specs.Parsing.{parseNegative, parseSigned, parseField, parseStartLine};
-use language::read::NumberRead;
-use language::read::WordRead;
 use machine::VALUES;
+use tokens::NumberRead;
+use tokens::WordRead;
 
 // A start has 2 to 34 lines.
 pub const FEWEST: usize = 2;
@@ -36,8 +36,8 @@ fn negative(s: &[u8], at: usize) -> NumberRead
     ensures { λ r. ⌜ parsedNumber (now (s .entry)) r ≡ parseNegative (drop at (now (s .entry))) ⌝ }
     ensures { λ r. ⌜ numberEnd r ≤ length (now (s .entry)) ⌝ }
 {
-    let NumberRead::Found(n, k) = language::read::number(s, at) else {
-        let WordRead::Found(j) = language::read::word(s, at, b"2147483648") else {
+    let NumberRead::Found(n, k) = tokens::number(s, at) else {
+        let WordRead::Found(j) = tokens::word(s, at, b"2147483648") else {
             return NumberRead::Misspelled;
         };
         return NumberRead::Found(2147483648, j);
@@ -53,8 +53,8 @@ fn signed(s: &[u8], at: usize) -> NumberRead
     ensures { λ r. ⌜ parsedNumber (now (s .entry)) r ≡ parseSigned (drop at (now (s .entry))) ⌝ }
     ensures { λ r. ⌜ numberEnd r ≤ length (now (s .entry)) ⌝ }
 {
-    let NumberRead::Found(n, k) = language::read::number(s, at) else {
-        let WordRead::Found(j) = language::read::word(s, at, b"-") else {
+    let NumberRead::Found(n, k) = tokens::number(s, at) else {
+        let WordRead::Found(j) = tokens::word(s, at, b"-") else {
             return NumberRead::Misspelled;
         };
         return negative(s, j);
@@ -68,7 +68,7 @@ fn field(s: &[u8], at: usize, k: usize) -> NumberRead
     ensures { λ r. ⌜ numberEnd r ≤ length (now (s .entry)) ⌝ }
 {
     if k == 1 {
-        return language::read::number(s, at);
+        return tokens::number(s, at);
     }
     signed(s, at)
 }
@@ -80,7 +80,7 @@ fn ended_field(s: &[u8], at: usize, k: usize) -> NumberRead
     let NumberRead::Found(v, end) = field(s, at, k) else {
         return NumberRead::Misspelled;
     };
-    let WordRead::Found(next) = language::read::word(s, end, b"\n") else {
+    let WordRead::Found(next) = tokens::word(s, end, b"\n") else {
         return NumberRead::Misspelled;
     };
     NumberRead::Found(v, next)

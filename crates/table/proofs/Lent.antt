@@ -4,7 +4,7 @@ use mathlib.Core.List.{List, _++_}
 use Prim.Native.Nat.{ℕ, _+_, _*_, _-_, _≤_}
 use native.Mathlib.Omega.{arith}
 use lib.ListN.{length, take, drop, length-take, length-drop}
-use Rattle.language.specs.Parsing.{Parsed, found, misspelled}
+use Rattle.tokens.specs.Parsing.{Parsed, found, misspelled}
 use Rattle.bits.specs.Row.{member}
 use Rattle.labelling.specs.Labels.{Labelled}
 use Rattle.table.specs.Table.{part-words, row, Written}

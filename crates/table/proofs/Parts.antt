@@ -8,7 +8,7 @@ use native.Mathlib.Omega.{arith}
 use lib.ListN.{length, take, drop, length-drop}
 use lib.Seq.{length-take-le, take-all}
 use Rattle.language.specs.declared.Statement.{Statement}
-use Rattle.language.specs.Parsing.{found}
+use Rattle.tokens.specs.Parsing.{found}
 use Rattle.bits.specs.Row.{member}
 use Rattle.ctl.specs.Paths.{So}
 use Rattle.graph.specs.Graphs.{entries, DirectionsAt}

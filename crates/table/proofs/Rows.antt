@@ -5,7 +5,7 @@ use mathlib.Core.Logic.{_⊎_, ⊎-elim}
 use Prim.Native.Nat.{ℕ, _≤_}
 use lib.Dec.{ltb}
 use borrow.Author.Tests.{lt-ltb, le-ltb}
-use Rattle.bits.proofs.Tests.{split, clash, and-left, and-right, and-both, or-case, or-left, or-right, not-of-false, false-of-not}
+use Rattle.base.proofs.Bools.{split, clash, and-left, and-right, and-both, or-case, or-left, or-right, not-of-false, false-of-not}
 use Rattle.ctl.specs.Paths.{So}
 use Rattle.labelling.specs.Labels.{Labelled}
 

@@ -10,7 +10,7 @@ use lib.ListN.{length}
 use borrow.Author.Tests.{ltb-true, ltb-false}
 use Rattle.bits.specs.Row.{member, countBelow, First}
 use Rattle.bits.proofs.Counts.{count-ext}
-use Rattle.bits.proofs.Tests.{clash}
+use Rattle.base.proofs.Bools.{clash}
 use Rattle.table.specs.Table.{part-words}
 use Rattle.table.specs.Summary.{Counts}
 

@@ -6,8 +6,9 @@ use mathlib.Core.Bool.{Bool, true, false}
 use Prim.Native.Nat.{ℕ, _+_, _-_, _*_, _/_, _%_, _≤_, _<_}
 use lib.Dec.{ltb}
 use lib.ListN.{length, getD, drop}
+use Rattle.base.specs.Pick.{pick}
 use Rattle.language.specs.declared.Statement.{Statement}
-use Rattle.language.specs.Parsing.{found}
+use Rattle.tokens.specs.Parsing.{found}
 use Rattle.bits.specs.Row.{member}
 use Rattle.labelling.specs.Labels.{Labelled}
 use Rattle.condition.specs.Condition.{Condition, atom, unary, binary, parts}
@@ -16,10 +17,6 @@ use Rattle.condition.specs.Parsing.{parseAtom}
 use Rattle.condition.specs.Truth.{Sat}
 use Rattle.table.specs.Table.{part-words, row, partAt}
 use Rattle.table.specs.Known.{Known}
-
-abbrev pub pick : Bool → ℕ → ℕ → ℕ
-pick true a b = a
-pick false a b = b
 
 -- the left operand's part, by the word w of part k: of a unary operator it is the part before
 abbrev pub leftOf : ℕ → ℕ → ℕ

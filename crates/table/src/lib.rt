@@ -4,7 +4,7 @@ ghost use mathlib.Core.Bool.{false};
 ghost use mathlib.Core.List.{List};
 ghost use Prim.Native.Nat.{ℕ, _+_, _-_, _*_, _≤_, _<_};
 ghost use lib.ListN.{length, drop};
-ghost use Rattle.language.specs.Parsing.{found};
+ghost use Rattle.tokens.specs.Parsing.{found};
 ghost use Rattle.language.specs.declared.Statement.{Statement as StatementOf};
 ghost use Rattle.condition.specs.Parsing.{parseAtom};
 ghost use Rattle.condition.specs.declared.Atom.{Atom as AtomOf};

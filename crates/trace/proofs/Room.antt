@@ -9,11 +9,11 @@ use lib.ListN.{length, getD, length-append}
 use mir.Syntax.{w32}
 use mir.Val.{toZ}
 use borrow.Author.Tests.{lt-ltb, le-ltb, ltb-true, ltb-false}
-use Rattle.language.specs.Spelling.{pickList, digits, spellVariable, spell, Valid}
+use Rattle.language.specs.Spelling.{digits, spellVariable, spell, Valid}
+use Rattle.base.specs.Pick.{pick}
 use Rattle.language.specs.declared.Statement.{Statement}
 use Rattle.language.specs.declared.Statement.the-variants.{Read, Write, Assign, Branch, Skip}
-use Rattle.language.proofs.Lengths.{Near, digits-length, line-most as statement-most}
-use Rattle.language.proofs.Puts.{variable-length}
+use Rattle.language.proofs.Lengths.{Near, digits-length, line-most as statement-most, variable-length}
 use Rattle.program.specs.Program.{most, Targets}
 use Rattle.desk.specs.Columns.{spaces, wide, padded, signedDigits}
 use Rattle.desk.proofs.Lengths.{wide-length, padded-length}
@@ -41,7 +41,7 @@ change-most : (x : ℕ) (vs us : List ℕ) → x < 32 → length (change x vs us
 unfolding change
 change-most x vs us h = go (eqb (getD vs x 0) (getD us x 0))
   where
-    go : (b : Bool) → length (pickList b [] (spaces 2 ++ valueText x (getD us x 0))) ≤ change-room
+    go : (b : Bool) → length (pick b [] (spaces 2 ++ valueText x (getD us x 0))) ≤ change-room
     go true = omega arith
     go false = omega (arith, value-most x (getD us x 0) h)
 

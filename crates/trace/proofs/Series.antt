@@ -7,8 +7,8 @@ use native.Mathlib.Omega.{arith}
 use native.Mathlib.Numerals.{add-one}
 use lib.ListN.{length, length-append}
 use lib.Seq.{length-sets}
-use Rattle.language.specs.Writing.{Put}
-use Rattle.language.proofs.Puts.{put-then}
+use Rattle.statement_writer.specs.Writing.{Put}
+use Rattle.statement_writer.proofs.Puts.{put-then}
 
 pub put-length : {o q w : List ℕ} {at k : ℕ} → Put o at w q k → length q ≡ length o
 put-length {o = o} {w = w} {at = at} p = ap length (p .text) ∙ length-sets o at w

@@ -5,7 +5,8 @@ use lib.Dec.{eqb}
 use lib.ListN.{getD}
 use mir.Syntax.{w32}
 use mir.Val.{toZ}
-use Rattle.language.specs.Spelling.{variables, pickList, spellVariable, spell}
+use Rattle.language.specs.Spelling.{variables, spellVariable, spell}
+use Rattle.base.specs.Pick.{pick}
 use Rattle.language.specs.declared.Statement.{Statement}
 use Rattle.program.specs.Program.{at}
 use Rattle.machine.specs.Machine.{State, before, ended, perform, after}
@@ -17,7 +18,7 @@ valueText x v = spellVariable x ++ (32 ∷ 61 ∷ 32 ∷ signedDigits (toZ w32 v
 
 -- two spaces and the value in us, where it differs from that in vs
 unfoldable pub change : ℕ → List ℕ → List ℕ → List ℕ
-change x vs us = pickList (eqb (getD vs x 0) (getD us x 0)) [] (spaces 2 ++ valueText x (getD us x 0))
+change x vs us = pick (eqb (getD vs x 0) (getD us x 0)) [] (spaces 2 ++ valueText x (getD us x 0))
 
 -- the same for each of the first n variables, in order
 unfoldable pub changes : ℕ → List ℕ → List ℕ → List ℕ

@@ -2,7 +2,7 @@
 ghost use Prim.Native.Nat.{_≤_, _<_, _+_};
 ghost use lib.ListN.{length};
 ghost use Rattle.language.specs.Spelling.{variables, Valid};
-ghost use Rattle.language.specs.Writing.{Put};
+ghost use Rattle.statement_writer.specs.Writing.{Put};
 ghost use Rattle.program.specs.Program.{most, Targets, WellFormed};
 ghost use Rattle.program.specs.Reading.{statements};
 ghost use Rattle.trace.specs.Trace.{valueText as valueBytes, change as changeBytes, changes as changesBytes, stepHead, lineText};
@@ -28,8 +28,8 @@ pub fn value(out: &mut [u8], at: usize, x: u8, v: u32) -> usize
     requires { ⌜ at + length (valueBytes x v) ≤ length (now out) ⌝ }
     ensures { λ r. ⌜ Put (now (out .entry)) at (valueBytes x v) (now (out .exit)) r ⌝ }
 {
-    let k1 = language::write::variable(out, at, x);
-    let k2 = language::write::word(out, k1, b" = ");
+    let k1 = statement_writer::variable(out, at, x);
+    let k2 = statement_writer::word(out, k1, b" = ");
     desk::columns::signed(out, k2, machine::signed(v))
 }
 
@@ -90,7 +90,7 @@ fn line(
 {
     let k1 = head(out, at, k, place, s);
     let k2 = changes(out, k1, old, new);
-    language::write::byte(out, k2, 10)
+    statement_writer::byte(out, k2, 10)
 }
 
 // The bytes written, the steps done, and whether the run has ended with the last of them: `at` is then the place of the statement that it

@@ -8,7 +8,7 @@ use native.Mathlib.Omega.{arith}
 use lib.Dec.{ltb}
 use lib.ListN.{length}
 use borrow.Author.Tests.{ltb-true, ltb-false}
-use Rattle.language.proofs.Puts.{put-within}
+use Rattle.statement_writer.proofs.Puts.{put-within}
 use Rattle.language.specs.declared.Statement.{Statement}
 use Rattle.program.specs.Reading.{Held, statements}
 use Rattle.program.specs.declared.Program.{Program}

@@ -5,7 +5,7 @@ use mathlib.Core.List.{List, [], _++_}
 use mathlib.Core.Bool.{Bool}
 use Prim.Native.Nat.{ℕ}
 use lib.ListN.{take}
-use Rattle.language.proofs.Puts.{put-front}
+use Rattle.statement_writer.proofs.Puts.{put-front}
 use Rattle.outcome.proofs.Unique.{runs-unique, runs-refused, result-runs, result-unique, refusal-unique}
 use Rattle.transcript.specs.Transcript.{Whole, Output, HandedAt, Handed, beginning, Hands}
 use Rattle.transcript.specs.declared.Stage.{Stage}

@@ -14,7 +14,7 @@ use lib.ListN.{length, getD, take, set, length-set}
 use lib.Seq.{take-suc, take-length, getD-set-same, getD-set-other}
 use Rattle.language.specs.declared.Statement.{Statement}
 use Rattle.bits.specs.Row.{member}
-use Rattle.bits.proofs.Tests.{clash, or-case, or-left, or-right}
+use Rattle.base.proofs.Bools.{clash, or-case, or-left, or-right}
 use Rattle.marks.specs.Marks.{names, Spells}
 use Rattle.marks.specs.Reading.{MarkLineRead}
 use Rattle.marks.specs.Reading as marks

@@ -9,13 +9,14 @@ use lib.Dec.{leb}
 use lib.ListN.{length}
 use Rattle.language.specs.declared.Statement.{Statement}
 use Rattle.program.specs.Program.{most, at}
-use Rattle.program.specs.Reading.{Decides, statements, Held}
+use Rattle.base.specs.Decides.{Decides}
+use Rattle.program.specs.Reading.{statements, Held}
 use Rattle.program.specs.declared.Program.{Program}
 use Rattle.program.proofs.Held.{held, at-held, length-held}
 use Rattle.table.specs.Known.{Known}
-use Rattle.program.proofs.Decides.{decides}
+use Rattle.base.proofs.Decides.{decides}
 use Rattle.bits.specs.Row.{member}
-use Rattle.bits.proofs.Tests.{clash}
+use Rattle.base.proofs.Bools.{clash}
 use Rattle.labelling.specs.Labels.{Labelled}
 use Rattle.condition.specs.Truth.{Sat}
 use Rattle.marks.specs.Marks.{names}

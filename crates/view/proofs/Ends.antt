@@ -10,7 +10,7 @@ use borrow.Author.Tests.{ltb-true, ltb-false}
 use Rattle.condition.specs.declared.Atom.{Atom}
 use Rattle.condition.specs.declared.read.AtomRead.{AtomRead}
 use Rattle.condition.specs.declared.read.AtomRead.the-variants.{Found, Misspelled}
-use Rattle.language.specs.Parsing.{Parsed, found, misspelled}
+use Rattle.tokens.specs.Parsing.{Parsed, found, misspelled}
 use Rattle.condition.specs.Parsing.{parseAtom, parsedAtom}
 use Rattle.view.specs.Writing.{AtomEnds}
 

@@ -4,7 +4,7 @@ use mathlib.Core.List.{List}
 use Prim.Native.Nat.{ℕ, _+_, _-_, _%_, _≤_, _<_}
 use native.Mathlib.Omega.{arith}
 use lib.ListN.{length, take, drop, getD}
-use Rattle.language.specs.Writing.{Put}
+use Rattle.statement_writer.specs.Writing.{Put}
 use Rattle.condition.specs.Condition.{Condition, spellCondition, parts}
 use Rattle.condition.specs.Reading.{most-bytes, most-parts, Taken, Held}
 use Rattle.condition.proofs.Spelling.{condition-unique}

@@ -5,7 +5,7 @@ use mathlib.Core.List.{List}
 use Prim.Native.Nat.{ℕ, _+_, _≤_, _<_, _^_}
 use native.Mathlib.Omega.{arith}
 use lib.ListN.{length}
-use Rattle.language.specs.Writing.{Put}
+use Rattle.statement_writer.specs.Writing.{Put}
 use Rattle.program.specs.Reading.{Refused, number, ProgramRead, statements}
 use Rattle.program.specs.declared.Answer as answer
 use Rattle.program.specs.declared.Program.{Program}

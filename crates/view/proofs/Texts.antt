@@ -10,9 +10,9 @@ use lib.ListN.{length, length-append}
 use lib.Seq.{length-sets}
 use borrow.Author.Tests.{ltb-true, ltb-false}
 use Rattle.language.specs.Spelling.{digits, spell}
-use Rattle.language.specs.Writing.{Put}
+use Rattle.statement_writer.specs.Writing.{Put}
 use Rattle.language.specs.declared.Statement.{Statement}
-use Rattle.language.proofs.Puts.{put-then}
+use Rattle.statement_writer.proofs.Puts.{put-then}
 use Rattle.desk.specs.Columns.{spaces, wide, padded}
 use Rattle.view.specs.View.{upTo, partLine, columns, headRow, margin, row, mark, lastLine}
 

@@ -9,7 +9,7 @@ use lib.ListN.{length}
 use Rattle.language.specs.declared.Statement.{Statement}
 use Rattle.program.specs.Program.{at}
 use Rattle.program.proofs.RoundTrip.{taken-unique}
-use Rattle.bits.proofs.Tests.{tests-agree}
+use Rattle.base.proofs.Bools.{tests-agree}
 use Rattle.condition.specs.Condition.{parts}
 use Rattle.condition.specs.Truth.{Sat}
 use Rattle.condition.proofs.Readers.{parts-few}

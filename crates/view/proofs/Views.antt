@@ -6,7 +6,7 @@ use mathlib.Core.List.{List}
 use Prim.Native.Nat.{ℕ, _+_, _*_, _/_, _%_, _≤_, _<_}
 use native.Mathlib.Omega.{arith}
 use lib.ListN.{length, getD}
-use Rattle.language.specs.Writing.{Put}
+use Rattle.statement_writer.specs.Writing.{Put}
 use Rattle.language.specs.declared.Statement.{Statement}
 use Rattle.program.specs.Program.{Taken}
 use Rattle.program.specs.Reading as program
@@ -29,7 +29,7 @@ use Rattle.view.specs.Writing.{truthIn, ViewFits, RefusalPut}
 use Rattle.view.specs.declared.Viewed.{Viewed}
 use Rattle.view.specs.declared.Viewed.the-variants as viewed
 use Rattle.view.specs.declared.Viewed.the-variants.{Written}
-use Rattle.language.proofs.Puts.{put-within}
+use Rattle.statement_writer.proofs.Puts.{put-within}
 use Rattle.view.proofs.Room.{view-most}
 
 -- what each of the two answers says

@@ -6,8 +6,9 @@ use mathlib.Core.List.{List, [], _∷_, _++_}
 use Prim.Native.Nat.{ℕ, zero, suc, _+_, _-_, _*_, _/_, _%_, _≤_, _<_}
 use lib.Dec.{ltb}
 use lib.ListN.{length}
+use Rattle.base.specs.Pick.{pick}
 use Rattle.language.specs.Spelling.{digits, spell}
-use Rattle.language.specs.Writing.{Put}
+use Rattle.statement_writer.specs.Writing.{Put}
 use Rattle.language.specs.declared.Statement.{Statement}
 use Rattle.program.specs.Program.{Taken, at, most}
 use Rattle.program.specs.Reading as program
@@ -20,7 +21,8 @@ use Rattle.table.specs.Table.{part-words, partAt}
 use Rattle.table.specs.Summary.{Counts}
 use Rattle.blame.specs.Blame.{Blames}
 use Rattle.desk.specs.Columns.{spaces, wide, padded}
-use Rattle.desk.specs.Refusals.{bytes, refusalText}
+use Rattle.base.specs.Bytes.{bytes}
+use Rattle.desk.specs.Refusals.{refusalText}
 use Rattle.view.specs.declared.Viewed.{Viewed}
 use Rattle.view.specs.declared.Viewed.the-variants.{Written, Refused, NoRoom}
 
@@ -40,13 +42,8 @@ partLines c = upTo (length (parts c)) (λ k. partLine k (spellCondition (partAt 
 unfoldable pub columns : (ℕ → ℕ) → ℕ → List ℕ
 columns f n = upTo (n - 1) (λ k. f k ∷ []) ++ (spaces 2 ++ f (n - 1) ∷ [])
 
--- the tens digit of a part's number, a space below 10, and its units digit
-abbrev pub pickByte : Bool → ℕ → ℕ → ℕ
-pickByte true a b = a
-pickByte false a b = b
-
 abbrev pub tens : ℕ → ℕ
-tens k = pickByte (ltb (k + 1) 10) 32 (48 + (k + 1) / 10)
+tens k = pick (ltb (k + 1) 10) 32 (48 + (k + 1) / 10)
 
 abbrev pub units : ℕ → ℕ
 units k = 48 + (k + 1) % 10

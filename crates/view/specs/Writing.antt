@@ -5,8 +5,8 @@ use mathlib.Core.Logic.{_⊎_}
 use mathlib.Core.List.{List}
 use Prim.Native.Nat.{ℕ, _+_, _-_, _*_, _≤_, _<_}
 use lib.ListN.{length, drop}
-use Rattle.language.specs.Parsing.{found}
-use Rattle.language.specs.Writing.{Put}
+use Rattle.tokens.specs.Parsing.{found}
+use Rattle.statement_writer.specs.Writing.{Put}
 use Rattle.language.specs.declared.Statement.{Statement}
 use Rattle.program.specs.Program.{Taken, most}
 use Rattle.program.specs.Reading.{Refused, number, Held, statements}

@@ -3,13 +3,13 @@ ghost use mathlib.Core.Path.{_≡_};
 ghost use lib.ListN.{length};
 ghost use lib.Dec.{ltb};
 ghost use Prim.Native.Nat.{_≤_, _<_, _+_, _/_};
-ghost use Rattle.language.specs.Writing.{Put};
+ghost use Rattle.statement_writer.specs.Writing.{Put};
 ghost use Rattle.program.specs.Reading.{statements};
 ghost use Rattle.condition.specs.Condition.{Condition};
 ghost use Rattle.condition.specs.Reading.{Taken, most-parts, most-bytes};
 ghost use Rattle.rewrites.specs.Tabulate.{table-words};
 ghost use Rattle.desk.specs.Refusals.{refusal-room};
-ghost use Rattle.view.specs.View.{pickByte, partLine, partLines, columns, headRow, row as rowText, rows, lastLine, viewText, Views};
+ghost use Rattle.view.specs.View.{pick, partLine, partLines, columns, headRow, row as rowText, rows, lastLine, viewText, Views};
 ghost use Rattle.view.specs.Writing.{truthIn, byteIn, Placed, Tabled, ColumnsFit, HeadFits, RowFits, RowsFit, AtomEnds, PartEnds, PartsFit, ViewFits, RefusalPut};
 
 pub mod page;
@@ -47,7 +47,7 @@ enum Row {
 
 fn tens_digit(n: u8) -> u8
     requires { ⌜ n < 100 ⌝ }
-    ensures { λ r. ⌜ r ≡ pickByte (ltb n 10) 32 (48 + n / 10) ⌝ }
+    ensures { λ r. ⌜ r ≡ pick (ltb n 10) 32 (48 + n / 10) ⌝ }
 {
     if n < 10 { b' ' } else { b'0' + n / 10 }
 }
@@ -79,11 +79,11 @@ fn write_columns(out: &mut [u8], at: usize, table: &[u64], row: Row, n: usize) -
     let mut to = at;
     let mut k: usize = 0;
     while k < last {
-        to = language::write::byte(out, to, byte_in(table, row, k));
+        to = statement_writer::byte(out, to, byte_in(table, row, k));
         k += 1;
     }
     let k1 = desk::columns::spaces(out, to, 2);
-    language::write::byte(out, k1, byte_in(table, row, last))
+    statement_writer::byte(out, k1, byte_in(table, row, last))
 }
 
 // The digits of the parts' numbers, above the marks.
@@ -93,7 +93,7 @@ fn write_head(out: &mut [u8], at: usize, table: &[u64], row: Row, n: usize) -> u
 {
     let k1 = desk::columns::spaces(out, at, MARGIN);
     let k2 = write_columns(out, k1, table, row, n);
-    language::write::byte(out, k2, 10)
+    statement_writer::byte(out, k2, 10)
 }
 
 // The statement at place s, with a mark for each part.
@@ -106,7 +106,7 @@ fn write_row(out: &mut [u8], at: usize, table: &[u64], n: usize, s: usize, e: St
     let k3 = desk::columns::statement(out, k2, 30, e);
     let k4 = desk::columns::spaces(out, k3, 2);
     let k5 = write_columns(out, k4, table, Row::Marks(s), n);
-    language::write::byte(out, k5, 10)
+    statement_writer::byte(out, k5, 10)
 }
 
 fn write_rows(out: &mut [u8], at: usize, table: &[u64], n: usize, p: Program) -> usize
@@ -134,8 +134,8 @@ fn write_part(out: &mut [u8], at: usize, k: usize, text: &[u8]) -> usize
 {
     let k1 = desk::columns::number(out, at, 2, (k + 1) as u32);
     let k2 = desk::columns::spaces(out, k1, 2);
-    let k3 = language::write::word(out, k2, text);
-    language::write::byte(out, k3, 10)
+    let k3 = statement_writer::word(out, k2, text);
+    statement_writer::byte(out, k3, 10)
 }
 
 // Where the atom at the position ends.
@@ -186,13 +186,13 @@ fn write_last(out: &mut [u8], at: usize, n: u32, satisfied: u32, first: u32) -> 
     requires { ⌜ at + length (lastLine n satisfied first) ≤ length (now out) ⌝ }
     ensures { λ r. ⌜ Put (now (out .entry)) at (lastLine n satisfied first) (now (out .exit)) r ⌝ }
 {
-    let k1 = language::write::word(out, at, b"parts ");
-    let k2 = language::write::number(out, k1, n);
-    let k3 = language::write::word(out, k2, b" satisfied ");
-    let k4 = language::write::number(out, k3, satisfied);
-    let k5 = language::write::word(out, k4, b" first ");
-    let k6 = language::write::number(out, k5, first);
-    language::write::byte(out, k6, 10)
+    let k1 = statement_writer::word(out, at, b"parts ");
+    let k2 = statement_writer::number(out, k1, n);
+    let k3 = statement_writer::word(out, k2, b" satisfied ");
+    let k4 = statement_writer::number(out, k3, satisfied);
+    let k5 = statement_writer::word(out, k4, b" first ");
+    let k6 = statement_writer::number(out, k5, first);
+    statement_writer::byte(out, k6, 10)
 }
 
 // The parts, the digits of their numbers, the statements and the counts, at the front of the lent bytes.

@@ -2,7 +2,7 @@
 ghost use mathlib.Core.Path.{_≡_};
 ghost use lib.ListN.{length};
 ghost use Prim.Native.Nat.{_≤_, _+_};
-ghost use Rattle.language.specs.Writing.{Put};
+ghost use Rattle.statement_writer.specs.Writing.{Put};
 ghost use Rattle.view.specs.View.{view-room};
 ghost use Rattle.view.specs.Page.{escapeByte, escape as escaped, Pages};
 use crate::VIEW_ROOM;
@@ -16,10 +16,10 @@ fn escape_byte(out: &mut [u8], at: usize, b: u8) -> usize
     ensures { λ r. ⌜ Put (now (out .entry)) at (escapeByte b) (now (out .exit)) r ⌝ }
 {
     match b {
-        b'&' => language::write::word(out, at, b"&amp;"),
-        b'<' => language::write::word(out, at, b"&lt;"),
-        b'>' => language::write::word(out, at, b"&gt;"),
-        _ => language::write::byte(out, at, b),
+        b'&' => statement_writer::word(out, at, b"&amp;"),
+        b'<' => statement_writer::word(out, at, b"&lt;"),
+        b'>' => statement_writer::word(out, at, b"&gt;"),
+        _ => statement_writer::byte(out, at, b),
     }
 }
 

@@ -10,8 +10,8 @@ use files::REFUSAL;
 use files::RESULT;
 use files::UNREAD;
 use files::UNWRITTEN;
-use language::read::WordRead;
 use libc::STDERR_FILENO;
+use tokens::WordRead;
 use view::VIEW_ROOM;
 use view::Viewed;
 use view::page::PAGE_ROOM;
@@ -69,7 +69,7 @@ fn show(page: bool, program: &[u8], condition: &[u8]) -> u8 {
 fn asks_page() -> bool {
     let mut first = io::buffer();
     let n = files::arg(1, &mut first);
-    let WordRead::Found(k) = language::read::word(&first[..n], 0, b"--html") else {
+    let WordRead::Found(k) = tokens::word(&first[..n], 0, b"--html") else {
         return false;
     };
     k == n

@@ -1,7 +1,6 @@
 use mathlib.Core.Logic.{inl}
 use borrow.Author.Needs.{needs}
-use Rattle.program.proofs.Decides.{decided-true, decided-false}
-use Rattle.atoms.proofs.Truths.{decides-either}
+use Rattle.base.proofs.Decides.{decided-true, decided-false, decides-either}
 use Rattle.atoms.proofs.in_expression.Statement.{statement}
 use Rattle.atoms.proofs.in_expression.Tie as tie
 

@@ -2,8 +2,8 @@ use mathlib.Core.Path.{_≡_, refl, ap}
 use lib.Dec.{eqb}
 use borrow.Author.Needs.{needs}
 use borrow.Author.Tests.{eqb-true, eqb-false}
-use Rattle.program.specs.Reading.{Decides}
-use Rattle.program.proofs.Decides.{decides}
+use Rattle.base.specs.Decides.{Decides}
+use Rattle.base.proofs.Decides.{decides}
 use Rattle.atoms.specs.declared.Code.{Code}
 use Rattle.atoms.proofs.same_code.Statement.{statement}
 use Rattle.atoms.proofs.same_code.Tie as tie

@@ -1,6 +1,6 @@
 use mathlib.Core.Path.{_≡_, ap, sym, _∙_}
 use borrow.Author.Needs.{needs}
-use Rattle.program.proofs.Decides.{decides-same}
+use Rattle.base.proofs.Decides.{decides-same}
 use Rattle.atoms.specs.Codes.{statementCode}
 use Rattle.atoms.proofs.Codes.{code-unique}
 use Rattle.atoms.proofs.same_statement.Statement.{statement}

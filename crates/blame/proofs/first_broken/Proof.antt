@@ -5,7 +5,7 @@ use native.Mathlib.Omega.{arith}
 use lib.ListN.{length}
 use borrow.Author.Needs.{needs}
 use borrow.Author.Tests.{not-true, not-false}
-use Rattle.program.proofs.Decides.{decided-true, decided-false}
+use Rattle.base.proofs.Decides.{decided-true, decided-false}
 use Rattle.blame.specs.Blame.{broken, none}
 use Rattle.blame.proofs.Lines.{stuck, further}
 use Rattle.blame.proofs.Blames.{Good, good-none, good-more, none-broken, first-broken}

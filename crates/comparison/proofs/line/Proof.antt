@@ -1,6 +1,6 @@
 -- `line` meets its contract: the head, the rewritten statement, the differences and byte 10. Assumes nothing.
 use native.Mathlib.Omega.{arith}
-use Rattle.language.proofs.Puts.{put-then}
+use Rattle.statement_writer.proofs.Puts.{put-then}
 use Rattle.trace.proofs.Room.{head-most, text-most}
 use Rattle.comparison.specs.Lines.{pairLine}
 use Rattle.comparison.proofs.Room.{differences-parts, line-most}

@@ -1,7 +1,7 @@
 -- `pair` meets its contract: the variable and its two values. Assumes nothing.
 use mathlib.Core.Path.{ap}
 use native.Mathlib.Omega.{arith}
-use Rattle.language.proofs.Puts.{put-then}
+use Rattle.statement_writer.proofs.Puts.{put-then}
 use Rattle.machine.proofs.Words.{stored-same}
 use Rattle.comparison.specs.Lines.{pairText}
 use Rattle.comparison.proofs.Room.{pair-length}

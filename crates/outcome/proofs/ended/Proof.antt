@@ -7,7 +7,7 @@ use mir.Syntax.{w32}
 use mir.Val.{SFits, toZ, ofZ}
 use mir.Facts.{toZ-ofZ}
 use Rattle.desk.specs.Columns.{signedDigits}
-use Rattle.language.proofs.Puts.{put-then}
+use Rattle.statement_writer.proofs.Puts.{put-then}
 use Rattle.outcome.specs.Outcome.{endedText}
 use Rattle.outcome.proofs.Lengths.{ended-length}
 -- the value is kept where it is stored

@@ -1,7 +1,7 @@
 -- `spent` meets its contract: the line with the statement, and the values. Assumes nothing.
 use native.Mathlib.Omega.{arith}
 use Rattle.language.proofs.Lengths.{digits-length}
-use Rattle.language.proofs.Puts.{put-then}
+use Rattle.statement_writer.proofs.Puts.{put-then}
 use Rattle.outcome.specs.Outcome.{spentText}
 use borrow.Author.Needs.{needs}
 use Rattle.outcome.proofs.spent.Statement.{statement}

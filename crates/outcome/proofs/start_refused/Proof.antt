@@ -1,6 +1,6 @@
 -- `start_refused` meets its contract: the first line, what is wrong, and byte 10. Assumes nothing.
 use native.Mathlib.Omega.{arith}
-use Rattle.language.proofs.Puts.{put-then}
+use Rattle.statement_writer.proofs.Puts.{put-then}
 use Rattle.outcome.specs.Outcome.{startText}
 use Rattle.outcome.proofs.Lengths.{start-length}
 use borrow.Author.Needs.{needs}

@@ -1,7 +1,7 @@
 -- `start_words` meets its contract. Assumes nothing.
 use mathlib.Core.Path.{refl}
 use native.Mathlib.Omega.{arith}
-use Rattle.language.proofs.Puts.{put-then}
+use Rattle.statement_writer.proofs.Puts.{put-then}
 use Rattle.outcome.specs.Outcome.{startWords}
 use Rattle.outcome.proofs.Lengths.{line-words-length}
 use borrow.Author.Needs.{needs}

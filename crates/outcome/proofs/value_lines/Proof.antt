@@ -2,7 +2,7 @@
 use Prim.Native.Nat.{_-_}
 use native.Mathlib.Omega.{arith}
 use lib.ListN.{getD}
-use Rattle.language.proofs.Puts.{put-then}
+use Rattle.statement_writer.proofs.Puts.{put-then}
 use Rattle.trace.proofs.Room.{value-most}
 use Rattle.trace.proofs.Series.{Written, put-length, none-written, part-room, one-written, all-written}
 use Rattle.outcome.specs.Outcome.{valueLines, value-room}

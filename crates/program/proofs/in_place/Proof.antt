@@ -1,6 +1,6 @@
 -- `in_place` meets its contract. Assumes nothing.
 use borrow.Author.Needs.{needs}
-use Rattle.program.proofs.Decides.{decides-eqb}
+use Rattle.base.proofs.Decides.{decides-eqb}
 use Rattle.program.proofs.in_place.Statement.{statement}
 use Rattle.program.proofs.in_place.Tie as tie
 

@@ -1,6 +1,6 @@
 use borrow.Author.Needs.{needs}
 use borrow.Author.Tests.{not-true, not-false}
-use Rattle.program.proofs.Decides.{decided-true, decided-false, decides-same}
+use Rattle.base.proofs.Decides.{decided-true, decided-false, decides-same}
 use Rattle.program.proofs.is_aimed.Statement.{statement}
 use Rattle.program.proofs.is_aimed.Tie as tie
 

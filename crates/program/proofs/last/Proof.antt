@@ -2,7 +2,7 @@
 use Prim.Native.Nat.{_+_}
 use native.Mathlib.Omega.{arith}
 use borrow.Author.Needs.{needs}
-use Rattle.program.proofs.Decides.{decides-eqb}
+use Rattle.base.proofs.Decides.{decides-eqb}
 use Rattle.program.proofs.last.Statement.{statement}
 use Rattle.program.proofs.last.Tie as tie
 

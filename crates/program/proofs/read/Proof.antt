@@ -4,7 +4,7 @@ use native.Mathlib.Omega.{arith}
 use borrow.Author.Needs.{needs}
 use borrow.Author.Tests.{not-true, not-false}
 use Rattle.program.specs.Reading.{Kept}
-use Rattle.program.proofs.Decides.{decided-true, decided-false}
+use Rattle.base.proofs.Decides.{decided-true, decided-false}
 use Rattle.program.proofs.Texts.{lines-spelled, lines-misspelled, count-refused, place-refused, target-refused, lines-taken}
 use Rattle.program.proofs.read.Statement.{statement}
 use Rattle.program.proofs.read.Tie as tie

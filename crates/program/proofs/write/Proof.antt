@@ -7,8 +7,8 @@ use borrow.Author.Needs.{needs}
 use lib.ListN.{length, take}
 use lib.Seq.{take-all, length-sets}
 use Rattle.language.specs.Spelling.{spell}
-use Rattle.language.specs.Writing.{Put}
-use Rattle.language.proofs.Puts.{put-then, room}
+use Rattle.statement_writer.specs.Writing.{Put}
+use Rattle.statement_writer.proofs.Puts.{put-then, room}
 use Rattle.language.specs.declared.Statement.{Statement}
 use Rattle.program.specs.declared.Entry.{Entry}
 use Rattle.program.specs.Program.{at, text, most}

@@ -1,7 +1,7 @@
 -- `write_counts` meets its contract: two words, two numbers and byte 10. Assumes nothing.
 use Rattle.report.proofs.Lines.{counts-length}
 use Rattle.report.specs.Report.{countsLine}
-use Rattle.language.proofs.Puts.{put-then}
+use Rattle.statement_writer.proofs.Puts.{put-then}
 use native.Mathlib.Omega.{arith}
 use borrow.Author.Needs.{needs}
 use Rattle.report.proofs.write_counts.Statement.{statement}

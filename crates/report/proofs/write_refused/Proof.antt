@@ -1,7 +1,7 @@
 -- `write_refused` meets its contract: a word, the number and byte 10. Assumes nothing.
 use Rattle.report.proofs.Lines.{refused-length}
 use Rattle.report.specs.Report.{refusedLine}
-use Rattle.language.proofs.Puts.{put-then}
+use Rattle.statement_writer.proofs.Puts.{put-then}
 use native.Mathlib.Omega.{arith}
 use borrow.Author.Needs.{needs}
 use Rattle.report.proofs.write_refused.Statement.{statement}

@@ -1,7 +1,7 @@
 -- `write_verdict` meets its contract: two numbers with a space between, and byte 10. Assumes nothing.
 use Rattle.report.proofs.Lines.{verdict-length}
 use Rattle.report.specs.Report.{verdictLine}
-use Rattle.language.proofs.Puts.{put-then}
+use Rattle.statement_writer.proofs.Puts.{put-then}
 use native.Mathlib.Omega.{arith}
 use borrow.Author.Needs.{needs}
 use Rattle.report.proofs.write_verdict.Statement.{statement}

@@ -1,7 +1,7 @@
 -- `write_words` meets its contract: the words and byte 10. Assumes nothing.
 use Rattle.report.proofs.Refusals.{words-length}
 use Rattle.report.specs.Words.{wordsLine}
-use Rattle.language.proofs.Puts.{put-then}
+use Rattle.statement_writer.proofs.Puts.{put-then}
 use native.Mathlib.Omega.{arith}
 use borrow.Author.Needs.{needs}
 use Rattle.report.proofs.write_words.Statement.{statement}

@@ -1,5 +1,5 @@
 use borrow.Author.Tests.{not-true, not-false}
-use Rattle.program.proofs.Decides.{decided-true, decided-false, decides-same}
+use Rattle.base.proofs.Decides.{decided-true, decided-false, decides-same}
 use borrow.Author.Needs.{needs}
 use Rattle.rewriting.proofs.fits.Statement.{statement}
 use Rattle.rewriting.proofs.fits.Tie as tie

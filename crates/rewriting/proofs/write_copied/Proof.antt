@@ -1,5 +1,5 @@
 use native.Mathlib.Omega.{arith}
-use Rattle.language.proofs.Puts.{put-then}
+use Rattle.statement_writer.proofs.Puts.{put-then}
 use Rattle.rewriting.proofs.Published.{copied-text, copied-lengths}
 use borrow.Author.Needs.{needs}
 use Rattle.rewriting.proofs.write_copied.Statement.{statement}

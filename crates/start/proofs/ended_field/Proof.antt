@@ -1,6 +1,6 @@
 use native.Mathlib.Omega.{arith}
 use mathlib.Core.Path.{sym, ap, _∙_}
-use Rattle.language.specs.Parsing.{parsedWord, parsedNumber, wordEnd}
+use Rattle.tokens.specs.Parsing.{parsedWord, parsedNumber, wordEnd}
 use Rattle.start.specs.Parsing.{parseStartLine}
 use borrow.Author.Needs.{needs}
 use Rattle.start.proofs.ended_field.Statement.{statement}

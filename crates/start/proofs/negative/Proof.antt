@@ -3,7 +3,7 @@ use mathlib.Core.Path.{_≡_, sym, ap, _∙_}
 use Prim.Native.Nat.{_+_, _-_, _^_}
 use native.Mathlib.Omega.{arith}
 use borrow.Author.Tests.{lt-ltb, le-ltb}
-use Rattle.language.specs.Parsing.{parsedWord, parsedNumber, wordEnd, numberEnd}
+use Rattle.tokens.specs.Parsing.{parsedWord, parsedNumber, wordEnd, numberEnd}
 use Rattle.start.specs.Parsing.{parseNegative}
 use borrow.Author.Needs.{needs}
 use Rattle.start.proofs.negative.Statement.{statement}

@@ -1,7 +1,7 @@
 -- `signed` meets its contract: at each return the readers that were called say what `parseSigned` finds. Assumes nothing.
 use mathlib.Core.Path.{sym, ap, _∙_}
 use native.Mathlib.Omega.{arith}
-use Rattle.language.specs.Parsing.{parsedWord, parsedNumber, numberEnd}
+use Rattle.tokens.specs.Parsing.{parsedWord, parsedNumber, numberEnd}
 use Rattle.start.specs.Parsing.{parseSigned}
 use borrow.Author.Needs.{needs}
 use Rattle.start.proofs.signed.Statement.{statement}

@@ -1,6 +1,6 @@
 -- `head` meets its contract: two numbers and the statement in their columns. Assumes nothing.
 use native.Mathlib.Omega.{arith}
-use Rattle.language.proofs.Puts.{put-then}
+use Rattle.statement_writer.proofs.Puts.{put-then}
 use Rattle.trace.specs.Trace.{stepHead}
 use Rattle.trace.proofs.Room.{head-length}
 use borrow.Author.Needs.{needs}

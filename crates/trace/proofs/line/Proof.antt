@@ -1,6 +1,6 @@
 -- `line` meets its contract: the head, the changes and byte 10. Assumes nothing.
 use native.Mathlib.Omega.{arith}
-use Rattle.language.proofs.Puts.{put-then}
+use Rattle.statement_writer.proofs.Puts.{put-then}
 use Rattle.trace.specs.Trace.{lineText}
 use Rattle.trace.proofs.Room.{head-most, changes-parts, line-most}
 use Rattle.trace.proofs.Series.{parts-most}

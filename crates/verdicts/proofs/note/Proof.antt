@@ -1,7 +1,7 @@
 use mathlib.Core.Path.{_≡_, _∙_, ap}
 use native.Mathlib.Omega.{arith}
 use borrow.Author.Needs.{needs}
-use Rattle.program.proofs.Decides.{decided-true, decided-false}
+use Rattle.base.proofs.Decides.{decided-true, decided-false}
 use Rattle.verdicts.proofs.Lists.{named-more, named-same}
 use Rattle.verdicts.proofs.note.Statement.{statement}
 use Rattle.verdicts.proofs.note.Tie as tie

@@ -3,7 +3,7 @@ use native.Mathlib.Omega.{arith}
 use lib.Seq.{length-take-le}
 use Rattle.rewriting.proofs.Published.{published-short}
 use Rattle.verdicts.proofs.Rows.{published-small, published-labelled}
-use Rattle.language.proofs.Puts.{put-front, put-within}
+use Rattle.statement_writer.proofs.Puts.{put-front, put-within}
 use borrow.Author.Needs.{needs}
 use Rattle.verdicts.proofs.published_row.Statement.{statement}
 use Rattle.verdicts.proofs.published_row.Tie as tie

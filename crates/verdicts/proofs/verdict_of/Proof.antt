@@ -2,7 +2,7 @@ use mathlib.Core.Path.{sym, _∙_}
 use native.Mathlib.Omega.{arith}
 use borrow.Author.Tests.{not-true, not-false}
 use borrow.Author.Needs.{needs}
-use Rattle.program.proofs.Decides.{decided-true, decided-false}
+use Rattle.base.proofs.Decides.{decided-true, decided-false}
 use mathlib.Core.List.{List}
 use lib.ListN.{length}
 use Rattle.language.specs.declared.Statement.{Statement}

@@ -3,8 +3,8 @@ use mathlib.Core.Path.{_∙_}
 use Prim.Native.Nat.{_≤_, _-_}
 use native.Mathlib.Omega.{arith}
 use borrow.Author.Needs.{needs}
-use Rattle.language.specs.Writing.{Put}
-use Rattle.language.proofs.Puts.{put-then}
+use Rattle.statement_writer.specs.Writing.{Put}
+use Rattle.statement_writer.proofs.Puts.{put-then}
 use Rattle.view.specs.View.{upTo, columns}
 use Rattle.view.specs.Writing.{byteIn}
 use Rattle.view.proofs.Texts.{put-length, upto-none, upto-more, upto-all, cells, cells-length, columns-length}

@@ -1,7 +1,7 @@
 -- `write_head` meets its contract: the margin, the columns and byte 10. Assumes nothing.
 use native.Mathlib.Omega.{arith}
 use borrow.Author.Needs.{needs}
-use Rattle.language.proofs.Puts.{put-then}
+use Rattle.statement_writer.proofs.Puts.{put-then}
 use Rattle.view.specs.View.{headRow}
 use Rattle.view.specs.Writing.{byteIn}
 use Rattle.view.proofs.Texts.{put-length, head-length}

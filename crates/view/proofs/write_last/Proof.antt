@@ -1,7 +1,7 @@
 -- `write_last` meets its contract: three words, three numbers and byte 10. Assumes nothing.
 use native.Mathlib.Omega.{arith}
 use borrow.Author.Needs.{needs}
-use Rattle.language.proofs.Puts.{put-then}
+use Rattle.statement_writer.proofs.Puts.{put-then}
 use Rattle.view.specs.View.{lastLine}
 use Rattle.view.proofs.Texts.{last-length}
 use Rattle.view.proofs.write_last.Statement.{statement}

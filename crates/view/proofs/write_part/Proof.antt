@@ -1,7 +1,7 @@
 -- `write_part` meets its contract: the number, two spaces, the text and byte 10. Assumes nothing.
 use native.Mathlib.Omega.{arith}
 use borrow.Author.Needs.{needs}
-use Rattle.language.proofs.Puts.{put-then}
+use Rattle.statement_writer.proofs.Puts.{put-then}
 use Rattle.view.specs.View.{partLine}
 use Rattle.view.proofs.Texts.{part-length}
 use Rattle.view.proofs.write_part.Statement.{statement}

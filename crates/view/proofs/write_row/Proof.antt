@@ -1,7 +1,7 @@
 -- `write_row` meets its contract: the number, the statement, the marks and byte 10. Assumes nothing.
 use native.Mathlib.Omega.{arith}
 use borrow.Author.Needs.{needs}
-use Rattle.language.proofs.Puts.{put-then}
+use Rattle.statement_writer.proofs.Puts.{put-then}
 use Rattle.view.specs.View.{row}
 use Rattle.view.specs.Writing.{truthIn}
 use Rattle.view.proofs.Texts.{put-length, row-length}

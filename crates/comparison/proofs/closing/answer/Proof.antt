@@ -6,7 +6,7 @@ use mir.Val.{SFits}
 use mir.Facts.{toZ-ofZ}
 use borrow.Author.Needs.{sfits-of}
 use Rattle.language.proofs.Lengths.{digits-length}
-use Rattle.language.proofs.Puts.{put-then}
+use Rattle.statement_writer.proofs.Puts.{put-then}
 use Rattle.outcome.proofs.Lengths.{ended-short}
 use Rattle.comparison.specs.Closing.{answerLine}
 use borrow.Author.Needs.{needs}

@@ -1,6 +1,6 @@
 -- `write` meets its contract: both outcomes, and that they agree. Assumes nothing.
 use native.Mathlib.Omega.{arith}
-use Rattle.language.proofs.Puts.{put-then}
+use Rattle.statement_writer.proofs.Puts.{put-then}
 use Rattle.comparison.specs.Closing.{closingText}
 use borrow.Author.Needs.{needs}
 use Rattle.comparison.proofs.closing.write.Statement.{statement}

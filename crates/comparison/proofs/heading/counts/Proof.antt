@@ -1,6 +1,6 @@
 -- `counts` meets its contract: two words, two numbers and byte 10. Assumes nothing.
 use native.Mathlib.Omega.{arith}
-use Rattle.language.proofs.Puts.{put-then}
+use Rattle.statement_writer.proofs.Puts.{put-then}
 use Rattle.report.specs.Report.{countsLine}
 use Rattle.report.proofs.Lines.{counts-length}
 use borrow.Author.Needs.{needs}

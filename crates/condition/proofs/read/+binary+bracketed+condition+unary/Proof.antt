@@ -8,7 +8,7 @@ use native.Mathlib.Omega.{arith}
 use borrow.Author.Needs.{needs}
 use borrow.Author.Tests.{le-leb, lt-leb, lt-ltb, le-ltb}
 use lib.ListN.{length, drop, getD}
-use Rattle.language.specs.Parsing.{parsedWord, wordEnd}
+use Rattle.tokens.specs.Parsing.{parsedWord, wordEnd}
 use Rattle.condition.specs.Parsing.{parsedOperator, parsedBracket, conditionEnd, parseLeaf, parseBracketed}
 use Rattle.condition.proofs.Spelling.{opening-sound}
 use Rattle.condition.proofs.Readers as laws

@@ -1,7 +1,7 @@
 -- `atom` meets its contract: the first byte picks the reader. Assumes nothing.
 use Rattle.condition.specs.Parsing.{parseAtom}
 use borrow.Author.Tests.{ne-eqb}
-use Rattle.language.proofs.Steps.{at-end}
+use Rattle.tokens.proofs.Steps.{at-end}
 use Rattle.condition.proofs.Readers.{atom-first}
 use native.Mathlib.Omega.{arith}
 use borrow.Author.Needs.{needs}

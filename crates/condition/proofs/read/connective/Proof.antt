@@ -4,7 +4,7 @@ use Rattle.condition.specs.Parsing.{parseLetter, byLetter}
 use Rattle.condition.specs.Reading.{binaryCode}
 use Rattle.condition.specs.Condition.{conjunction, disjunction}
 use borrow.Author.Tests.{ne-eqb}
-use Rattle.language.proofs.Steps.{at-end, at-byte}
+use Rattle.tokens.proofs.Steps.{at-end, at-byte}
 use mathlib.Core.Path.{_∙_}
 use native.Mathlib.Omega.{arith}
 use borrow.Author.Needs.{needs}

@@ -1,6 +1,6 @@
 -- `middle` meets its contract: after a space, the bracket picks the letters. Assumes nothing.
 use Rattle.condition.specs.Parsing.{parseMiddle}
-use Rattle.language.specs.Parsing.{parsedWord}
+use Rattle.tokens.specs.Parsing.{parsedWord}
 use Rattle.ctl.specs.Paths.{E, A}
 use mathlib.Core.Path.{refl, sym, ap, _∙_}
 use native.Mathlib.Omega.{arith}

@@ -1,6 +1,6 @@
 -- `node` meets its contract: at each return the readers that were called say what the list parser finds. Assumes nothing.
 use Rattle.condition.specs.Parsing.{parseNode}
-use Rattle.language.specs.Parsing.{parsedWord, parsedNumber}
+use Rattle.tokens.specs.Parsing.{parsedWord, parsedNumber}
 use mathlib.Core.Path.{sym, ap, _∙_}
 use native.Mathlib.Omega.{arith}
 use borrow.Author.Needs.{needs}

@@ -1,7 +1,7 @@
 -- `opening` meets its contract: the first byte is `(` or picks the quantifier. Assumes nothing.
 use Rattle.condition.specs.Parsing.{parseOpening}
 use borrow.Author.Tests.{ne-eqb}
-use Rattle.language.proofs.Steps.{at-end, at-byte}
+use Rattle.tokens.proofs.Steps.{at-end, at-byte}
 use native.Mathlib.Omega.{arith}
 use borrow.Author.Needs.{needs}
 use Rattle.condition.proofs.read.opening.Statement.{statement}

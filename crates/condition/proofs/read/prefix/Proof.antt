@@ -2,7 +2,7 @@
 use Rattle.condition.specs.Parsing.{parsePrefix}
 use Rattle.ctl.specs.Paths.{E, A}
 use borrow.Author.Tests.{ne-eqb}
-use Rattle.language.proofs.Steps.{at-end, at-byte}
+use Rattle.tokens.proofs.Steps.{at-end, at-byte}
 use mathlib.Core.Path.{refl}
 use native.Mathlib.Omega.{arith}
 use borrow.Author.Needs.{needs}

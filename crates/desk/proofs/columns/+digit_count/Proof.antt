@@ -7,7 +7,7 @@ use lib.ListN.{length, length-append}
 use borrow.Fn.Kinds.{In}
 use borrow.Fn.PlainCycle.{Measures, is, falls, and}
 use Rattle.language.specs.Spelling.{digits}
-use Rattle.language.proofs.Numbers.{digits-small, digits-next}
+use Rattle.language.proofs.Digits.{digits-small, digits-next}
 use Rattle.language.proofs.Lengths.{digits-length}
 use Rattle.desk.proofs.columns.digit_count.Reads as digit-count
 use Rattle.desk.proofs.columns.digit_count.Kinds as digit-count-kinds

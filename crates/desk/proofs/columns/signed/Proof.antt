@@ -4,7 +4,7 @@ use native.Mathlib.Omega.{arith}
 use lib.ListN.{length}
 use borrow.Author.Needs.{needs}
 use Rattle.language.specs.Spelling.{digits}
-use Rattle.language.proofs.Puts.{put-then, room}
+use Rattle.statement_writer.proofs.Puts.{put-then, room}
 use Rattle.desk.proofs.Values.{negative-mark, positive-mark}
 use Rattle.desk.proofs.columns.signed.Statement.{statement}
 use Rattle.desk.proofs.columns.signed.Tie as tie

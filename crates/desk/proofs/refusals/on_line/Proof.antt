@@ -2,7 +2,7 @@
 use borrow.Author.Needs.{needs}
 use Rattle.language.specs.Spelling.{digits}
 use mathlib.Core.List.{_++_}
-use Rattle.language.proofs.Puts.{put-then, room, front}
+use Rattle.statement_writer.proofs.Puts.{put-then, room, front}
 use Rattle.desk.proofs.refusals.on_line.Statement.{statement}
 use Rattle.desk.proofs.refusals.on_line.Tie as tie
 

@@ -1,7 +1,7 @@
 -- `refusal` meets its contract: the line with the number, then that with the words. Assumes nothing.
 use native.Mathlib.Omega.{arith}
 use borrow.Author.Needs.{needs}
-use Rattle.language.proofs.Puts.{put-then}
+use Rattle.statement_writer.proofs.Puts.{put-then}
 use Rattle.desk.specs.Refusals.{refusalText}
 use Rattle.desk.proofs.Rooms.{refusal-length}
 use Rattle.desk.proofs.refusals.refusal.Statement.{statement}

@@ -6,7 +6,7 @@ use native.Mathlib.Omega.{arith}
 use borrow.Author.Needs.{needs}
 use borrow.Author.Tests.{not-true, not-false}
 use Rattle.bits.specs.Row.{member}
-use Rattle.bits.proofs.Tests.{clash}
+use Rattle.base.proofs.Bools.{clash}
 use Rattle.graph.proofs.Walk.{Passed, passed-none, passed-room, passed-less, passed-next}
 use Rattle.labelling.proofs.Rest.{skipped-here, skipped-all}
 use Rattle.labelling.proofs.worklist.skip.Statement.{statement}

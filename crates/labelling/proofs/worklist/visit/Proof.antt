@@ -5,7 +5,7 @@ use native.Mathlib.Omega.{arith}
 use borrow.Author.Needs.{needs}
 use lib.ListN.{length, length-set}
 use Rattle.bits.specs.Row.{member}
-use Rattle.bits.proofs.Tests.{clash}
+use Rattle.base.proofs.Bools.{clash}
 use Rattle.ctl.specs.Paths.{quant}
 use Rattle.graph.specs.Lists.{listed}
 use Rattle.graph.proofs.Walk.{passed-room, passed-less, passed-next}

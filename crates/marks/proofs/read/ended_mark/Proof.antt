@@ -1,6 +1,6 @@
 -- `ended_mark` meets its contract: at each return the readers that were called say what `parseMarkLine` finds. Assumes nothing.
 use Rattle.marks.specs.Parsing.{parseMarkLine, parsedMark}
-use Rattle.language.specs.Parsing.{parsedWord, wordEnd}
+use Rattle.tokens.specs.Parsing.{parsedWord, wordEnd}
 use mathlib.Core.Path.{sym, ap, _∙_}
 use borrow.Author.Needs.{needs}
 use native.Mathlib.Omega.{arith}

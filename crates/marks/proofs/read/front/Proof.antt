@@ -1,6 +1,6 @@
 -- `front` meets its contract: at each return the readers that were called say what `parseFront` finds. Assumes nothing.
 use Rattle.marks.specs.Parsing.{parseFront}
-use Rattle.language.specs.Parsing.{parsedVariable, parsedWord, wordEnd}
+use Rattle.tokens.specs.Parsing.{parsedVariable, parsedWord, wordEnd}
 use mathlib.Core.Path.{sym, ap, _∙_}
 use borrow.Author.Needs.{needs}
 use native.Mathlib.Omega.{arith}

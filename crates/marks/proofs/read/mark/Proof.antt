@@ -1,6 +1,6 @@
 -- `mark` meets its contract: at each return the readers that were called say what `parseMark` finds. Assumes nothing.
 use Rattle.marks.specs.Parsing.{parseMark, parsedMark, markEnd}
-use Rattle.language.specs.Parsing.{parsedNumber, parsedWord}
+use Rattle.tokens.specs.Parsing.{parsedNumber, parsedWord}
 use mathlib.Core.Path.{sym, ap, _∙_}
 use borrow.Author.Needs.{needs}
 use native.Mathlib.Omega.{arith}

@@ -1,6 +1,7 @@
 -- `rm` meets its contract: at each return the readers that were called say what `parseRm` finds. Assumes nothing.
 use Rattle.marks.specs.Parsing.{parseTail}
-use Rattle.language.specs.Parsing.{parsedExpression, parsedVariable, parsedWord, wordEnd}
+use Rattle.statement_reader.specs.Parsing.{parsedExpression}
+use Rattle.tokens.specs.Parsing.{parsedVariable, parsedWord, wordEnd}
 use mathlib.Core.Path.{sym, ap, _∙_}
 use borrow.Author.Needs.{needs}
 use native.Mathlib.Omega.{arith}

@@ -1,6 +1,7 @@
 -- `rpl` meets its contract: at each return the readers that were called say what `parseRpl` finds. Assumes nothing.
 use Rattle.marks.specs.Parsing.{parseTail}
-use Rattle.language.specs.Parsing.{parsedOperand, parsedVariable, parsedWord, wordEnd}
+use Rattle.statement_reader.specs.Parsing.{parsedOperand}
+use Rattle.tokens.specs.Parsing.{parsedVariable, parsedWord, wordEnd}
 use mathlib.Core.Path.{sym, ap, _∙_}
 use borrow.Author.Needs.{needs}
 use native.Mathlib.Omega.{arith}

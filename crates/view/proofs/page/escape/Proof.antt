@@ -4,7 +4,7 @@ use mathlib.Core.List.{List}
 use native.Mathlib.Omega.{arith}
 use lib.ListN.{length, getD}
 use borrow.Author.Needs.{needs}
-use Rattle.language.specs.Writing.{Put}
+use Rattle.statement_writer.specs.Writing.{Put}
 use Rattle.view.specs.View.{upTo}
 use Rattle.view.specs.Page.{escapeByte, escape}
 use Rattle.view.proofs.Texts.{put-length, upto-none, upto-room, upto-more, upto-all}

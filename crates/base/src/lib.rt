@@ -1,0 +1,1 @@
+// Definitions and laws that every crate says again. No code stands here.
