@@ -21,7 +21,7 @@ use Rattle.bits.specs.Row.{member}
 use Rattle.base.proofs.Bools.{split, clash, and-left, and-right, and-both, not-of-false, false-of-not}
 use Rattle.ctl.specs.Paths.{So}
 use Rattle.labelling.specs.Labels.{Labelled}
-use Rattle.condition.specs.Truth.{InOperand, In, Defines, Holds}
+use Rattle.truth.specs.Truth.{InOperand, In, Defines, Holds}
 use Rattle.condition.specs.declared.Atom.the-variants.{Entry, Exit}
 use Rattle.atoms.specs.Codes.{statementCode}
 use Rattle.atoms.specs.Facts.{defined-rows, code-rows, codeWords, FactsBelow, FactsOf}

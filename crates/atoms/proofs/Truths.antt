@@ -6,7 +6,7 @@ use Prim.Native.Nat.{ℕ}
 use Rattle.base.proofs.Bools.{clash}
 use Rattle.base.specs.Decides.{Decides}
 use Rattle.language.specs.declared.Expression.{Expression}
-use Rattle.condition.specs.Truth.{In}
+use Rattle.truth.specs.Truth.{In}
 
 -- no variable of e is y, where y alone is defined
 pub decides-none : (b : Bool) (e : Expression) (y : ℕ) → Decides b (In y e) → Decides (not b) ((x : ℕ) → In x e → x ≡ y → ⊥)

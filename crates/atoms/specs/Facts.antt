@@ -16,7 +16,7 @@ use Rattle.language.specs.declared.Statement.the-variants.{Read, Write, Assign,
 use Rattle.program.specs.Program.{at, most}
 use Rattle.bits.specs.Row.{member}
 use Rattle.labelling.specs.Labels.{Labelled}
-use Rattle.condition.specs.Truth.{Defines, Uses}
+use Rattle.truth.specs.Truth.{Defines, Uses}
 use Rattle.atoms.specs.Codes.{statementCode}
 use Rattle.atoms.specs.declared.Code.{Code}
 

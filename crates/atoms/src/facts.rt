@@ -14,7 +14,7 @@ ghost use Rattle.bits.specs.Row.{member, Zeros, ZeroRows};
 ghost use Rattle.ctl.specs.Paths.{So};
 ghost use Rattle.labelling.specs.Labels.{Labelled};
 ghost use Rattle.condition.specs.Condition.{ValidAtom};
-ghost use Rattle.condition.specs.Truth.{InOperand, In, Defines, Holds};
+ghost use Rattle.truth.specs.Truth.{InOperand, In, Defines, Holds};
 ghost use Rattle.atoms.specs.Codes.{statementCode};
 ghost use Rattle.atoms.specs.Facts.{row-words, code-rows, fact-rows, codeWords, FactsBelow, FactsOf, notedOperand, notedExpression, noted, Marked};
 use crate::Code;

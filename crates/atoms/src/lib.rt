@@ -3,7 +3,7 @@ pub mod facts;
 
 ghost use mathlib.Core.Path.{_≡_};
 ghost use Rattle.base.specs.Decides.{Decides};
-ghost use Rattle.condition.specs.Truth.{InOperand, In, Shows};
+ghost use Rattle.truth.specs.Truth.{InOperand, In, Shows};
 ghost use Rattle.atoms.specs.Codes.{operandCode, operatorCode, assignCode, statementCode};
 use language::Expression;
 use language::Operand;

@@ -16,7 +16,7 @@ use Rattle.base.proofs.Decides.{decides, decides-eqb, decides-either}
 use Rattle.base.proofs.Bools.{clash, and-left, and-right, and-both}
 use Rattle.condition.specs.declared.Atom.{Atom}
 use Rattle.condition.specs.declared.Atom.the-variants.{True, False, Entry, Exit, Node, Stmt, Def, Use, Trans}
-use Rattle.condition.specs.Truth.{InOperand, In, Defines, Uses, HoldsAt}
+use Rattle.truth.specs.Truth.{InOperand, In, Defines, Uses, HoldsAt}
 use Rattle.atoms.specs.Codes.{statementCode}
 use Rattle.atoms.proofs.Codes.{code-unique}
 use Rattle.atoms.proofs.Truths.{decides-none}

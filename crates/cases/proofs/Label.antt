@@ -9,7 +9,7 @@ use lib.ListN.{length}
 use Rattle.language.specs.declared.Statement.{Statement}
 use Rattle.program.specs.Program.{at, WellFormed}
 use Rattle.base.proofs.Bools.{split, clash, and-left, and-right, and-both, or-case, or-left, or-right, not-of-false, false-of-not}
-use Rattle.ctl.specs.Paths.{Quant, Paths, So}
+use Rattle.ctl.specs.Paths.{Quant, Paths, So, Direction}
 use Rattle.ctl.specs.Tables.{other}
 use Rattle.ctl.proofs.Least.{every, any, tests, test, tests-at, grow, done, least, onto, onto-iff, until-rule, until-least}
 use Rattle.ctl.proofs.Paths.{next-iff, finally-iff, globally-iff}
@@ -17,10 +17,10 @@ use Rattle.ctl.proofs.Until.{until-table}
 use Rattle.ctl.proofs.Weak.{non, nor, weak-table}
 use Rattle.labelling.proofs.Labels.{said-iff}
 use Rattle.labelling.specs.declared.Operator.the-variants as op
-use Rattle.flow.specs.Flow.{some, Direction, steps}
+use Rattle.flow.specs.Flow.{some, steps}
 use Rattle.flow.proofs.Model.{steps-graph}
 use Rattle.condition.specs.Condition.{PathUnary, next, finally, globally, PathBinary, until, weak, Unary, negation, Binary, conjunction, disjunction, Condition, atom, unary, binary}
-use Rattle.condition.specs.Truth.{SaidOne, SaidTwo, Sat}
+use Rattle.truth.specs.Truth.{SaidOne, SaidTwo, Sat}
 use Rattle.base.proofs.Decides.{decides-iff}
 use Rattle.cases.proofs.Atoms.{holds, holds-decides}
 

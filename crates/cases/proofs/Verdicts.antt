@@ -18,7 +18,7 @@ use Rattle.base.proofs.Decides.{decides, decides-eqb}
 use Rattle.base.proofs.Bools.{clash}
 use Rattle.ctl.proofs.Least.{test}
 use Rattle.condition.specs.declared.Atom.the-variants.{Stmt, Use}
-use Rattle.condition.specs.Truth.{Sat}
+use Rattle.truth.specs.Truth.{Sat}
 use Rattle.marks.specs.declared.Mark.{Mark}
 use Rattle.marks.specs.declared.Mark.the-variants.{Rm, Rpl}
 use Rattle.marks.specs.Marks.{names}

@@ -16,10 +16,12 @@ use Rattle.base.proofs.Bools.{clash, and-left, and-right, and-both}
 use Rattle.ctl.proofs.Least.{every, every-at, test}
 use Rattle.condition.specs.declared.Atom.the-variants.{True}
 use Rattle.condition.specs.Condition.{Condition, atom, spellCondition, parts}
-use Rattle.condition.specs.Reading.{most-bytes, most-parts}
-use Rattle.condition.specs.Parsing.{parseEnded, parseNode, parseStmt, parseDef, parseUse, parseTrans, parseTrueOrTrans, parseEntryOrExit, parseAtom, byLetter, parseLetter, parsePrefix, parseOpening, parseMiddle, parseLeaf, parseUnary, parseBinary, parseBracketed, parseCondition}
-use Rattle.condition.specs.Truth.{Sat}
-use Rattle.condition.proofs.Spelling.{condition-sound}
+use Rattle.condition.specs.Texts.{most-bytes, most-parts}
+use Rattle.atom_reader.specs.Parsing.{parseEnded, parseNode, parseStmt, parseDef, parseUse, parseTrans, parseTrueOrTrans, parseEntryOrExit, parseAtom}
+use Rattle.operator_reader.specs.Parsing.{byLetter, parseLetter, parsePrefix, parseOpening, parseMiddle}
+use Rattle.condition_reader.specs.Parsing.{parseLeaf, parseUnary, parseBinary, parseBracketed, parseCondition}
+use Rattle.truth.specs.Truth.{Sat}
+use Rattle.condition_reader.proofs.Spelling.{condition-sound}
 use Rattle.cases.specs.Cases.{WordZero, Tabulates}
 use Rattle.cases.proofs.Label.{label, labelled}
 

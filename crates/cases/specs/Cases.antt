@@ -15,8 +15,8 @@ use Rattle.machine.specs.declared.Answer.the-variants.{Ended, Spent}
 use Rattle.machine.specs.Answer.{Answers}
 use Rattle.bits.specs.Row.{bit}
 use Rattle.condition.specs.Condition.{Condition, parts}
-use Rattle.condition.specs.Reading as condition
-use Rattle.condition.specs.Truth.{Sat}
+use Rattle.condition.specs.Texts as condition
+use Rattle.truth.specs.Truth.{Sat}
 use Rattle.table.specs.Table.{partAt}
 use Rattle.report.specs.Report.{PrintsReport}
 

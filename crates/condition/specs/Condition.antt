@@ -2,8 +2,7 @@
 use mathlib.Core.List.{List, [], _∷_, _++_}
 use Prim.Native.Nat.{ℕ}
 use Rattle.language.specs.Spelling.{spellStatementNumber, ValidStatementNumber, spellVariable, ValidVariable, spellExpression, ValidExpression, spell, Valid}
-use Rattle.ctl.specs.Paths.{Quant, E, A}
-use Rattle.flow.specs.Flow.{Direction, forward, backward}
+use Rattle.ctl.specs.Paths.{Quant, E, A, Direction, forward, backward}
 use Rattle.condition.specs.declared.Atom.{Atom}
 use Rattle.condition.specs.declared.Atom.the-variants.{True, False, Entry, Exit, Node, Stmt, Def, Use, Trans}
 

@@ -1,4 +1,3 @@
 pub mod Condition
-pub mod Truth
-pub mod Reading
-pub mod Parsing
+pub mod Texts
+pub mod Words

@@ -12,6 +12,10 @@ Path step s π = (π 0 ≡ s) × ((i : ℕ) → step (π i) (π (suc i)) ≡ tru
 pub data Quant : Type 0 where
   E A : Quant
 
+-- "Forward", "Backward": the two directions of a step
+pub data Direction : Type 0 where
+  forward backward : Direction
+
 -- "some path", "all paths": Φ is true of some path from s, of all paths from s
 abbrev pub Paths : Quant → (ℕ → ℕ → Bool) → ℕ → ((ℕ → ℕ) → Type 0) → Type 0
 Paths E step s Φ = (π : ℕ → ℕ) × Path step s π × Φ π

@@ -10,9 +10,9 @@ use lib.Dec.{eqb, ltb}
 use borrow.Author.Tests.{lt-ltb, le-ltb}
 use Rattle.language.specs.declared.Statement.{Statement}
 use Rattle.program.specs.Program.{WellFormed}
-use Rattle.ctl.specs.Paths.{Graph}
+use Rattle.ctl.specs.Paths.{Graph, Direction, forward, backward}
 use Rattle.graph.specs.Graphs.{Edges, stepOf, Opposite, Directions}
-use Rattle.flow.specs.Flow.{stepsForward, precedes, some, Direction, forward, backward, steps}
+use Rattle.flow.specs.Flow.{stepsForward, precedes, some, steps}
 use Rattle.flow.specs.FlowOf.{FlowOf}
 use Rattle.flow.specs.Edges.{Successors, stepsBelow, stepsBack, Drawn}
 use Rattle.flow.proofs.Edges.{withSelf-same}

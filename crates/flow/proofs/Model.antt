@@ -14,9 +14,9 @@ use Rattle.base.proofs.Bools.{and-left, and-right, and-both, or-case, or-left, 
 use Rattle.language.specs.declared.Statement.{Statement}
 use Rattle.language.specs.declared.Statement.the-variants.{Read, Write, Assign, Branch, Skip}
 use Rattle.program.specs.Program.{at, InPlace, Targets, WellFormed}
-use Rattle.ctl.specs.Paths.{Graph}
+use Rattle.ctl.specs.Paths.{Graph, Direction, forward, backward}
 use Rattle.graph.specs.Graphs.{Opposite}
-use Rattle.flow.specs.Flow.{leads, isWrite, stepsForward, precedes, some, stepsBackward, Direction, forward, backward, steps}
+use Rattle.flow.specs.Flow.{leads, isWrite, stepsForward, precedes, some, stepsBackward, steps}
 use Rattle.flow.proofs.Some.{some-none}
 
 -- ---- one statement x at place s of n

@@ -7,6 +7,7 @@ use lib.ListN.{length}
 use Rattle.language.specs.declared.Statement.{Statement}
 use Rattle.language.specs.declared.Statement.the-variants.{Read, Write, Assign, Branch, Skip}
 use Rattle.program.specs.Program.{at}
+use Rattle.ctl.specs.Paths.{Direction, forward, backward}
 
 -- a run may go from the statement at place s to place t, "both arms of an `if` counted"
 abbrev pub leads : Statement → ℕ → ℕ → Bool
@@ -39,9 +40,6 @@ some (suc n) f = f n || some n f
 -- "and a statement with no predecessor steps back to itself"
 abbrev pub stepsBackward : List Statement → ℕ → ℕ → Bool
 stepsBackward P s t = precedes P t s || (eqb s t && not (some (length P) (λ u. precedes P u s)))
-
-pub data Direction : Type 0 where
-  forward backward : Direction
 
 abbrev pub steps : List Statement → Direction → ℕ → ℕ → Bool
 steps P forward s t = stepsForward P s t

@@ -5,7 +5,8 @@ use Prim.Native.Nat.{ℕ, _+_, _<_}
 use lib.ListN.{length, take, drop}
 use Rattle.language.specs.declared.Statement.{Statement}
 use Rattle.graph.specs.Graphs.{Edges, entries, edgesAt, stepOf, Directions}
-use Rattle.flow.specs.Flow as model
+use Rattle.ctl.specs.Paths as paths
+use Rattle.flow.specs.Flow.{steps}
 
 -- the edges in both directions
 pub record Flow : Type 0 where
@@ -24,5 +25,5 @@ flowAt ws = record { forward = edgesAt (take entries ws); backward = edgesAt (dr
 pub record FlowOf (P : List Statement) (f : Flow) : Type 0 where
   pub forward : Directions (length P) (f .forward) (f .backward)
   pub backward : Directions (length P) (f .backward) (f .forward)
-  pub exact-forward : (s t : ℕ) → s < length P → stepOf (length P) (f .forward) s t ≡ model.steps P model.forward s t
-  pub exact-backward : (s t : ℕ) → s < length P → stepOf (length P) (f .backward) s t ≡ model.steps P model.backward s t
+  pub exact-forward : (s t : ℕ) → s < length P → stepOf (length P) (f .forward) s t ≡ steps P paths.forward s t
+  pub exact-backward : (s t : ℕ) → s < length P → stepOf (length P) (f .backward) s t ≡ steps P paths.backward s t

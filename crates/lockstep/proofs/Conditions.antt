@@ -17,12 +17,12 @@ use Rattle.language.specs.declared.Expression.the-variants.{Single}
 use Rattle.language.specs.declared.Statement.{Statement}
 use Rattle.language.specs.declared.Statement.the-variants.{Read, Write, Assign, Branch, Skip}
 use Rattle.program.specs.Program.{at, Targets, WellFormed}
-use Rattle.ctl.specs.Paths.{A, E, Path, Until, Weak}
+use Rattle.ctl.specs.Paths.{A, E, Path, Until, Weak, forward, backward}
 use Rattle.ctl.proofs.Paths.{cons, path-cons, path-first, path-tail, some-path}
-use Rattle.flow.specs.Flow.{leads, isWrite, precedes, some, forward, backward, steps}
+use Rattle.flow.specs.Flow.{leads, isWrite, precedes, some, steps}
 use Rattle.flow.proofs.Model.{steps-graph}
 use Rattle.condition.specs.Condition.{next, Unary, Condition, unary}
-use Rattle.condition.specs.Truth.{In, Defines, Uses, Sat}
+use Rattle.truth.specs.Truth.{In, Defines, Uses, Sat}
 use Rattle.rewriting.specs.Rewriting.{live, copied}
 use Rattle.lockstep.proofs.Decisions.{statement-decided}
 

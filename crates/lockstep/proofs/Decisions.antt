@@ -7,7 +7,7 @@ use Rattle.language.specs.declared.Operand.{Operand}
 use Rattle.language.specs.declared.Operand.the-variants.{Variable, Constant}
 use Rattle.language.specs.declared.Statement.{Statement}
 use Rattle.language.specs.declared.Statement.the-variants.{Read, Write, Assign, Branch, Skip}
-use Rattle.condition.specs.Truth.{InOperand, Defines}
+use Rattle.truth.specs.Truth.{InOperand, Defines}
 use Rattle.atoms.specs.Codes.{statementCode}
 use Rattle.atoms.proofs.Codes.{code-unique}
 

@@ -17,7 +17,7 @@ use Rattle.language.specs.declared.Expression.the-variants.{Single, Binary}
 use Rattle.language.specs.declared.Statement.{Statement}
 use Rattle.language.specs.declared.Statement.the-variants.{Read, Write, Assign, Branch, Skip}
 use Rattle.machine.specs.Machine.{apply, operandValue, value}
-use Rattle.condition.specs.Truth.{InOperand, In, Shows}
+use Rattle.truth.specs.Truth.{InOperand, In, Shows}
 use Rattle.rewriting.specs.Rewriting.{IsVariable, Takes, replaceOperand, replaceIn, replaceVariable, replace}
 use Rattle.base.specs.Pick.{pick}
 

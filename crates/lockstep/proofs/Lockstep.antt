@@ -24,7 +24,7 @@ use Rattle.machine.specs.Machine.{State, before, ended, after, perform, stepFro
 use Rattle.base.specs.Pick.{pick}
 use Rattle.flow.specs.Flow.{leads}
 use Rattle.flow.proofs.Model.{forward-inside}
-use Rattle.condition.specs.Truth.{InOperand, Defines, Shows, Uses, Sat}
+use Rattle.truth.specs.Truth.{InOperand, Defines, Shows, Uses, Sat}
 use Rattle.marks.specs.declared.Mark.the-variants.{Rm, Rpl}
 use Rattle.rewriting.specs.Rewriting.{live, replace}
 use Rattle.lockstep.specs.Lockstep.{Change, Changed, Agree, Side, Together}

@@ -7,7 +7,7 @@ use Prim.Native.Nat.{ℕ, _<_}
 use lib.ListN.{length}
 use Rattle.language.specs.declared.Statement.{Statement}
 use Rattle.program.specs.Program.{at}
-use Rattle.condition.specs.Truth.{Sat}
+use Rattle.truth.specs.Truth.{Sat}
 use Rattle.marks.specs.Marks.{AllValid}
 use Rattle.marks.specs.declared.Mark.{Mark}
 use Rattle.marks.proofs.Walk.{at-valid}

@@ -10,7 +10,7 @@ use Rattle.program.specs.Program.{at}
 use Rattle.machine.specs.Machine.{State, before, ended}
 use Rattle.machine.specs.declared.Answer.{Answer}
 use Rattle.machine.specs.declared.Answer.the-variants.{Ended, Spent}
-use Rattle.condition.specs.Truth.{Sat}
+use Rattle.truth.specs.Truth.{Sat}
 use Rattle.marks.specs.Marks.{ValidMark}
 use Rattle.marks.specs.declared.Mark.{Mark}
 use Rattle.rewriting.specs.Rewriting.{Fits, live, published, makes}

@@ -15,7 +15,7 @@ use Rattle.bits.proofs.Rows.{word-member}
 use Rattle.base.proofs.Bools.{clash}
 use Rattle.labelling.specs.Labels.{Labelled}
 use Rattle.condition.specs.Condition.{Condition, atom, unary, binary, parts}
-use Rattle.condition.specs.Truth.{Sat}
+use Rattle.truth.specs.Truth.{Sat}
 use Rattle.table.specs.Table.{part-words, row, partAt}
 use Rattle.table.specs.Fill.{HeldOf, SomeHeld, TableOf}
 use Rattle.table.proofs.Whole.{held-some, whole-labelled}

@@ -23,9 +23,9 @@ use Rattle.bits.specs.Row.{bit}
 use Rattle.base.proofs.Bools.{tests-agree}
 use Rattle.bits.proofs.Words.{word-unique}
 use Rattle.condition.specs.Condition.{Condition, parts}
-use Rattle.condition.specs.Reading as condition
-use Rattle.condition.specs.Truth.{Sat}
-use Rattle.condition.proofs.Unique as condition-unique
+use Rattle.condition_reader.specs.Reading as condition-reading
+use Rattle.truth.specs.Truth.{Sat}
+use Rattle.condition_reader.proofs.Unique as condition-unique
 use Rattle.table.specs.Table.{part-words, partAt}
 use Rattle.table.proofs.Summaries.{counts-unique}
 use Rattle.marks.specs.Reading as marks
@@ -147,10 +147,10 @@ module _ (t u old : List ℕ) where
     )
 
   tabulate-refused : (n m : ℕ) → TabulateRefused t u old n → TabulateRefused t u old m → n ≡ m
-  tabulate-refused = refuses-unique table-apart t (condition.Refused u) condition.number (condition-unique.refused-unique u)
+  tabulate-refused = refuses-unique table-apart t (condition-reading.Refused u) condition-reading.number (condition-unique.refused-unique u)
 
   tabulate-not : (n : ℕ) {i j k : ℕ} {new : List ℕ} → TabulateRefused t u old n → TabulateFilled t u old new i j k → ⊥
-  tabulate-not n r f = refuses-not table-apart t (condition.Refused u) condition.number n r (f .room) (f .program) (condition-unique.taken-refused (f .condition))
+  tabulate-not n r f = refuses-not table-apart t (condition-reading.Refused u) condition-reading.number n r (f .room) (f .program) (condition-unique.taken-refused (f .condition))
 
   -- a call of `tabulate` has one answer, and leaves one table
   pub tabulate-unique : (a b : TabulateAnswer) (new other : List ℕ) → Words new → Words other

@@ -11,9 +11,10 @@ use Rattle.program.specs.Reading as program
 use Rattle.program.specs.declared.Refusal as program-refusal
 use Rattle.bits.specs.Row.{bit}
 use Rattle.condition.specs.Condition.{Condition, parts}
-use Rattle.condition.specs.Truth.{Sat}
-use Rattle.condition.specs.Reading as condition
-use Rattle.condition.specs.declared.Refusal as condition-refusal
+use Rattle.truth.specs.Truth.{Sat}
+use Rattle.condition.specs.Texts as condition
+use Rattle.condition_reader.specs.Reading as condition-reading
+use Rattle.condition_reader.specs.declared.Refusal as condition-refusal
 use Rattle.table.specs.Table.{part-words, partAt}
 use Rattle.table.specs.Summary.{Counts}
 use Rattle.rewrites.specs.declared.TabulateAnswer.{TabulateAnswer}
@@ -31,7 +32,7 @@ abbrev pub TabulateRefused : List ℕ → List ℕ → List ℕ → ℕ → Type
 TabulateRefused t u table n =
     ((length table < table-words) × (n ≡ room-number))
     ⊎ (((table-words ≤ length table) × (r : program-refusal.Refusal) × program.Refused t r × (n ≡ program.number r))
-    ⊎ ((table-words ≤ length table) × (P : List Statement) × Taken t P × (r : condition-refusal.Refusal) × condition.Refused u r × (n ≡ condition.number r)))
+    ⊎ ((table-words ≤ length table) × (P : List Statement) × Taken t P × (r : condition-refusal.Refusal) × condition-reading.Refused u r × (n ≡ condition-reading.number r)))
 
 -- none applies: the table holds the parts of the condition c over the program P
 pub record TabulateFilled (t u old new : List ℕ) (count satisfied first : ℕ) : Type 0 where

@@ -86,13 +86,13 @@ pub fn tabulate(program: &[u8], condition: &[u8], table: &mut [u64]) -> Tabulate
         return TabulateAnswer::Refused(program::number_of(refusal));
     }
     let p = reading.program;
-    let conditions = condition::read::read(condition);
+    let conditions = condition_reader::read(condition);
     let told = conditions.answer;
     match told {
-        condition::Answer::Refused(refusal) => {
-            TabulateAnswer::Refused(condition::number_of(refusal))
+        condition_reader::Answer::Refused(refusal) => {
+            TabulateAnswer::Refused(condition_reader::number_of(refusal))
         }
-        condition::Answer::Taken(parts) => {
+        condition_reader::Answer::Taken(parts) => {
             let words = conditions.words;
             let count = parts as usize;
             let mut facts = atoms::facts::blank();

@@ -12,7 +12,7 @@ use Rattle.language.specs.declared.Expression.the-variants.{Single}
 use Rattle.language.specs.declared.Statement.the-variants.{Assign}
 use Rattle.language.proofs.Lengths.{digits-length, assign-length}
 use Rattle.condition.specs.Condition.{spellCondition, spellAtom, ValidCondition, parts}
-use Rattle.condition.specs.Reading.{Taken}
+use Rattle.condition.specs.Texts.{Taken}
 use Rattle.marks.specs.Marks.{ValidMark}
 use Rattle.marks.specs.declared.Mark.{Mark}
 use Rattle.marks.specs.declared.Mark.the-variants.{Rm, Rpl}

@@ -10,11 +10,10 @@ use Rattle.language.specs.declared.Expression.{Expression}
 use Rattle.language.specs.declared.Expression.the-variants.{Single, Binary}
 use Rattle.language.specs.declared.Statement.{Statement}
 use Rattle.language.specs.declared.Statement.the-variants.{Read, Write, Assign, Branch, Skip}
-use Rattle.ctl.specs.Paths.{E, A}
-use Rattle.flow.specs.Flow.{forward, backward}
+use Rattle.ctl.specs.Paths.{E, A, forward, backward}
 use Rattle.condition.specs.Condition.{next, until, weak, Unary, negation, conjunction, Condition, atom, unary, binary}
 use Rattle.condition.specs.Condition as condition
-use Rattle.condition.specs.Truth.{Shows}
+use Rattle.truth.specs.Truth.{Shows}
 use Rattle.condition.specs.declared.Atom.the-variants.{Entry, Stmt, Def, Use, Trans}
 use Rattle.marks.specs.declared.Mark.{Mark}
 use Rattle.marks.specs.declared.Mark.the-variants.{Rm, Rpl}

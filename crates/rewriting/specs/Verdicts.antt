@@ -11,7 +11,7 @@ use Rattle.language.specs.declared.Expression.the-variants.{Single}
 use Rattle.language.specs.declared.Statement.{Statement}
 use Rattle.program.specs.Program.{at}
 use Rattle.bits.specs.Row.{countBelow}
-use Rattle.condition.specs.Truth.{Sat}
+use Rattle.truth.specs.Truth.{Sat}
 use Rattle.marks.specs.Marks.{names}
 use Rattle.marks.specs.declared.Mark.{Mark}
 use Rattle.marks.specs.declared.Mark.the-variants.{Rm}

@@ -8,14 +8,14 @@ use native.Mathlib.Omega.{arith}
 use lib.ListN.{length}
 use borrow.Author.Tests.{lt-ltb, le-ltb}
 use Rattle.language.specs.declared.Statement.{Statement}
-use Rattle.ctl.specs.Paths.{E, A, quant}
+use Rattle.ctl.specs.Paths.{E, A, quant, forward, backward}
 use Rattle.ctl.proofs.Paths.{paths-same}
 use Rattle.labelling.proofs.Labels.{said-iff}
-use Rattle.flow.specs.Flow.{forward, backward, steps}
+use Rattle.flow.specs.Flow.{steps}
 use Rattle.flow.specs.FlowOf.{Flow, FlowOf}
 use Rattle.condition.specs.Condition.{next, finally, globally, until, weak, Unary, negation, Binary, conjunction, disjunction, Condition, atom, unary, binary}
-use Rattle.condition.specs.Reading.{unaryCode, binaryCode}
-use Rattle.condition.specs.Truth.{Sat}
+use Rattle.condition.specs.Words.{unaryCode, binaryCode}
+use Rattle.truth.specs.Truth.{Sat}
 use Rattle.table.specs.Table.{partAt}
 use Rattle.table.specs.Rules.{Operation, one, two, codeOf, ruleOf, SatRule, flowSteps}
 use Rattle.table.specs.Fill.{leftOf, Tells}

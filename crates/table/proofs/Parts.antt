@@ -15,8 +15,8 @@ use Rattle.graph.specs.Graphs.{entries, DirectionsAt}
 use Rattle.flow.specs.FlowOf.{flow-entries, flowAt}
 use Rattle.atoms.specs.Facts.{FactsOf}
 use Rattle.condition.specs.Condition.{Condition, atom, unary, binary}
-use Rattle.condition.specs.Parsing.{parseAtom}
-use Rattle.condition.specs.Truth.{Holds, Sat}
+use Rattle.atom_reader.specs.Parsing.{parseAtom}
+use Rattle.truth.specs.Truth.{Holds, Sat}
 use Rattle.condition.specs.declared.Atom.{Atom}
 use Rattle.table.specs.Table.{row, partAt, Written}
 use Rattle.table.specs.Rules.{Operation, codeOf, ruleOf, SatRule, flowSteps, BothWays}

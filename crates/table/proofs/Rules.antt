@@ -5,10 +5,10 @@ use mathlib.Core.Logic.{_↔_}
 use Prim.Native.Nat.{ℕ}
 use lib.ListN.{getD}
 use Rattle.language.specs.declared.Statement.{Statement}
-use Rattle.ctl.specs.Paths.{Quant, E, A}
-use Rattle.flow.specs.Flow.{Direction, forward, backward, steps}
+use Rattle.ctl.specs.Paths.{Quant, E, A, Direction, forward, backward}
+use Rattle.flow.specs.Flow.{steps}
 use Rattle.condition.specs.Condition.{PathUnary, next, finally, globally, PathBinary, until, weak, Unary, negation, Binary, conjunction, disjunction}
-use Rattle.condition.specs.Truth.{SatUnary, SatBinary}
+use Rattle.truth.specs.Truth.{SatUnary, SatBinary}
 use Rattle.table.specs.Rules.{Operation, one, two, codeOf, ruleOf, SatRule}
 use Rattle.table.specs.declared.Rule.{Rule}
 

@@ -10,9 +10,9 @@ use Rattle.language.specs.declared.Statement.{Statement}
 use Rattle.bits.specs.Row.{member}
 use Rattle.labelling.specs.Labels.{Labelled}
 use Rattle.condition.specs.Condition.{Condition, atom, unary, binary, parts}
-use Rattle.condition.specs.Reading.{most-parts}
-use Rattle.condition.specs.Truth.{Sat}
-use Rattle.condition.proofs.Words.{operatorCode, Operands, held-describes}
+use Rattle.condition.specs.Texts.{most-parts}
+use Rattle.truth.specs.Truth.{Sat}
+use Rattle.condition_reader.proofs.Words.{operatorCode, Operands, held-describes}
 use Rattle.table.specs.Table.{part-words, row, partAt, Kept, Written}
 use Rattle.table.specs.Known.{Known, SomeKnown}
 use Rattle.table.specs.Fill.{Tells, RowsRight, PartReady, HeldOf, SomeHeld, TableOf}

@@ -8,8 +8,8 @@ use Rattle.language.specs.declared.Statement.{Statement}
 use Rattle.bits.specs.Row.{member}
 use Rattle.labelling.specs.Labels.{Labelled}
 use Rattle.condition.specs.Condition.{Condition, atom, unary, binary, parts}
-use Rattle.condition.specs.Truth.{Sat}
-use Rattle.condition.proofs.Words.{parts-last}
+use Rattle.truth.specs.Truth.{Sat}
+use Rattle.condition_reader.proofs.Words.{parts-last}
 use Rattle.table.specs.Table.{row, partAt}
 use Rattle.table.specs.Fill.{HeldOf, TableOf}
 

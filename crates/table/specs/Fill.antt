@@ -12,9 +12,10 @@ use Rattle.tokens.specs.Parsing.{found}
 use Rattle.bits.specs.Row.{member}
 use Rattle.labelling.specs.Labels.{Labelled}
 use Rattle.condition.specs.Condition.{Condition, atom, unary, binary, parts}
-use Rattle.condition.specs.Reading.{unaryCode, binaryCode, Taken, Held}
-use Rattle.condition.specs.Parsing.{parseAtom}
-use Rattle.condition.specs.Truth.{Sat}
+use Rattle.condition.specs.Words.{unaryCode, binaryCode, Held}
+use Rattle.condition.specs.Texts.{Taken}
+use Rattle.atom_reader.specs.Parsing.{parseAtom}
+use Rattle.truth.specs.Truth.{Sat}
 use Rattle.table.specs.Table.{part-words, row, partAt}
 use Rattle.table.specs.Known.{Known}
 

@@ -4,13 +4,12 @@ use mathlib.Core.List.{List}
 use mathlib.Core.Bool.{Bool, true, false}
 use mathlib.Core.Logic.{_⊎_}
 use Prim.Native.Nat.{ℕ}
-use Rattle.ctl.specs.Paths.{Quant, E, A, Paths, quant}
+use Rattle.ctl.specs.Paths.{Quant, E, A, Paths, quant, Direction, forward, backward}
 use lib.ListN.{length}
 use Rattle.graph.specs.Graphs.{stepOf, Directions}
-use Rattle.flow.specs.Flow.{Direction, forward, backward}
 use Rattle.flow.specs.FlowOf.{Flow, flow-entries, flowAt}
 use Rattle.condition.specs.Condition.{PathUnary, next, finally, globally, PathBinary, until, weak, Unary, negation, Binary, conjunction, disjunction}
-use Rattle.condition.specs.Reading.{unaryCode, binaryCode}
+use Rattle.condition.specs.Words.{unaryCode, binaryCode}
 use Rattle.labelling.specs.Labels.{Said}
 use Rattle.labelling.specs.declared.Operator.{Operator}
 use Rattle.labelling.specs.declared.Operator.the-variants as op

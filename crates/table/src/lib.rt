@@ -6,7 +6,7 @@ ghost use Prim.Native.Nat.{ℕ, _+_, _-_, _*_, _≤_, _<_};
 ghost use lib.ListN.{length, drop};
 ghost use Rattle.tokens.specs.Parsing.{found};
 ghost use Rattle.language.specs.declared.Statement.{Statement as StatementOf};
-ghost use Rattle.condition.specs.Parsing.{parseAtom};
+ghost use Rattle.atom_reader.specs.Parsing.{parseAtom};
 ghost use Rattle.condition.specs.declared.Atom.{Atom as AtomOf};
 ghost use Rattle.table.specs.Table.{part-words, row, Written, partAt};
 ghost use Rattle.table.specs.Summary.{Counts};
@@ -19,10 +19,10 @@ ghost use Rattle.condition.specs.Condition.{Condition};
 ghost use Rattle.bits.specs.Row.{member};
 ghost use Rattle.ctl.specs.Paths.{So};
 ghost use Rattle.labelling.specs.Labels.{Labelled, Rows};
-ghost use Rattle.condition.specs.Truth.{Holds, Sat};
+ghost use Rattle.truth.specs.Truth.{Holds, Sat};
 ghost use Rattle.table.specs.Rules.{Operation, codeOf, ruleOf, SatRule, flowSteps, BothWays};
+use atom_reader::AtomRead;
 use condition::MOST_PARTS;
-use condition::read::AtomRead;
 use labelling::Operator;
 
 // The words of a part: one bit for each statement.
@@ -156,7 +156,7 @@ fn fill_atom(
     requires { ⌜ part-words * k + part-words ≤ length (now table) ⌝ }
     ensures { λ _. ⌜ ((P : List StatementOf) (a : AtomOf) (rest : List ℕ) → length P ≡ n → FactsOf P (now (facts .entry)) → parseAtom (drop start (now (text .entry))) ≡ found a rest → Written (now (table .entry)) (now (table .exit)) k n (Holds P a)) ⌝ }
 {
-    let AtomRead::Found(a, _) = condition::read::atom(text, start) else {
+    let AtomRead::Found(a, _) = atom_reader::atom(text, start) else {
         return;
     };
     let at = WORDS * k;

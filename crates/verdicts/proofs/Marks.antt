@@ -18,7 +18,7 @@ use Rattle.base.proofs.Decides.{decides}
 use Rattle.bits.specs.Row.{member}
 use Rattle.base.proofs.Bools.{clash}
 use Rattle.labelling.specs.Labels.{Labelled}
-use Rattle.condition.specs.Truth.{Sat}
+use Rattle.truth.specs.Truth.{Sat}
 use Rattle.marks.specs.Marks.{names}
 use Rattle.marks.specs.declared.Mark.{Mark}
 use Rattle.rewriting.specs.Rewriting.{Fits, published}

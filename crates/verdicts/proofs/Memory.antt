@@ -13,7 +13,7 @@ use Rattle.language.specs.declared.Statement.{Statement}
 use Rattle.bits.specs.Row.{member, Zeros, ZeroRows}
 use Rattle.labelling.specs.Labels.{Labelled}
 use Rattle.condition.specs.Condition.{Condition}
-use Rattle.condition.specs.Truth.{Sat}
+use Rattle.truth.specs.Truth.{Sat}
 use Rattle.table.specs.Table.{part-words}
 use Rattle.marks.specs.Marks.{ValidMark}
 use Rattle.marks.specs.declared.Mark.{Mark}

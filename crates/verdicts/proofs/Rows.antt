@@ -8,14 +8,15 @@ use lib.Seq.{length-take-le}
 use Rattle.language.specs.declared.Statement.{Statement}
 use Rattle.bits.specs.Row.{member}
 use Rattle.labelling.specs.Labels.{Labelled}
-use Rattle.condition.specs.declared.Answer.{Answer}
-use Rattle.condition.specs.declared.Answer.the-variants as answer
-use Rattle.condition.specs.declared.Refusal.{Refusal}
+use Rattle.condition_reader.specs.declared.Answer.{Answer}
+use Rattle.condition_reader.specs.declared.Answer.the-variants as answer
+use Rattle.condition_reader.specs.declared.Refusal.{Refusal}
 use Rattle.condition.specs.Condition.{Condition, parts, spellCondition}
-use Rattle.condition.specs.Reading.{Taken, ConditionRead}
-use Rattle.condition.specs.Truth.{Sat}
-use Rattle.condition.proofs.Spelling.{condition-unique}
-use Rattle.condition.proofs.Whole.{read-back}
+use Rattle.condition.specs.Texts.{Taken}
+use Rattle.condition_reader.specs.Reading.{ConditionRead}
+use Rattle.truth.specs.Truth.{Sat}
+use Rattle.condition_reader.proofs.Spelling.{condition-unique}
+use Rattle.condition_reader.proofs.Answers.{read-back}
 use Rattle.table.specs.Table.{part-words, row}
 use Rattle.table.specs.Fill.{HeldOf, TableOf}
 use Rattle.table.proofs.Whole.{held-some, whole-labelled}

@@ -12,8 +12,8 @@ use Rattle.program.specs.Reading.{statements, Held}
 use Rattle.bits.specs.Row.{member}
 use Rattle.labelling.specs.Labels.{Labelled}
 use Rattle.condition.specs.Condition.{Condition, parts}
-use Rattle.condition.specs.Reading.{Taken}
-use Rattle.condition.specs.Truth.{Sat}
+use Rattle.condition.specs.Texts.{Taken}
+use Rattle.truth.specs.Truth.{Sat}
 use Rattle.table.specs.Table.{part-words}
 use Rattle.table.specs.Known.{Known}
 use Rattle.marks.specs.Marks.{ValidMark, names}

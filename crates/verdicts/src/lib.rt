@@ -50,9 +50,9 @@ fn row_of(text: &[u8], n: usize, facts: &[[u64; WORDS]], flow: &[u16]) -> [u64; 
     requires { ⌜ SmallTaken (now text) ⌝ }
     ensures { λ r. ⌜ ((P : List StatementOf) → Known P n (now (facts .entry)) (now (flow .entry)) → RowOf P (now (text .entry)) r) ⌝ }
 {
-    let reading = condition::read::read(text);
+    let reading = condition_reader::read(text);
     let answer = reading.answer;
-    let condition::Answer::Taken(parts) = answer else {
+    let condition_reader::Answer::Taken(parts) = answer else {
         return atoms::facts::blank_row();
     };
     let words = reading.words;

@@ -8,10 +8,10 @@ use lib.Dec.{ltb}
 use lib.ListN.{length, drop, length-drop}
 use borrow.Author.Tests.{ltb-true, ltb-false}
 use Rattle.condition.specs.declared.Atom.{Atom}
-use Rattle.condition.specs.declared.read.AtomRead.{AtomRead}
-use Rattle.condition.specs.declared.read.AtomRead.the-variants.{Found, Misspelled}
+use Rattle.atom_reader.specs.declared.AtomRead.{AtomRead}
+use Rattle.atom_reader.specs.declared.AtomRead.the-variants.{Found, Misspelled}
 use Rattle.tokens.specs.Parsing.{Parsed, found, misspelled}
-use Rattle.condition.specs.Parsing.{parseAtom, parsedAtom}
+use Rattle.atom_reader.specs.Parsing.{parseAtom, parsedAtom}
 use Rattle.view.specs.Writing.{AtomEnds}
 
 module _ (s : List ℕ) (start : ℕ) {x : AtomRead} (e : parsedAtom s x ≡ parseAtom (drop start s)) where

@@ -6,8 +6,9 @@ use native.Mathlib.Omega.{arith}
 use lib.ListN.{length, take, drop, getD}
 use Rattle.statement_writer.specs.Writing.{Put}
 use Rattle.condition.specs.Condition.{Condition, spellCondition, parts}
-use Rattle.condition.specs.Reading.{most-bytes, most-parts, Taken, Held}
-use Rattle.condition.proofs.Spelling.{condition-unique}
+use Rattle.condition.specs.Texts.{most-bytes, most-parts, Taken}
+use Rattle.condition.specs.Words.{Held}
+use Rattle.condition_reader.proofs.Spelling.{condition-unique}
 use Rattle.table.specs.Table.{partAt}
 use Rattle.view.specs.View.{upTo, partLine, partLines}
 use Rattle.view.specs.Writing.{PartEnds, PartsFit}

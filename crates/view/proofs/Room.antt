@@ -13,7 +13,8 @@ use Rattle.program.specs.Program.{most, at, Targets, WellFormed}
 use Rattle.program.proofs.Held.{at-valid}
 use Rattle.bits.proofs.Counts.{count-le}
 use Rattle.condition.specs.Condition.{Condition, spellCondition, parts}
-use Rattle.condition.specs.Reading.{most-bytes, most-parts, Taken, Held}
+use Rattle.condition.specs.Texts.{most-bytes, most-parts, Taken}
+use Rattle.condition.specs.Words.{Held}
 use Rattle.table.specs.Table.{part-words, partAt}
 use Rattle.table.specs.Summary.{Counts}
 use Rattle.desk.proofs.Lengths.{wide-length, padded-length}

@@ -9,15 +9,15 @@ use lib.ListN.{length, take, drop, getD, length-append, List·getD-append}
 use lib.Seq.{getD-append-seam, getD-append-add, drop-append-seam, take-append-seam, getD-take}
 use borrow.Author.Tests.{ltb-true, ltb-false}
 use Rattle.tokens.specs.Parsing.{found}
-use Rattle.ctl.specs.Paths.{E, A}
-use Rattle.flow.specs.Flow.{forward, backward}
+use Rattle.ctl.specs.Paths.{E, A, forward, backward}
 use Rattle.condition.specs.declared.Atom.the-variants.{True}
 use Rattle.condition.specs.Condition.{next, finally, globally, until, weak, Unary, negation, Binary, conjunction, disjunction, Condition, atom, unary, binary, prefix, opening, middle, closing, spellAtom, spellCondition, ValidCondition, parts}
-use Rattle.condition.specs.Reading.{most-bytes, Taken, Held, unaryCode, binaryCode, word, words}
-use Rattle.condition.specs.Parsing.{parseAtom}
-use Rattle.condition.proofs.Spelling.{atom-complete}
-use Rattle.condition.proofs.Readers.{parts-few, words-length}
-use Rattle.condition.proofs.Words.{part, operatorCode, parts-last, held-describes}
+use Rattle.condition.specs.Texts.{most-bytes, Taken}
+use Rattle.condition.specs.Words.{Held, unaryCode, binaryCode, word, words}
+use Rattle.atom_reader.specs.Parsing.{parseAtom}
+use Rattle.atom_reader.proofs.Spelling.{atom-complete}
+use Rattle.condition.proofs.Parts.{parts-few, words-length}
+use Rattle.condition_reader.proofs.Words.{part, operatorCode, parts-last, held-describes}
 use Rattle.view.specs.Writing.{PartEnds}
 
 abbrev pub startOf : ℕ → ℕ

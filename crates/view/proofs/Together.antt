@@ -9,8 +9,8 @@ use Rattle.statement_writer.proofs.Puts.{put-then, room, front}
 use Rattle.program.specs.Reading.{statements}
 use Rattle.program.specs.declared.Program.{Program}
 use Rattle.condition.specs.Condition.{Condition}
-use Rattle.condition.specs.Reading.{Taken}
-use Rattle.condition.proofs.Spelling.{condition-unique}
+use Rattle.condition.specs.Texts.{Taken}
+use Rattle.condition_reader.proofs.Spelling.{condition-unique}
 use Rattle.view.specs.View.{partLines, headRow, tens, units, rows, lastLine, viewText}
 use Rattle.view.specs.Writing.{truthIn, ViewFits, PartsFit, HeadFits, RowsFit}
 use Rattle.view.specs.declared.Row.the-variants.{Tens, Units}

@@ -11,9 +11,9 @@ use Rattle.program.specs.Program.{at}
 use Rattle.program.proofs.RoundTrip.{taken-unique}
 use Rattle.base.proofs.Bools.{tests-agree}
 use Rattle.condition.specs.Condition.{parts}
-use Rattle.condition.specs.Truth.{Sat}
-use Rattle.condition.proofs.Readers.{parts-few}
-use Rattle.condition.proofs.Unique as condition
+use Rattle.truth.specs.Truth.{Sat}
+use Rattle.condition.proofs.Parts.{parts-few}
+use Rattle.condition_reader.proofs.Unique as condition
 use Rattle.table.specs.Table.{part-words, partAt}
 use Rattle.table.proofs.Summaries.{counts-unique}
 use Rattle.view.specs.View.{upTo, columns, mark, row, rows, viewText, PrintsView}

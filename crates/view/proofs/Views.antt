@@ -15,11 +15,13 @@ use Rattle.program.specs.declared.Program.{Program}
 use Rattle.program.proofs.RoundTrip.{program-taken, read-written}
 use Rattle.bits.specs.Row.{bit, member}
 use Rattle.condition.specs.Condition.{Condition, parts}
-use Rattle.condition.specs.Truth.{Sat}
-use Rattle.condition.specs.Reading as condition
-use Rattle.condition.specs.declared.Answer as condition-answer
-use Rattle.condition.proofs.Readers.{parts-few}
-use Rattle.condition.proofs.Whole.{read-back}
+use Rattle.truth.specs.Truth.{Sat}
+use Rattle.condition.specs.Texts as condition
+use Rattle.condition.specs.Words as condition-words
+use Rattle.condition_reader.specs.Reading as condition-reading
+use Rattle.condition_reader.specs.declared.Answer as condition-answer
+use Rattle.condition.proofs.Parts.{parts-few}
+use Rattle.condition_reader.proofs.Answers.{read-back}
 use Rattle.table.specs.Table.{part-words, partAt}
 use Rattle.rewrites.specs.Tabulate.{table-words, TabulateRefused, TabulateFilled, TabulateAnswers}
 use Rattle.rewrites.specs.declared.TabulateAnswer.{TabulateAnswer}
@@ -82,14 +84,14 @@ module _ {t u old new : List ℕ} {n satisfied first : ℕ} (f : TabulateFilled 
       let b = rw (z, ← table-bit new k s) at (f .bits k (omega arith) (s / 64) (s % 64) (omega arith) (omega arith)) in
       (λ e. b .0 e .1, λ x. b .1 (i, x))
 
-  module _ (pa : program-answer.Answer) (p : Program) (r : program.ProgramRead t pa p) (ca : condition-answer.Answer) (ws : List ℕ) (d : condition.ConditionRead u ca ws) where
+  module _ (pa : program-answer.Answer) (p : Program) (r : program.ProgramRead t pa p) (ca : condition-answer.Answer) (ws : List ℕ) (d : condition-reading.ConditionRead u ca ws) where
     back : (pa ≡ program-answer.the-variants.Taken) × (program.statements p ≡ f .P)
     back = read-written (f .program .program) pa p (rw (f .program .lines) at r)
 
     held : program.Held p
     held = (rw (back .0) at r) .1
 
-    words : condition.Held (f .c) n ws
+    words : condition-words.Held (f .c) n ws
     words = rw (f .counted) (read-back u (f .c) (f .condition) ca ws d .1)
 
     most : length (viewText (program.statements p) (f .c) (truthIn new) satisfied first) ≤ view-room

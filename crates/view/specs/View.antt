@@ -14,9 +14,10 @@ use Rattle.program.specs.Program.{Taken, at, most}
 use Rattle.program.specs.Reading as program
 use Rattle.program.specs.declared.Refusal as program-refusal
 use Rattle.condition.specs.Condition.{Condition, parts, spellCondition}
-use Rattle.condition.specs.Truth.{Sat}
-use Rattle.condition.specs.Reading as condition
-use Rattle.condition.specs.declared.Refusal as condition-refusal
+use Rattle.truth.specs.Truth.{Sat}
+use Rattle.condition.specs.Texts as condition
+use Rattle.condition_reader.specs.Reading as condition-reading
+use Rattle.condition_reader.specs.declared.Refusal as condition-refusal
 use Rattle.table.specs.Table.{part-words, partAt}
 use Rattle.table.specs.Summary.{Counts}
 use Rattle.blame.specs.Blame.{Blames}
@@ -81,7 +82,7 @@ viewText P c truth satisfied first =
 abbrev pub Refuses : List ℕ → List ℕ → ℕ → ℕ → Type 0
 Refuses t u n line =
     ((r : program-refusal.Refusal) × program.Refused t r × (n ≡ program.number r) × Blames t r line)
-    ⊎ ((P : List Statement) × Taken t P × (r : condition-refusal.Refusal) × condition.Refused u r × (n ≡ condition.number r))
+    ⊎ ((P : List Statement) × Taken t P × (r : condition-refusal.Refusal) × condition-reading.Refused u r × (n ≡ condition-reading.number r))
 
 pub record PrintsRefusal (t u w : List ℕ) : Type 0 where
   pub n : ℕ

@@ -14,8 +14,9 @@ use Rattle.program.specs.declared.Program.{Program}
 use Rattle.program.specs.declared.Refusal.{Refusal}
 use Rattle.bits.specs.Row.{member}
 use Rattle.condition.specs.Condition.{Condition}
-use Rattle.condition.specs.Parsing.{parseAtom}
-use Rattle.condition.specs.Reading as condition
+use Rattle.atom_reader.specs.Parsing.{parseAtom}
+use Rattle.condition.specs.Texts as condition
+use Rattle.condition.specs.Words as condition-words
 use Rattle.condition.specs.declared.Atom.{Atom}
 use Rattle.rewrites.specs.Tabulate.{table-words}
 use Rattle.blame.specs.Blame.{Blames}
@@ -77,7 +78,7 @@ pub record PartEnds (s : List ℕ) (code start end r : ℕ) : Type 0 where
 pub record PartsFit (u ws : List ℕ) (n at room : ℕ) : Type 0 where
   pub c : Condition
   pub taken : condition.Taken u c
-  pub held : condition.Held c n ws
+  pub held : condition-words.Held c n ws
   pub fits : at + length (partLines c) ≤ room
 
 -- the rows of the program p have room from `at` on
@@ -90,7 +91,7 @@ pub record RowsFit (p : Program) (table : List ℕ) (n at room : ℕ) : Type 0 w
 pub record ViewFits (u ws table : List ℕ) (p : Program) (n satisfied first room : ℕ) : Type 0 where
   pub c : Condition
   pub taken : condition.Taken u c
-  pub words : condition.Held c n ws
+  pub words : condition-words.Held c n ws
   pub held : Held p
   pub tabled : Tabled table n
   pub fits : length (viewText (statements p) c (truthIn table) satisfied first) ≤ room

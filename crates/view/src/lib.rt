@@ -6,7 +6,7 @@ ghost use Prim.Native.Nat.{_≤_, _<_, _+_, _/_};
 ghost use Rattle.statement_writer.specs.Writing.{Put};
 ghost use Rattle.program.specs.Reading.{statements};
 ghost use Rattle.condition.specs.Condition.{Condition};
-ghost use Rattle.condition.specs.Reading.{Taken, most-parts, most-bytes};
+ghost use Rattle.condition.specs.Texts.{Taken, most-parts, most-bytes};
 ghost use Rattle.rewrites.specs.Tabulate.{table-words};
 ghost use Rattle.desk.specs.Refusals.{refusal-room};
 ghost use Rattle.view.specs.View.{pick, partLine, partLines, columns, headRow, row as rowText, rows, lastLine, viewText, Views};
@@ -14,9 +14,9 @@ ghost use Rattle.view.specs.Writing.{truthIn, byteIn, Placed, Tabled, Co
 
 pub mod page;
 
+use atom_reader::AtomRead;
 use condition::MOST_BYTES;
 use condition::MOST_PARTS;
-use condition::read::AtomRead;
 use language::Statement;
 use program::Program;
 use rewrites::TABLE_WORDS;
@@ -142,7 +142,7 @@ fn write_part(out: &mut [u8], at: usize, k: usize, text: &[u8]) -> usize
 fn atom_end(text: &[u8], start: usize) -> usize
     ensures { λ r. ⌜ AtomEnds (now (text .entry)) start r ⌝ }
 {
-    let AtomRead::Found(_, k) = condition::read::atom(text, start) else {
+    let AtomRead::Found(_, k) = atom_reader::atom(text, start) else {
         return 0;
     };
     if k < text.len() {
@@ -255,7 +255,7 @@ pub fn view(program: &[u8], condition: &[u8], out: &mut [u8]) -> Viewed
         TabulateAnswer::Filled(n, satisfied, first) => {
             let reading = program::read(program);
             let p = reading.program;
-            let conditions = condition::read::read(condition);
+            let conditions = condition_reader::read(condition);
             let words = conditions.words;
             Viewed::Written(write_view(out, condition, words, &table, p, n, satisfied, first))
         }

@@ -2,8 +2,8 @@
 use mathlib.Core.Path.{sym, ap, _∙_}
 use borrow.Author.Needs.{needs}
 use lib.ListN.{drop}
-use Rattle.condition.specs.Parsing.{parsedAtom}
-use Rattle.condition.proofs.Spelling.{atom-sound}
+use Rattle.atom_reader.specs.Parsing.{parsedAtom}
+use Rattle.atom_reader.proofs.Spelling.{atom-sound}
 use Rattle.table.proofs.Lent.{found-same, found-not, part-length, part-written}
 use Rattle.table.proofs.fill_atom.Statement.{statement}
 use Rattle.table.proofs.fill_atom.Tie as tie

@@ -1,0 +1,58 @@
+-- `opening` meets its contract: the first byte is `(` or picks the quantifier. Assumes nothing.
+use Rattle.operator_reader.specs.Parsing.{parseOpening}
+use borrow.Author.Tests.{ne-eqb}
+use Rattle.tokens.proofs.Steps.{at-end, at-byte}
+use native.Mathlib.Omega.{arith}
+use borrow.Author.Needs.{needs}
+use Rattle.operator_reader.proofs.opening.Statement.{statement}
+use Rattle.operator_reader.proofs.opening.Tie as tie
+
+returns : tie.Need-returns
+unfolding parseOpening
+returns c = (
+  rw (at-end _ _ (c .if1 .taken)),
+  omega arith,
+)
+
+returns-2 : tie.Need-returns-2
+unfolding parseOpening
+returns-2 c = (
+  rw (at-byte _ _ (c .before .before .if1 .left), c .match .keys1),
+  omega arith,
+)
+
+returns-3 : tie.Need-returns-3
+unfolding parseOpening
+returns-3 c = (
+  rw (at-byte _ _ (c .before .before .before .if1 .left), c .before .match .keys2) (c .square .ensures .0),
+  c .square .ensures .1,
+)
+
+returns-4 : tie.Need-returns-4
+unfolding parseOpening
+returns-4 c = (
+  rw (at-byte _ _ (c .before .before .before .if1 .left), c .before .match .keys3) (c .square2 .ensures .0),
+  c .square2 .ensures .1,
+)
+
+returns-5 : tie.Need-returns-5
+unfolding parseOpening
+returns-5 c =
+    let n = c .match .rest in (
+      rw (at-byte _ _ (c .before .before .if1 .left), ne-eqb _ 40 (n .0 .0 .1), ne-eqb _ 69 (n .0 .1), ne-eqb _ 65 (n .1)),
+      omega arith,
+    )
+
+pub opening-spec : {M : Type 1} → statement M
+opening-spec =
+    tie.close
+    (tie.spec
+    returns
+    (λ c. search needs)
+    (λ c. search needs)
+    (λ c κs. search needs)
+    (λ c κs. search needs)
+    returns-2
+    returns-3
+    returns-4
+    returns-5)
