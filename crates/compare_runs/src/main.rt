@@ -8,8 +8,8 @@ use files::REFUSAL;
 use files::RESULT;
 use files::UNREAD;
 use files::UNWRITTEN;
+use judge::TEXT_BYTES;
 use libc::STDERR_FILENO;
-use rewrites::TEXT_BYTES;
 use side_by_side::Stage;
 
 // Pieces are written from this many bytes.

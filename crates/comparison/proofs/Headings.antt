@@ -7,10 +7,10 @@ use native.Mathlib.Omega.{arith}
 use lib.ListN.{length, take}
 use Rattle.statement_writer.specs.Writing.{Put}
 use Rattle.language.proofs.Lengths.{digits-length}
-use Rattle.rewrites.specs.Run.{most-steps, budget-number}
-use Rattle.rewrites.specs.Judge.{Room, Lent, JudgeAnswers}
-use Rattle.rewrites.specs.declared.JudgeAnswer.{JudgeAnswer}
-use Rattle.rewrites.specs.declared.JudgeAnswer.the-variants.{Refused, Finished}
+use Rattle.run.specs.Run.{most-steps, budget-number}
+use Rattle.judge.specs.Judge.{Room, Lent, JudgeAnswers}
+use Rattle.judge.specs.declared.JudgeAnswer.{JudgeAnswer}
+use Rattle.judge.specs.declared.JudgeAnswer.the-variants.{Refused, Finished}
 use Rattle.report.specs.Report.{countsLine}
 use Rattle.report.proofs.Lines.{counts-length}
 use Rattle.report.proofs.Reports.{answer-refused, answer-finished}

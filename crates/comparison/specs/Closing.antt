@@ -5,10 +5,10 @@ use Prim.Native.Nat.{ℕ, _≤_}
 use lib.ListN.{length}
 use Rattle.language.specs.Spelling.{digits}
 use Rattle.statement_writer.specs.Writing.{Put}
-use Rattle.rewrites.specs.Run.{RunAnswers}
-use Rattle.rewrites.specs.Demand.{RunsAlike}
-use Rattle.rewrites.specs.declared.RunAnswer.{RunAnswer}
-use Rattle.rewrites.specs.declared.RunAnswer.the-variants.{Refused, Ended, Spent}
+use Rattle.run.specs.Run.{RunAnswers}
+use Rattle.demand.specs.Demand.{RunsAlike}
+use Rattle.run.specs.declared.RunAnswer.{RunAnswer}
+use Rattle.run.specs.declared.RunAnswer.the-variants.{Refused, Ended, Spent}
 use Rattle.base.specs.Bytes.{bytes}
 use Rattle.outcome.specs.Outcome.{endedText}
 

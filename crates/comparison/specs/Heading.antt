@@ -5,8 +5,8 @@ use mathlib.Core.List.{List}
 use Prim.Native.Nat.{ℕ, _≤_, _<_}
 use lib.ListN.{length}
 use Rattle.statement_writer.specs.Writing.{Put}
-use Rattle.rewrites.specs.Run.{most-steps, budget-number}
-use Rattle.rewrites.specs.Judge.{text-bytes, Lent, JudgeFinished}
+use Rattle.run.specs.Run.{most-steps, budget-number}
+use Rattle.judge.specs.Judge.{text-bytes, Lent, JudgeFinished}
 use Rattle.report.specs.Report.{countsLine, Refuses}
 use Rattle.desk.specs.Refusals.{refusalText, refusal-room}
 use Rattle.blame.specs.Blame.{Blamed}

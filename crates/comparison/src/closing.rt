@@ -4,7 +4,7 @@ ghost use lib.ListN.{length};
 ghost use Rattle.statement_writer.specs.Writing.{Put};
 ghost use Rattle.comparison.specs.Closing.{answerLine, answer-room, closing-room, RunAlike, Closes};
 use machine::VALUES;
-use rewrites::RunAnswer;
+use run::RunAnswer;
 
 // `ended 9 steps 12` or `spent at 4`; a refused run has no line.
 fn answer(out: &mut [u8], at: usize, a: RunAnswer) -> usize
@@ -35,9 +35,9 @@ pub fn write(
     requires { ⌜ RunAlike (now program) (now new) values input budget ⌝ }
     ensures { λ r. ⌜ Closes (now (program .entry)) (now (new .entry)) values input budget (now (out .entry)) (now (out .exit)) r ⌝ }
 {
-    let one = rewrites::run(program, values, input, budget);
+    let one = run::run(program, values, input, budget);
     let a = one.answer;
-    let two = rewrites::run(new, values, input, budget);
+    let two = run::run(new, values, input, budget);
     let b = two.answer;
     let k1 = statement_writer::word(out, 0, b"given ");
     let k2 = answer(out, k1, a);

@@ -4,13 +4,13 @@ ghost use Prim.Native.Nat.{_≤_};
 ghost use lib.ListN.{length};
 ghost use Rattle.statement_writer.specs.Writing.{Put};
 ghost use Rattle.report.specs.Report.{countsLine};
-ghost use Rattle.rewrites.specs.Judge.{verdict-bytes};
+ghost use Rattle.judge.specs.Judge.{verdict-bytes};
 ghost use Rattle.comparison.specs.Heading.{Heads};
-use rewrites::BUDGET_NUMBER;
-use rewrites::JudgeAnswer;
-use rewrites::MOST_STEPS;
-use rewrites::TEXT_BYTES;
-use rewrites::VERDICT_BYTES;
+use judge::JudgeAnswer;
+use judge::TEXT_BYTES;
+use judge::VERDICT_BYTES;
+use run::BUDGET_NUMBER;
+use run::MOST_STEPS;
 
 // Every heading has room in this many bytes.
 const HEADING_ROOM: usize = desk::refusals::REFUSAL_ROOM;
@@ -54,7 +54,7 @@ pub fn write(program: &[u8], marks: &[u8], budget: u32, new: &mut [u8], out: &mu
         return Heading::Refused(desk::refusals::refusal(out, 0, BUDGET_NUMBER, 0));
     }
     let mut verdicts = verdict_buffer();
-    let answer = rewrites::judge(program, marks, &mut verdicts, new);
+    let answer = judge::judge(program, marks, &mut verdicts, new);
     match answer {
         JudgeAnswer::Refused(n) => {
             let line = blame::line_of_number(program, n);

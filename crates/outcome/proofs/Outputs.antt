@@ -8,9 +8,9 @@ use lib.ListN.{length}
 use Rattle.statement_writer.specs.Writing.{Put}
 use Rattle.blame.specs.Blame.{Blamed}
 use Rattle.machine.specs.declared.Answer.the-variants.{Ended, Spent}
-use Rattle.rewrites.specs.Run.{RunRefused, RunAnswers}
-use Rattle.rewrites.specs.declared.RunAnswer.{RunAnswer}
-use Rattle.rewrites.specs.declared.RunAnswer.the-variants as run
+use Rattle.run.specs.Run.{RunRefused, RunAnswers}
+use Rattle.run.specs.declared.RunAnswer.{RunAnswer}
+use Rattle.run.specs.declared.RunAnswer.the-variants as run
 use Rattle.desk.specs.Refusals.{refusalText}
 use Rattle.start.specs.Start.{StartRead}
 use Rattle.start.specs.declared.Answer as start

@@ -14,7 +14,7 @@ use Rattle.machine.specs.Answer.{Answers}
 use Rattle.machine.proofs.Unique as machine
 use Rattle.blame.specs.Blame.{Blamed}
 use Rattle.blame.proofs.Unique.{blames-unique}
-use Rattle.rewrites.specs.Run.{budget-number, RunRefused}
+use Rattle.run.specs.Run.{budget-number, RunRefused}
 use Rattle.desk.specs.Refusals.{refusalText}
 use Rattle.start.specs.Start.{StartRead}
 use Rattle.start.specs.declared.Answer.{Answer}

@@ -14,7 +14,7 @@ use Rattle.program.specs.Program as program
 use Rattle.blame.specs.Blame.{Blamed}
 use Rattle.machine.specs.declared.Answer.{Answer}
 use Rattle.machine.specs.declared.Answer.the-variants.{Ended, Spent}
-use Rattle.rewrites.specs.Run.{most-steps, RunRefused, RunFinished}
+use Rattle.run.specs.Run.{most-steps, RunRefused, RunFinished}
 use Rattle.desk.specs.Columns.{signedDigits}
 use Rattle.base.specs.Bytes.{bytes}
 use Rattle.desk.specs.Refusals.{refusalText}

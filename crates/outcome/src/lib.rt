@@ -5,7 +5,7 @@ ghost use Rattle.language.specs.Spelling.{variables};
 ghost use Rattle.statement_writer.specs.Writing.{Put};
 ghost use Rattle.outcome.specs.Outcome.{endedText, valueLines, spentText, startWords, startText, lineRange, value-room, outcome-room, Prints, RunPrints};
 use machine::VALUES;
-use rewrites::RunAnswer;
+use run::RunAnswer;
 use start::Answer;
 
 // A line `i31 = -2147483648` has room in this many bytes, and every outcome in this many.
@@ -69,7 +69,7 @@ fn run_outcome(
     requires { ⌜ outcome-room ≤ length (now out) ⌝ }
     ensures { λ r. ⌜ RunPrints (now (program .entry)) values input budget (now (out .entry)) (now (out .exit)) r ⌝ }
 {
-    let ran = rewrites::run(program, values, input, budget);
+    let ran = run::run(program, values, input, budget);
     let left = ran.values;
     let answer = ran.answer;
     match answer {

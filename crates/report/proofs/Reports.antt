@@ -18,9 +18,9 @@ use Rattle.marks.specs.declared.Mark.{Mark}
 use Rattle.marks.specs.declared.Refusal as marks-refusal
 use Rattle.marks.specs.declared.Refusal.the-variants as of-marks
 use Rattle.statement_writer.proofs.Puts.{put-front, put-within}
-use Rattle.rewrites.specs.Judge.{text-bytes, Room, Lent, JudgeRefused, JudgeFinished, JudgeAnswers}
-use Rattle.rewrites.specs.declared.JudgeAnswer.{JudgeAnswer}
-use Rattle.rewrites.specs.declared.JudgeAnswer.the-variants.{Refused, Finished}
+use Rattle.judge.specs.Judge.{text-bytes, Room, Lent, JudgeRefused, JudgeFinished, JudgeAnswers}
+use Rattle.judge.specs.declared.JudgeAnswer.{JudgeAnswer}
+use Rattle.judge.specs.declared.JudgeAnswer.the-variants.{Refused, Finished}
 use Rattle.report.specs.Report.{refusedLine, countsLine, verdictLines, reportText, Refuses, PrintsReport, PrintsRefusal, report-room, Printed, Reports}
 use Rattle.report.specs.declared.Reported.{Reported}
 use Rattle.report.specs.declared.Reported.the-variants as reported

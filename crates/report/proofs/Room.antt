@@ -18,7 +18,7 @@ use Rattle.marks.specs.Reading.{Taken, most}
 use Rattle.rewriting.specs.declared.Verdict.{Verdict}
 use Rattle.rewriting.specs.declared.Verdict.the-variants.{Accepted, Missing, Repeated, Unfit, Unmet}
 use Rattle.rewriting.specs.Verdicts.{number, Verdicts, acceptedCount}
-use Rattle.rewrites.specs.Judge.{text-bytes}
+use Rattle.judge.specs.Judge.{text-bytes}
 use Rattle.report.specs.Report.{countsLine, verdictLine, verdictLines, reportText, report-room}
 use Rattle.report.proofs.Lines.{counts-length, verdict-length}
 

@@ -15,7 +15,7 @@ use Rattle.marks.specs.Reading as marks
 use Rattle.marks.specs.declared.Mark.{Mark}
 use Rattle.marks.specs.declared.Refusal as marks-refusal
 use Rattle.rewriting.specs.Verdicts.{Verdicts, acceptedCount, Rewritten}
-use Rattle.rewrites.specs.Judge.{text-bytes}
+use Rattle.judge.specs.Judge.{text-bytes}
 use Rattle.report.specs.declared.Reported.{Reported}
 use Rattle.report.specs.declared.Reported.the-variants.{Written, Refused, NoRoom}
 

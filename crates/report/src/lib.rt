@@ -8,13 +8,13 @@ ghost use Rattle.marks.specs.Reading.{Taken};
 ghost use Rattle.marks.specs.declared.Mark.{Mark};
 ghost use Rattle.report.specs.Report.{refusedLine, countsLine, verdictLine, verdictLines, Reports};
 ghost use Rattle.report.specs.Words.{wordsLine, Words};
-ghost use Rattle.rewrites.specs.Judge.{verdict-bytes, text-bytes};
+ghost use Rattle.judge.specs.Judge.{verdict-bytes, text-bytes};
 ghost use Rattle.report.specs.Writing.{VerdictsFit, ReportFits};
 use desk::refusals::REFUSAL_ROOM;
+use judge::JudgeAnswer;
+use judge::TEXT_BYTES;
+use judge::VERDICT_BYTES;
 use marks::read::MarkRead;
-use rewrites::JudgeAnswer;
-use rewrites::TEXT_BYTES;
-use rewrites::VERDICT_BYTES;
 
 // Every output has room in this many bytes.
 pub const REPORT_ROOM: usize = 23 + marks::MOST * 14 + TEXT_BYTES;
@@ -123,7 +123,7 @@ pub fn report(given: &[u8], marks: &[u8], out: &mut [u8]) -> Reported
     }
     let mut verdicts = verdict_buffer();
     let mut text = text_buffer();
-    let answer = rewrites::judge(given, marks, &mut verdicts, &mut text);
+    let answer = judge::judge(given, marks, &mut verdicts, &mut text);
     match answer {
         JudgeAnswer::Refused(n) => Reported::Refused(write_refused(out, n)),
         JudgeAnswer::Finished(count, accepted, bytes) => {
@@ -152,7 +152,7 @@ pub fn words(given: &[u8], marks: &[u8], out: &mut [u8]) -> Worded
     }
     let mut verdicts = verdict_buffer();
     let mut text = text_buffer();
-    let answer = rewrites::judge(given, marks, &mut verdicts, &mut text);
+    let answer = judge::judge(given, marks, &mut verdicts, &mut text);
     match answer {
         JudgeAnswer::Refused(n) => {
             let line = blame::line_of_number(given, n);

@@ -3,15 +3,15 @@ use mathlib.Core.Path.{_≡_}
 use mathlib.Core.List.{List}
 use Prim.Native.Nat.{ℕ}
 use lib.IntN.{ℤ}
-use Rattle.rewrites.specs.Run.{RunAnswers}
-use Rattle.rewrites.specs.Judge.{Lent, JudgeAnswers}
-use Rattle.rewrites.specs.declared.JudgeAnswer.{JudgeAnswer}
-use Rattle.rewrites.specs.declared.JudgeAnswer.the-variants as judge
-use Rattle.rewrites.specs.Tabulate.{TabulateAnswers}
-use Rattle.rewrites.specs.declared.RunAnswer.{RunAnswer}
-use Rattle.rewrites.specs.declared.RunAnswer.the-variants.{Refused, Ended, Spent}
-use Rattle.rewrites.specs.declared.TabulateAnswer.{TabulateAnswer}
-use Rattle.rewrites.specs.declared.TabulateAnswer.the-variants as tabulate
+use Rattle.run.specs.Run.{RunAnswers}
+use Rattle.judge.specs.Judge.{Lent, JudgeAnswers}
+use Rattle.judge.specs.declared.JudgeAnswer.{JudgeAnswer}
+use Rattle.judge.specs.declared.JudgeAnswer.the-variants as judge
+use Rattle.tabulate.specs.Tabulate.{TabulateAnswers}
+use Rattle.run.specs.declared.RunAnswer.{RunAnswer}
+use Rattle.run.specs.declared.RunAnswer.the-variants.{Refused, Ended, Spent}
+use Rattle.tabulate.specs.declared.TabulateAnswer.{TabulateAnswer}
+use Rattle.tabulate.specs.declared.TabulateAnswer.the-variants as tabulate
 
 -- the places lent to `rewrites_run`
 pub record RunPlaces : Type 0 where

@@ -15,9 +15,9 @@ use Rattle.marks.proofs.Lists as marks
 use Rattle.rewriting.specs.Verdicts.{Judged, markAt, Rewritten}
 use Rattle.rewriting.specs.declared.Verdict.the-variants.{Accepted}
 use Rattle.rewriting.proofs.Accepted.{rewritten-unique}
-use Rattle.rewrites.specs.Run.{most-steps, RunAnswers}
-use Rattle.rewrites.specs.Judge.{Room, Lent, JudgeRefused, JudgeFinished}
-use Rattle.rewrites.specs.Demand.{Demand3}
+use Rattle.run.specs.Run.{most-steps, RunAnswers}
+use Rattle.judge.specs.Judge.{Room, Lent, JudgeRefused, JudgeFinished}
+use Rattle.demand.specs.Demand.{Demand3}
 use Rattle.start.specs.Start.{StartTaken}
 use Rattle.start.proofs.Unique.{start-unique}
 use Rattle.comparison.specs.Closing.{closingText, Closes}

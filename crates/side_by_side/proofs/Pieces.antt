@@ -7,7 +7,7 @@ use native.Mathlib.Omega.{arith}
 use lib.ListN.{length, take, length-take}
 use Rattle.statement_writer.specs.Writing.{Put}
 use Rattle.statement_writer.proofs.Puts.{put-front}
-use Rattle.rewrites.specs.Judge.{text-bytes}
+use Rattle.judge.specs.Judge.{text-bytes}
 use Rattle.trace.proofs.Series.{put-length}
 use Rattle.side_by_side.specs.SideBySide.{atStage, HandedAt, Handed, aheadAt, ahead, stays, Stays, Kept, Prints, side-by-side-room, Next}
 use Rattle.side_by_side.specs.declared.Stage.{Stage}

@@ -11,7 +11,7 @@ use Rattle.program.proofs.RoundTrip.{text-fits}
 use Rattle.machine.proofs.Runs.{stands-first}
 use Rattle.marks.proofs.Lists.{taken-unique}
 use Rattle.rewriting.specs.Verdicts.{acceptedCount}
-use Rattle.rewrites.specs.Judge.{Lent, JudgeFinished}
+use Rattle.judge.specs.Judge.{Lent, JudgeFinished}
 use Rattle.report.specs.Report.{countsLine}
 use Rattle.report.proofs.Reports.{new-within}
 use Rattle.desk.specs.Refusals.{refusalText}

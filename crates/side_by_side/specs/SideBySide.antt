@@ -8,10 +8,10 @@ use lib.ListN.{length, take, replicate}
 use Rattle.language.specs.Spelling.{variables}
 use Rattle.statement_writer.specs.Writing.{Put}
 use Rattle.rewriting.specs.Verdicts.{acceptedCount}
-use Rattle.rewrites.specs.Run.{most-steps, RunAnswers}
-use Rattle.rewrites.specs.Judge.{text-bytes}
-use Rattle.rewrites.specs.Demand.{RunsAlike, Demand3}
-use Rattle.rewrites.specs.declared.RunAnswer.{RunAnswer}
+use Rattle.run.specs.Run.{most-steps, RunAnswers}
+use Rattle.judge.specs.Judge.{text-bytes}
+use Rattle.demand.specs.Demand.{RunsAlike, Demand3}
+use Rattle.run.specs.declared.RunAnswer.{RunAnswer}
 use Rattle.report.specs.Report.{countsLine}
 use Rattle.desk.specs.Refusals.{refusalText}
 use Rattle.blame.specs.Blame.{Blamed}

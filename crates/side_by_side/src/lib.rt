@@ -7,17 +7,17 @@ ghost use lib.ListN.{length, take, replicate};
 ghost use Rattle.language.specs.Spelling.{variables};
 ghost use Rattle.program.specs.Program.{Taken, WellFormed};
 ghost use Rattle.program.specs.Reading.{statements};
-ghost use Rattle.rewrites.specs.Judge.{verdict-bytes, text-bytes};
+ghost use Rattle.judge.specs.Judge.{verdict-bytes, text-bytes};
 ghost use Rattle.outcome.specs.Outcome.{startText};
 ghost use Rattle.start.specs.Start.{StartRead, StartTaken};
 ghost use Rattle.side_by_side.specs.SideBySide.{side-by-side-room, atStage, stays, Prints, Next};
 use comparison::heading::Heading;
+use judge::JudgeAnswer;
+use judge::TEXT_BYTES;
+use judge::VERDICT_BYTES;
 use machine::VALUES;
 use program::Program;
-use rewrites::JudgeAnswer;
-use rewrites::MOST_STEPS;
-use rewrites::TEXT_BYTES;
-use rewrites::VERDICT_BYTES;
+use run::MOST_STEPS;
 use start::Answer;
 
 // Every piece has room in this many bytes.
@@ -261,7 +261,7 @@ fn closing(
         return stay(from);
     }
     let mut verdicts = verdict_buffer();
-    let answer = rewrites::judge(program, marks, &mut verdicts, new);
+    let answer = judge::judge(program, marks, &mut verdicts, new);
     match answer {
         JudgeAnswer::Refused(_) => stay(from),
         JudgeAnswer::Finished(_, _, bytes) => {

@@ -14,7 +14,7 @@ use Rattle.program.specs.Reading.{Held, statements}
 use Rattle.program.specs.declared.Program.{Program}
 use Rattle.program.proofs.Held.{length-held}
 use Rattle.machine.proofs.Runs.{stands-first}
-use Rattle.rewrites.specs.Run.{most-steps}
+use Rattle.run.specs.Run.{most-steps}
 use Rattle.trace.specs.Trace.{stepLines}
 use Rattle.trace.specs.Stepping.{Left, Traced}
 use Rattle.trace.specs.declared.Progress.{Progress}

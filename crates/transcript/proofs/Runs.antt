@@ -11,7 +11,7 @@ use Rattle.program.specs.declared.Program.{Program}
 use Rattle.program.specs.declared.Answer as program-answer
 use Rattle.program.specs.declared.Answer.the-variants as read
 use Rattle.program.proofs.Unique.{taken-refused}
-use Rattle.rewrites.specs.Run.{most-steps}
+use Rattle.run.specs.Run.{most-steps}
 use Rattle.start.specs.Start.{StartRead}
 use Rattle.start.specs.declared.Answer.{Answer}
 use Rattle.start.specs.declared.Answer.the-variants.{Few, Many, Line}

@@ -8,7 +8,7 @@ use lib.ListN.{length, replicate}
 use Rattle.language.specs.Spelling.{variables}
 use Rattle.statement_writer.specs.Writing.{Put}
 use Rattle.language.specs.declared.Statement.{Statement}
-use Rattle.rewrites.specs.Run.{most-steps}
+use Rattle.run.specs.Run.{most-steps}
 use Rattle.trace.specs.Trace.{stepLines}
 use Rattle.trace.specs.Stepping.{line-room, Left}
 use Rattle.outcome.specs.Outcome.{Runs, Result, Refusal}

@@ -145,7 +145,7 @@ fn run_of(program: &[u8], start: &[u8]) -> Run
     let p = reading.program;
     let taken = start_taken(first) & program_taken(second);
     Run {
-        taken: taken & (read.budget <= rewrites::MOST_STEPS),
+        taken: taken & (read.budget <= run::MOST_STEPS),
         program: p,
         input: read.input,
         budget: read.budget,

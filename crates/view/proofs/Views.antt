@@ -23,9 +23,9 @@ use Rattle.condition_reader.specs.declared.Answer as condition-answer
 use Rattle.condition.proofs.Parts.{parts-few}
 use Rattle.condition_reader.proofs.Answers.{read-back}
 use Rattle.table.specs.Table.{part-words, partAt}
-use Rattle.rewrites.specs.Tabulate.{table-words, TabulateRefused, TabulateFilled, TabulateAnswers}
-use Rattle.rewrites.specs.declared.TabulateAnswer.{TabulateAnswer}
-use Rattle.rewrites.specs.declared.TabulateAnswer.the-variants.{Refused, Filled}
+use Rattle.tabulate.specs.Tabulate.{table-words, TabulateRefused, TabulateFilled, TabulateAnswers}
+use Rattle.tabulate.specs.declared.TabulateAnswer.{TabulateAnswer}
+use Rattle.tabulate.specs.declared.TabulateAnswer.the-variants.{Refused, Filled}
 use Rattle.view.specs.View.{viewText, Refuses, PrintsView, PrintsRefusal, view-room, Printed, Views}
 use Rattle.view.specs.Writing.{truthIn, ViewFits, RefusalPut}
 use Rattle.view.specs.declared.Viewed.{Viewed}

@@ -18,7 +18,7 @@ use Rattle.atom_reader.specs.Parsing.{parseAtom}
 use Rattle.condition.specs.Texts as condition
 use Rattle.condition.specs.Words as condition-words
 use Rattle.condition.specs.declared.Atom.{Atom}
-use Rattle.rewrites.specs.Tabulate.{table-words}
+use Rattle.tabulate.specs.Tabulate.{table-words}
 use Rattle.blame.specs.Blame.{Blames}
 use Rattle.desk.specs.Refusals.{refusalText}
 use Rattle.view.specs.View.{partLines, columns, headRow, row as rowText, rows, tens, units, mark, viewText}

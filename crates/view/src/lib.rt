@@ -7,7 +7,7 @@ ghost use Rattle.statement_writer.specs.Writing.{Put};
 ghost use Rattle.program.specs.Reading.{statements};
 ghost use Rattle.condition.specs.Condition.{Condition};
 ghost use Rattle.condition.specs.Texts.{Taken, most-parts, most-bytes};
-ghost use Rattle.rewrites.specs.Tabulate.{table-words};
+ghost use Rattle.tabulate.specs.Tabulate.{table-words};
 ghost use Rattle.desk.specs.Refusals.{refusal-room};
 ghost use Rattle.view.specs.View.{pick, partLine, partLines, columns, headRow, row as rowText, rows, lastLine, viewText, Views};
 ghost use Rattle.view.specs.Writing.{truthIn, byteIn, Placed, Tabled, ColumnsFit, HeadFits, RowFits, RowsFit, AtomEnds, PartEnds, PartsFit, ViewFits, RefusalPut};
@@ -19,8 +19,8 @@ use condition::MOST_BYTES;
 use condition::MOST_PARTS;
 use language::Statement;
 use program::Program;
-use rewrites::TABLE_WORDS;
-use rewrites::TabulateAnswer;
+use tabulate::TABLE_WORDS;
+use tabulate::TabulateAnswer;
 
 // The columns of a row before its marks.
 const MARGIN: usize = 37;
@@ -249,7 +249,7 @@ pub fn view(program: &[u8], condition: &[u8], out: &mut [u8]) -> Viewed
         return Viewed::NoRoom;
     }
     let mut table = table_buffer();
-    let answer = rewrites::tabulate(program, condition, &mut table);
+    let answer = tabulate::tabulate(program, condition, &mut table);
     match answer {
         TabulateAnswer::Refused(n) => Viewed::Refused(write_refusal(out, program, n)),
         TabulateAnswer::Filled(n, satisfied, first) => {

@@ -1,7 +1,7 @@
 -- `report` meets its contract: each answer of `judge` is printed. Assumes nothing.
 use Rattle.report.proofs.Reports.{answer-refused, answer-finished, refused-room, refused-printed, new-within, report-fits, finished-printed}
 use Rattle.report.specs.Report.{Refuses}
-use Rattle.rewrites.specs.Judge.{Lent, JudgeFinished}
+use Rattle.judge.specs.Judge.{Lent, JudgeFinished}
 use lib.Seq.{length-take-le}
 use native.Mathlib.Omega.{arith}
 use mathlib.Core.Path.{sym}

@@ -3,8 +3,8 @@ use mathlib.Core.Path.{refl}
 use mathlib.Core.Logic.{inl, inr}
 use Prim.Native.Nat.{_<_}
 use native.Mathlib.Omega.{arith}
-use Rattle.rewrites.specs.Run.{budget-number}
-use Rattle.rewrites.specs.Judge.{Lent}
+use Rattle.run.specs.Run.{budget-number}
+use Rattle.judge.specs.Judge.{Lent}
 use Rattle.blame.proofs.Blames.{blamed}
 use Rattle.desk.proofs.Rooms.{refusal-most}
 use Rattle.comparison.proofs.Headings.{counts-most, budget-refused, head-refused, head-judged}

@@ -1,0 +1,49 @@
+-- Demand 3, one claim about a program, its whole list of marks, refused marks among them, and its whole runs: for a program text and a
+-- marks text that are taken, the rewritten program is the given one with exactly the accepted marks made, is itself taken, and runs as
+-- the given one does, after every number of steps and under every budget. Document 01, "What a contract says here".
+use mathlib.Core.Path.{_≡_}
+use mathlib.Core.List.{List}
+use mathlib.Core.Logic.{_↔_}
+use Prim.Native.Nat.{ℕ, _≤_, _<_}
+use lib.ListN.{length, getD, take}
+use Rattle.language.specs.Spelling.{variables}
+use Rattle.language.specs.declared.Statement.{Statement}
+use Rattle.program.specs.Program.{Taken}
+use Rattle.machine.specs.Machine.{after}
+use Rattle.marks.specs.Reading as marks
+use Rattle.marks.specs.declared.Mark.{Mark}
+use Rattle.rewriting.specs.Verdicts.{Judged, markAt, Rewritten}
+use Rattle.rewriting.specs.declared.Verdict.the-variants.{Accepted}
+use Rattle.lockstep.specs.Lockstep.{Together}
+use Rattle.run.specs.Run.{most-steps, RunAnswers}
+use Rattle.run.specs.declared.RunAnswer.{RunAnswer}
+use Rattle.run.specs.declared.RunAnswer.the-variants.{Refused, Ended, Spent}
+
+-- "the two runs answer the same value and the same steps, or 'spent' at the same statement; the 32 values told with 'spent' may differ"
+abbrev pub RunsAlike : RunAnswer → RunAnswer → Type 0
+RunsAlike (Refused n) b = ⊥
+RunsAlike (Ended v k) (Refused n) = ⊥
+RunsAlike (Ended v k) (Ended w l) = (v ≡ w) × (k ≡ l)
+RunsAlike (Ended v k) (Spent n) = ⊥
+RunsAlike (Spent n) (Refused m) = ⊥
+RunsAlike (Spent n) (Ended w l) = ⊥
+RunsAlike (Spent n) (Spent m) = n ≡ m
+
+-- t is the given program's text, u that of the marks, vs are the verdict bytes and w is the new text
+pub record Demand3 (t u vs w : List ℕ) : Type 0 where
+  pub P : List Statement
+  pub ms : List Mark
+  pub Q : List Statement
+  -- "A program is taken where none of 2 to 5 applies to its text, a list of marks where neither 9 nor 10 does."
+  pub given : Taken t P
+  pub listed : marks.Taken u ms
+  -- "A mark is accepted where its verdict byte is 0, and that byte is 0 exactly where none of 11 to 14 applies"
+  pub accepted : (j : ℕ) → j < length ms → (getD vs j 0 ≡ 0) ↔ Judged P (take j ms) (markAt ms j) Accepted
+  -- "The rewritten program is the new text .., and is itself a program that is taken."
+  pub rewritten : Rewritten P ms vs Q
+  pub taken : Taken w Q
+  -- "After k steps, for every k from 0 on and beyond any budget, a run either stands before one statement or has ended with its value"
+  pub together : (start : List ℕ) → length start ≡ variables → (input k : ℕ) → Together (after P start input k) (after Q start input k)
+  -- "Under every budget that isn't refused, the two runs answer the same value and the same steps, or 'spent' at the same statement"
+  pub alike : (start : List ℕ) → length start ≡ variables → (input budget : ℕ) → budget ≤ most-steps → (a b : RunAnswer) (ws us : List ℕ)
+      → RunAnswers t start input budget a ws → RunAnswers w start input budget b us → RunsAlike a b

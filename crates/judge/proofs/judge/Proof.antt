@@ -1,0 +1,93 @@
+-- `judge` meets its contract. Assumes nothing.
+use mathlib.Core.Path.{_≡_, refl}
+use mathlib.Core.List.{List}
+use mathlib.Core.Logic.{inl, inr}
+use native.Mathlib.Omega.{arith}
+use lib.ListN.{length}
+use Rattle.program.specs.Program.{Taken}
+use Rattle.program.specs.Reading.{statements, Held}
+use Rattle.marks.specs.Reading as marks
+use Rattle.marks.specs.declared.Mark.{Mark}
+use Rattle.calls.proofs.Known.{known-program}
+use Rattle.judge.proofs.Judges.{some-judged, text-short, finished}
+use borrow.Author.Needs.{needs}
+use Rattle.judge.proofs.judge.Statement.{statement}
+use Rattle.judge.proofs.judge.Tie as tie
+
+-- the text that was read is taken
+program-taken : (c : tie.After-enum-told) → Taken (c .before .before .before .before .before .before .before .before .before .args .program .now) (statements (c .before .before .read .result .program)) × Held (c .before .before .read .result .program)
+program-taken c = rw (c .enum-told .given .1) at (c .before .before .read .ensures)
+
+-- and the list of marks
+marks-taken : (c : tie.After-checked2) → (ms : List Mark) × marks.Taken (c .before .before .before .before .before .before .before .before .before .before .before .before .before .args .marks .now) ms × (c .checked2 .given .0 .0 ≡ length ms)
+marks-taken c = rw (c .checked2 .given .1) at (c .before .before .check .ensures)
+
+returns : tie.Need-returns
+returns c = (inl (inl (c .if1 .taken), refl), refl)
+
+returns-2 : tie.Need-returns-2
+returns-2 c = (inl (inr (c .if2 .taken), refl), refl)
+
+returns-3 : tie.Need-returns-3
+returns-3 c =
+    let told = c .before .before in
+    let tested = told .before .before .before in
+    (inr (inl ((tested .before .if1 .left, tested .if2 .left), told .answer .given .0 .0, (rw (told .answer .given .1) at (told .before .before .read .ensures)) .0, c .number-of .ensures)), refl)
+
+find-requires : tie.Need-find-requires
+find-requires c κs = let p = program-taken (c .before .before .before .before .before .before .before) in (p .1, (p .0 .program, c .before .blank .ensures))
+
+of-requires : tie.Need-of-requires
+of-requires c κs = let p = program-taken (c .before .before .before .before .before .before .before .before .before .before .before) in (p .1, (p .0 .program, c .before .blank2 .ensures .size))
+
+judge-requires : tie.Need-judge-requires
+judge-requires c κs = let p = program-taken (c .before .before .before .before .before .before .before .before .before .before .before .before .before .before .before .before) in let m = marks-taken (c .before .before .before .before .before .before .before .before .before .before .before .before) in ((p .1, known-program {flow = c .before .before .before .before .of .last .1 .0} (p .0) (p .1) (c .before .before .before .before .before .before .before .before .find .ensures) (c .before .before .before .before .of .ensures) (omega (arith, c .before .before .before .before .of .kept, c .before .before .before .before .before .before .blank2 .ensures .size))), (record { ms = m .0; taken = m .1 }, c .before .before .before .before .before .before .before .before .before .before .before .before .before .before .before .before .before .before .before .before .if1 .left))
+
+rewrite-requires : tie.Need-rewrite-requires
+rewrite-requires c κs = let p = program-taken (c .before .before .before .before .before .before .before .before .before .before .before .before .before .before .before .before .before .before .before .before) in let m = marks-taken (c .before .before .before .before .before .before .before .before .before .before .before .before .before .before .before .before) in (p .1, some-judged (p .0) (m .1) (c .before .before .before .judge .ensures (m .0) (m .1)) (c .before .before .before .before .before .before .before .before .before .before .before .before .before .before .before .before .before .before .before .before .before .before .before .before .if1 .left))
+
+write-requires : tie.Need-write-requires
+write-requires c κs = let p = program-taken (c .before .before .before .before .before .before .before .before .before .before .before .before .before .before .before .before .before .before .before .before .before .before .before) in let m = marks-taken (c .before .before .before .before .before .before .before .before .before .before .before .before .before .before .before .before .before .before .before) in let w = c .before .before .rewrite .ensures (m .0) (m .1) in (w .held, omega (arith, c .before .before .before .before .before .before .before .before .before .before .before .before .before .before .before .before .before .before .before .before .before .before .before .before .before .before .if2 .left, text-short (p .0) (m .1) (c .before .before .before .before .before .before .judge .ensures (m .0) (m .1)) w))
+
+cast-bytes : tie.Need-cast-t39
+cast-bytes c = let p = program-taken (c .before .before .before .before .before .before .before .before .before .before .before .before .before .before .before .before .before .before .before .before .before .before .before .before .before .before) in let m = marks-taken (c .before .before .before .before .before .before .before .before .before .before .before .before .before .before .before .before .before .before .before .before .before .before) in omega (arith, c .before .before .write .ensures .after, text-short (p .0) (m .1) (c .before .before .before .before .before .before .before .before .before .judge .ensures (m .0) (m .1)) (c .before .before .before .before .before .rewrite .ensures (m .0) (m .1)))
+
+returns-4 : tie.Need-returns-4
+returns-4 c = (inr (inr ((c .before .before .before .before .before .before .before .before .before .before .if1 .left, c .before .before .before .before .before .before .before .before .before .if2 .left), statements (c .before .before .before .before .before .before .before .before .read .result .program), program-taken (c .before .before .before .before .before .before) .0, c .before .before .checked .given .0 .0, rw (c .before .before .checked .given .1) at (c .before .before .before .before .check .ensures), c .number-of2 .ensures)), refl)
+
+returns-5 : tie.Need-returns-5
+returns-5 c =
+    let p = program-taken (c .before .before .before .before .before .before .before .before .before .before .before .before .before .before .before .before .before .before .before .before .before .before .before .before .before .before) in let m = marks-taken (c .before .before .before .before .before .before .before .before .before .before .before .before .before .before .before .before .before .before .before .before .before .before) in
+    finished (p .0) (m .1) (c .before .before .before .before .before .before .before .before .before .judge .ensures (m .0) (m .1)) (c .before .before .before .before .before .rewrite .ensures (m .0) (m .1)) (c .before .before .before .before .before .before .before .before .before .before .before .before .before .before .before .before .before .before .before .before .before .before .before .before .before .before .before .before .before .before .if1 .left, c .before .before .before .before .before .before .before .before .before .before .before .before .before .before .before .before .before .before .before .before .before .before .before .before .before .before .before .before .before .if2 .left) (m .2) (c .before .before .write .ensures)
+
+pub judge-spec : {M : Type 1} → statement M
+judge-spec =
+    tie.close
+    (tie.spec
+    returns
+    returns-2
+    (λ c κs. search needs)
+    (λ c. search needs)
+    (λ c κs. search needs)
+    returns-3
+    (λ c. search needs)
+    (λ c κs. search needs)
+    (λ c. search needs)
+    (λ c κs. search needs)
+    (λ c. search needs)
+    (λ c κs. search needs)
+    (λ c. search needs)
+    find-requires
+    (λ c κs. search needs)
+    (λ c. search needs)
+    of-requires
+    (λ c. search needs)
+    (λ c. search needs)
+    judge-requires
+    rewrite-requires
+    write-requires
+    cast-bytes
+    returns-4
+    (λ c. search needs)
+    (λ c. search needs)
+    returns-5)

@@ -1,0 +1,25 @@
+-- `rewrites_judge` meets its contract: the answer of `judge`, told case by case. Assumes nothing.
+use mathlib.Core.Path.{refl}
+use borrow.Author.Needs.{needs}
+use Rattle.rewrites.proofs.rewrites_judge.Statement.{statement}
+use Rattle.rewrites.proofs.rewrites_judge.Tie as tie
+
+returns : tie.Need-returns
+returns c = record { answer = c .before .before .before .before .before .before .before .judge .result; answers = c .before .before .before .before .before .before .before .judge .ensures; returned = rw (c .before .answer .given .1) (refl, refl) }
+
+returns-2 : tie.Need-returns-2
+returns-2 c = record { answer = c .before .before .before .before .before .before .before .judge .result; answers = c .before .before .before .before .before .before .before .judge .ensures; returned = rw (c .before .answer2 .given .1) (refl, refl) }
+
+pub rewrites-judge-spec : {M : Type 1} → statement M
+rewrites-judge-spec =
+    tie.close
+    (tie.spec
+    (λ c κs. search needs)
+    (λ c. search needs)
+    (λ c. search needs)
+    (λ c. search needs)
+    (λ c. search needs)
+    returns
+    (λ c. search needs)
+    (λ c. search needs)
+    returns-2)

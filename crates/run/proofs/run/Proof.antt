@@ -1,0 +1,62 @@
+-- `run` meets its contract. Assumes nothing.
+use mathlib.Core.Path.{refl}
+use mathlib.Core.Logic.{inl, inr}
+use mir.Syntax.{w32}
+use mir.Facts.{toZ-ofZ}
+use borrow.Author.Needs.{needs, sfits-of}
+use Rattle.program.specs.Program.{Taken}
+use Rattle.program.specs.Reading.{statements}
+use Rattle.run.proofs.run.Statement.{statement}
+use Rattle.run.proofs.run.Tie as tie
+
+returns : tie.Need-returns
+returns c = rw (c .run-refused .ensures .0, c .run-refused .ensures .1) (inl (c .before .if1 .taken, refl), refl)
+
+returns-2 : tie.Need-returns-2
+returns-2 c =
+    let told = c .before .before .before in
+    rw (c .run-refused2 .ensures .0, c .run-refused2 .ensures .1)
+    (inr (told .before .before .before .if1 .left, told .answer .given .0 .0, (rw (told .answer .given .1) at (told .before .before .read .ensures)) .0, c .before .number-of .ensures), refl)
+
+-- the text that was read is taken
+taken : (c : tie.After-enum-told) → Taken (c .before .before .before .before .before .args .program .now) (statements (c .before .before .read .result .program))
+taken c = (rw (c .enum-told .given .1) at (c .before .before .read .ensures)) .0
+
+run-requires : tie.Need-run-requires
+run-requires c κs = taken (c .before) .program
+
+returns-3 : tie.Need-returns-3
+returns-3 c =
+    record {
+      P = statements (c .before .before .before .before .before .before .before .before .read .result .program);
+      allowed = c .before .before .before .before .before .before .before .before .before .if1 .left;
+      taken = taken (c .before .before .before .before .before .before);
+      answers = rw (toZ-ofZ {w = w32} (sfits-of (c .known-told2 .given .0 .1))) (rw (c .before .told .given .1) at (c .before .before .before .before .run .ensures));
+    }
+
+returns-4 : tie.Need-returns-4
+returns-4 c =
+    record {
+      P = statements (c .before .before .before .before .before .before .before .before .read .result .program);
+      allowed = c .before .before .before .before .before .before .before .before .before .if1 .left;
+      taken = taken (c .before .before .before .before .before .before);
+      answers = rw (c .before .told2 .given .1) at (c .before .before .before .before .run .ensures);
+    }
+
+pub run-spec : {M : Type 1} → statement M
+run-spec =
+    tie.close
+    (tie.spec
+    (λ c κs. search needs)
+    returns
+    (λ c κs. search needs)
+    (λ c. search needs)
+    (λ c κs. search needs)
+    (λ c κs. search needs)
+    returns-2
+    (λ c. search needs)
+    run-requires
+    (λ c. search needs)
+    (λ c. search needs)
+    returns-3
+    returns-4)

@@ -1,0 +1,59 @@
+// A call: runs the program that a text spells, from given values, under a budget. It takes any bytes, and has no `requires`.
+ghost use mathlib.Core.Path.{_≡_};
+ghost use Rattle.run.specs.Run.{RunAnswers};
+use machine::VALUES;
+
+// A run takes at most this many steps.
+pub const MOST_STEPS: u32 = 1000000;
+// The refusal of a larger budget.
+pub const BUDGET_NUMBER: u8 = 15;
+
+// Refused: document 01's number. Ended: the value, signed, and the steps. Spent: the number of the statement that would be next.
+pub enum RunAnswer {
+    Refused(u8),
+    Ended(i32, u32),
+    Spent(u32),
+}
+
+// The values are those after the last step where the answer is `Spent`, else the starting ones.
+pub struct Ran {
+    pub answer: RunAnswer,
+    pub values: [u32; VALUES],
+}
+
+fn run_refused(number: u8, values: [u32; VALUES]) -> Ran
+    ensures { λ r. ⌜ (r .answer ≡ RunAnswer.Refused number) × (r .values ≡ values) ⌝ }
+{
+    Ran {
+        answer: RunAnswer::Refused(number),
+        values: values,
+    }
+}
+
+// Runs the program that the text spells, from the values and the input, for at most `budget` steps.
+pub fn run(program: &[u8], values: [u32; VALUES], input: u32, budget: u32) -> Ran
+    ensures { λ r. ⌜ RunAnswers (now (program .entry)) values input budget (r .answer) (r .values) ⌝ }
+{
+    if MOST_STEPS < budget {
+        return run_refused(BUDGET_NUMBER, values);
+    }
+    let reading = program::read(program);
+    let answer = reading.answer;
+    if let program::Answer::Refused(refusal) = answer {
+        return run_refused(program::number_of(refusal), values);
+    }
+    let read = reading.program;
+    let outcome = machine::run(read, values, input, budget);
+    let left = outcome.values;
+    let told = outcome.answer;
+    match told {
+        machine::Answer::Ended(value, steps) => Ran {
+            answer: RunAnswer::Ended(value, steps),
+            values: left,
+        },
+        machine::Answer::Spent(statement) => Ran {
+            answer: RunAnswer::Spent(statement),
+            values: left,
+        },
+    }
+}

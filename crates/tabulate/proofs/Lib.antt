@@ -1,0 +1,2 @@
+pub mod Tabulates
+pub mod Unique
