@@ -28,7 +28,7 @@ use Rattle.base.proofs.Bools.{split, clash, or-case, or-left, or-right}
 use Rattle.labelling.specs.Labels.{Labelled}
 use Rattle.labelling.proofs.Labels.{label-skip, label-join}
 use Rattle.truth.specs.Truth.{InOperand, In, Defines, Uses}
-use Rattle.atoms.specs.Codes.{statementCode}
+use Rattle.codes.specs.Codes.{statementCode}
 use Rattle.atoms.specs.Facts.{row-words, defined-rows, used-rows, code-rows, fact-rows, codeWords, FactsBelow, notedOperand, notedExpression, noted, Marked}
 use Rattle.atoms.proofs.Rows.{label-same}
 

@@ -1,4 +1,3 @@
-pub mod Codes
-pub mod Truths
+pub mod Words
 pub mod Rows
 pub mod Found

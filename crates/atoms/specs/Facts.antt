@@ -17,8 +17,8 @@ use Rattle.program.specs.Program.{at, most}
 use Rattle.bits.specs.Row.{member}
 use Rattle.labelling.specs.Labels.{Labelled}
 use Rattle.truth.specs.Truth.{Defines, Uses}
-use Rattle.atoms.specs.Codes.{statementCode}
-use Rattle.atoms.specs.declared.Code.{Code}
+use Rattle.codes.specs.Codes.{statementCode}
+use Rattle.codes.specs.declared.Code.{Code}
 
 -- the words of a row, the code's WORDS
 abbrev pub row-words : ℕ

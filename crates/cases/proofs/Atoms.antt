@@ -17,9 +17,9 @@ use Rattle.base.proofs.Bools.{clash, and-left, and-right, and-both}
 use Rattle.condition.specs.declared.Atom.{Atom}
 use Rattle.condition.specs.declared.Atom.the-variants.{True, False, Entry, Exit, Node, Stmt, Def, Use, Trans}
 use Rattle.truth.specs.Truth.{InOperand, In, Defines, Uses, HoldsAt}
-use Rattle.atoms.specs.Codes.{statementCode}
-use Rattle.atoms.proofs.Codes.{code-unique}
-use Rattle.atoms.proofs.Truths.{decides-none}
+use Rattle.codes.specs.Codes.{statementCode}
+use Rattle.codes.proofs.Codes.{code-unique}
+use Rattle.codes.proofs.Truths.{decides-none}
 
 abbrev in-operand : ℕ → Operand → Bool
 in-operand x (Variable y) = eqb x y

@@ -33,8 +33,8 @@ pub fn judge(program: &[u8], marks: &[u8], verdicts: &mut [u8], text: &mut [u8])
     match checked {
         marks::Checked::Refused(refusal) => JudgeAnswer::Refused(marks::number_of(refusal)),
         marks::Checked::Taken(count) => {
-            let mut facts = atoms::facts::blank();
-            atoms::facts::find(p, &mut facts);
+            let mut facts = atoms::blank();
+            atoms::find(p, &mut facts);
             let mut flow = flow::blank();
             flow::of(p, &mut flow);
             verdicts::judge(marks, p, &facts, &flow, verdicts);

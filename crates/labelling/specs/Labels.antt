@@ -4,8 +4,9 @@ use mathlib.Core.List.{List}
 use mathlib.Core.Bool.{Bool, true, false}
 use mathlib.Core.Logic.{_↔_}
 use Prim.Native.Nat.{ℕ, _*_, _≤_, _<_}
+use lib.Dec.{ltb}
 use lib.ListN.{length}
-use Rattle.bits.specs.Row.{words}
+use Rattle.bits.specs.Row.{words, member}
 use Rattle.ctl.specs.Paths.{Next, Finally, Globally, Until, Weak}
 use Rattle.labelling.specs.declared.Operator.{Operator}
 use Rattle.labelling.specs.declared.Operator.the-variants as op
@@ -29,3 +30,9 @@ pub record Rows (n : ℕ) (p q out : List ℕ) : Type 0 where
   pub short : length out ≤ words
   pub of-p : length p ≡ length out
   pub of-q : length q ≡ length out
+
+-- a proof device: a row of all places below n, and one to use, as long as the answer's
+pub record Spare (n : ℕ) (places through out : List ℕ) : Type 0 where
+  pub of-places : length places ≡ length out
+  pub of-through : length through ≡ length out
+  pub whole : (s : ℕ) → member places s ≡ ltb s n

@@ -1,6 +1,4 @@
 // The places of a finite graph at which a path operator holds of some path, or of all paths.
-mod worklist;
-
 ghost use mathlib.Core.Path.{_≡_};
 ghost use Prim.Native.Nat.{_*_, _≤_};
 ghost use lib.ListN.{length};
@@ -9,8 +7,7 @@ ghost use Rattle.ctl.specs.Paths.{Paths, quant, So};
 ghost use Rattle.ctl.specs.Tables.{Onto, Grown};
 ghost use Rattle.graph.specs.Lists.{step, Linked};
 ghost use Rattle.graph.specs.Graphs.{places, entries, edgesAt, headOf, stepOf, DirectionsAt};
-ghost use Rattle.labelling.specs.Labels.{Said, Labelled, Rows};
-ghost use Rattle.labelling.specs.Worklist.{Spare};
+ghost use Rattle.labelling.specs.Labels.{Said, Labelled, Rows, Spare};
 use graph::EDGES;
 use graph::ENTRIES;
 use graph::PLACES;

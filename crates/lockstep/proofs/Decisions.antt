@@ -8,8 +8,8 @@ use Rattle.language.specs.declared.Operand.the-variants.{Variable, Constant}
 use Rattle.language.specs.declared.Statement.{Statement}
 use Rattle.language.specs.declared.Statement.the-variants.{Read, Write, Assign, Branch, Skip}
 use Rattle.truth.specs.Truth.{InOperand, Defines}
-use Rattle.atoms.specs.Codes.{statementCode}
-use Rattle.atoms.proofs.Codes.{code-unique}
+use Rattle.codes.specs.Codes.{statementCode}
+use Rattle.codes.proofs.Codes.{code-unique}
 
 pub operand-decided : (x : ℕ) (a : Operand) → Dec (InOperand x a)
 operand-decided x (Variable y) = ℕ-discrete x y

@@ -87,9 +87,9 @@ pub fn fits(m: Mark, i: Statement) -> bool
     ensures { λ r. ⌜ Decides r (Fits m i) ⌝ }
 {
     match m {
-        Mark::Rm(_, x, e) => atoms::same_statement(i, Statement::Assign(x, e)),
+        Mark::Rm(_, x, e) => codes::same_statement(i, Statement::Assign(x, e)),
         Mark::Rpl(_, x, a) => {
-            if !atoms::shows(i, x) {
+            if !codes::shows(i, x) {
                 return false;
             }
             takes(i, a)
@@ -142,7 +142,7 @@ fn replace_variable(x: u8, a: Operand, y: u8) -> u8
 fn replace(x: u8, a: Operand, i: Statement) -> Statement
     ensures { λ r. ⌜ r ≡ replaceStatement x a i ⌝ }
 {
-    let z = replace_variable(x, a, atoms::variable_of(i));
+    let z = replace_variable(x, a, codes::variable_of(i));
     match i {
         Statement::Read(y) => Statement::Read(y),
         Statement::Write(_) => Statement::Write(z),

@@ -102,7 +102,7 @@ fn operator_row(rule: Rule, n: usize, flow: &[u16], p: &[u64], q: &[u64], out: &
 {
     match rule {
         Rule::Negation => {
-            let mut places = atoms::facts::blank_row();
+            let mut places = atoms::blank_row();
             bits::below(n, &mut places);
             bits::difference(&places, p, out);
         }
@@ -119,7 +119,7 @@ pub fn row_of(table: &[u64], k: usize) -> [u64; WORDS]
     ensures { λ r. ⌜ r ≡ row (now (table .entry)) k ⌝ }
 {
     let at = WORDS * k;
-    let mut words = atoms::facts::blank_row();
+    let mut words = atoms::blank_row();
     let mut i: usize = 0;
     while i < WORDS {
         words[i] = table[at + i];
@@ -161,7 +161,7 @@ fn fill_atom(
     };
     let at = WORDS * k;
     let end = at + WORDS;
-    atoms::facts::row(a, n, facts, &mut table[at..end]);
+    atoms::row(a, n, facts, &mut table[at..end]);
 }
 
 // The part of the left operand of part k's operator; of a unary operator it is the part before.

@@ -33,8 +33,8 @@ pub fn tabulate(program: &[u8], condition: &[u8], table: &mut [u64]) -> Tabulate
         condition_reader::Answer::Taken(parts) => {
             let words = conditions.words;
             let count = parts as usize;
-            let mut facts = atoms::facts::blank();
-            atoms::facts::find(p, &mut facts);
+            let mut facts = atoms::blank();
+            atoms::find(p, &mut facts);
             let mut flow = flow::blank();
             flow::of(p, &mut flow);
             table::fill(condition, words, count, p.count, &facts, &flow, table);

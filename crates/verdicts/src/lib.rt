@@ -53,7 +53,7 @@ fn row_of(text: &[u8], n: usize, facts: &[[u64; WORDS]], flow: &[u16]) -> [u64; 
     let reading = condition_reader::read(text);
     let answer = reading.answer;
     let condition_reader::Answer::Taken(parts) = answer else {
-        return atoms::facts::blank_row();
+        return atoms::blank_row();
     };
     let words = reading.words;
     let count = parts as usize;
@@ -205,7 +205,7 @@ pub fn judge(marks: &[u8], p: Program, facts: &[[u64; WORDS]], flow: &[u16], ver
     ensures { λ _. ⌜ ((ms : List MarkOf) → Taken (now (marks .entry)) ms → VerdictsOf (statements p) ms (now (verdicts .entry)) (now (verdicts .exit))) ⌝ }
 {
     let n = p.count;
-    let mut named = atoms::facts::blank_row();
+    let mut named = atoms::blank_row();
     bits::clear(&mut named);
     let mut keys = blank_keys();
     let mut rows = blank_memory();

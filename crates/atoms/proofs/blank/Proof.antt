@@ -1,0 +1,11 @@
+-- `atoms::blank` meets its contract: the rows are zeros. Assumes nothing.
+use Rattle.bits.proofs.Rows.{zero-rows}
+use Rattle.atoms.specs.Facts.{row-words, fact-rows}
+use Rattle.atoms.proofs.blank.Statement.{statement}
+use Rattle.atoms.proofs.blank.Tie as tie
+
+returns : tie.Need-returns
+returns c = zero-rows fact-rows row-words
+
+pub blank-spec : {M : Type 1} → statement M
+blank-spec = tie.close (tie.spec returns)

@@ -1,0 +1,3 @@
+pub mod Rest
+pub mod Stack
+pub mod Words
