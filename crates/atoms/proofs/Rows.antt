@@ -16,7 +16,7 @@ use Rattle.language.specs.declared.Expression.the-variants.{Single, Binary}
 use Rattle.language.specs.declared.Statement.{Statement}
 use Rattle.program.specs.Program.{at}
 use Rattle.base.specs.Decides.{Decides}
-use Rattle.base.proofs.Decides.{decides-same}
+use Rattle.base.proofs.Decides.{decides-same, decides-iff}
 use Rattle.bits.specs.Row.{member}
 use Rattle.base.proofs.Bools.{split, clash, and-left, and-right, and-both, not-of-false, false-of-not}
 use Rattle.ctl.specs.Paths.{So}
@@ -27,7 +27,6 @@ use Rattle.codes.specs.Codes.{statementCode}
 use Rattle.atoms.specs.Facts.{defined-rows, code-rows, codeWords, FactsBelow, FactsOf}
 use Rattle.codes.specs.declared.Code.{Code}
 use Rattle.atoms.proofs.Words.{words-unique}
-use Rattle.base.proofs.Decides.{decides-iff}
 
 -- the same places, and what is said of them in other words
 label-as : (n : ℕ) (y y′ : ℕ → Bool) (X X′ : ℕ → Type 0) → ((j : ℕ) → y′ j ≡ y j) → ((s : ℕ) → s < n → X s ↔ X′ s) → Labelled n y X → Labelled n y′ X′

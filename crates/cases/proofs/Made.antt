@@ -14,9 +14,9 @@ use Rattle.language.specs.declared.Statement.the-variants.{Skip}
 use Rattle.program.specs.Program.{at}
 use Rattle.base.proofs.Bools.{clash, last-or-below}
 use Rattle.marks.specs.declared.Mark.{Mark}
-use Rattle.marks.specs.Marks.{names}
-use Rattle.rewriting.specs.Rewriting.{makes}
-use Rattle.rewriting.specs.Verdicts.{Named, place, markAt, Verdicts, Rewritten}
+use Rattle.marks.specs.Marks.{names, markAt}
+use Rattle.lockstep.specs.Rules.{makes}
+use Rattle.rewriting.specs.Verdicts.{Named, place, Verdicts, Rewritten}
 use Rattle.rewriting.proofs.Accepted.{accepted-judged}
 use Rattle.verdicts.proofs.Made.{named-earlier}
 

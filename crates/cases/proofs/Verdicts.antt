@@ -21,9 +21,9 @@ use Rattle.condition.specs.declared.Atom.the-variants.{Stmt, Use}
 use Rattle.truth.specs.Truth.{Sat}
 use Rattle.marks.specs.declared.Mark.{Mark}
 use Rattle.marks.specs.declared.Mark.the-variants.{Rm, Rpl}
-use Rattle.marks.specs.Marks.{names}
-use Rattle.rewriting.specs.Rewriting.{IsVariable, Takes, Fits, published}
-use Rattle.rewriting.specs.Verdicts.{number, Inside, Named, place, Judged, markAt}
+use Rattle.marks.specs.Marks.{names, markAt}
+use Rattle.lockstep.specs.Rules.{IsVariable, Takes, Fits, published}
+use Rattle.rewriting.specs.Verdicts.{number, Inside, Named, place, Judged}
 use Rattle.rewriting.specs.Verdicts as rewriting
 use Rattle.rewriting.specs.declared.Verdict.{Verdict}
 use Rattle.rewriting.specs.declared.Verdict.the-variants.{Accepted, Missing, Repeated, Unfit, Unmet}

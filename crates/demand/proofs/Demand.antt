@@ -24,7 +24,7 @@ use Rattle.lockstep.proofs.Lockstep.{together}
 use Rattle.lockstep.proofs.Changed.{changed-wellformed}
 use Rattle.lockstep.proofs.Answers.{answers-alike}
 use Rattle.rewriting.proofs.Accepted.{accepted-judged, judged-accepted}
-use Rattle.lockstep.proofs.Rewritten.{rewritten-changed}
+use Rattle.rewriting.proofs.Rewritten.{rewritten-changed}
 use Rattle.run.specs.Run.{most-steps, RunFinished, RunAnswers}
 use Rattle.demand.specs.Demand.{RunsAlike, Demand3}
 use Rattle.run.specs.declared.RunAnswer.{RunAnswer}

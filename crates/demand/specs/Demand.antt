@@ -12,7 +12,8 @@ use Rattle.program.specs.Program.{Taken}
 use Rattle.machine.specs.Machine.{after}
 use Rattle.marks.specs.Reading as marks
 use Rattle.marks.specs.declared.Mark.{Mark}
-use Rattle.rewriting.specs.Verdicts.{Judged, markAt, Rewritten}
+use Rattle.marks.specs.Marks.{markAt}
+use Rattle.rewriting.specs.Verdicts.{Judged, Rewritten}
 use Rattle.rewriting.specs.declared.Verdict.the-variants.{Accepted}
 use Rattle.lockstep.specs.Lockstep.{Together}
 use Rattle.run.specs.Run.{most-steps, RunAnswers}

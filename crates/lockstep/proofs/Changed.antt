@@ -20,7 +20,7 @@ use Rattle.program.proofs.Held.{at-valid}
 use Rattle.marks.specs.Marks.{ValidMark}
 use Rattle.marks.specs.declared.Mark.{Mark}
 use Rattle.marks.specs.declared.Mark.the-variants.{Rm, Rpl}
-use Rattle.rewriting.specs.Rewriting.{Fits, replaceOperand, replaceIn, replaceVariable, replace, makes}
+use Rattle.lockstep.specs.Rules.{Fits, replaceOperand, replaceIn, replaceVariable, replace, makes}
 use Rattle.base.specs.Pick.{pick}
 use Rattle.lockstep.specs.Lockstep.{Change, Changed}
 

@@ -1,15 +1,15 @@
--- What is decided of statements: the variables of an operand, what a statement defines, and whether two statements are the same.
+-- What is decided of statements: the variables of an operand, what a statement defines, and whether it is a given copy.
 -- Assumes nothing.
-use mathlib.Core.Path.{_≡_, ap}
+use mathlib.Core.Path.{_≡_, ap, ap₂}
 use Prim.Native.Nat.{ℕ}
 use native.Mathlib.Decide.{ℕ-discrete}
+use native.Mathlib.Omega.{arith}
 use Rattle.language.specs.declared.Operand.{Operand}
 use Rattle.language.specs.declared.Operand.the-variants.{Variable, Constant}
+use Rattle.language.specs.declared.Expression.the-variants.{Single, Binary}
 use Rattle.language.specs.declared.Statement.{Statement}
 use Rattle.language.specs.declared.Statement.the-variants.{Read, Write, Assign, Branch, Skip}
 use Rattle.truth.specs.Truth.{InOperand, Defines}
-use Rattle.codes.specs.Codes.{statementCode}
-use Rattle.codes.proofs.Codes.{code-unique}
 
 pub operand-decided : (x : ℕ) (a : Operand) → Dec (InOperand x a)
 operand-decided x (Variable y) = ℕ-discrete x y
@@ -22,16 +22,29 @@ defines-decided (Assign y e) x = ℕ-discrete x y
 defines-decided (Branch y n m) x = no (λ h. h)
 defines-decided Skip x = no (λ h. h)
 
--- by their codes, number by number
-pub statement-decided : (i j : Statement) → Dec (i ≡ j)
-statement-decided i j =
-    by (ℕ-discrete (statementCode i .kind) (statementCode j .kind)) (ℕ-discrete (statementCode i .first) (statementCode j .first))
-    (ℕ-discrete (statementCode i .second) (statementCode j .second)) (ℕ-discrete (statementCode i .third) (statementCode j .third))
+same-operand : (a b : Operand) → Dec (a ≡ b)
+same-operand (Variable x) (Variable y) = by (ℕ-discrete x y)
   where
-    by : Dec (statementCode i .kind ≡ statementCode j .kind) → Dec (statementCode i .first ≡ statementCode j .first)
-        → Dec (statementCode i .second ≡ statementCode j .second) → Dec (statementCode i .third ≡ statementCode j .third) → Dec (i ≡ j)
-    by (yes k) (yes x) (yes y) (yes z) = yes (code-unique i j (λ t. record { kind = k t; first = x t; second = y t; third = z t }))
-    by (no k) b e f = no (λ h. k (ap (λ (i : Statement). statementCode i .kind) h))
-    by (yes k) (no x) e f = no (λ h. x (ap (λ (i : Statement). statementCode i .first) h))
-    by (yes k) (yes x) (no y) f = no (λ h. y (ap (λ (i : Statement). statementCode i .second) h))
-    by (yes k) (yes x) (yes y) (no z) = no (λ h. z (ap (λ (i : Statement). statementCode i .third) h))
+    by : Dec (x ≡ y) → Dec (Variable x ≡ Variable y)
+    by (yes e) = yes (ap (λ (z : ℕ). Variable z) e)
+    by (no f) = no (λ h. let e : x ≡ y = cc in f e)
+same-operand (Constant n) (Constant m) = by (ℕ-discrete n m)
+  where
+    by : Dec (n ≡ m) → Dec (Constant n ≡ Constant m)
+    by (yes e) = yes (ap (λ (k : ℕ). Constant k) e)
+    by (no f) = no (λ h. let e : n ≡ m = cc in f e)
+same-operand (Variable x) (Constant n) = no (λ h. let z : _≡_ {A = ℕ} 0 1 = cc in omega arith)
+same-operand (Constant n) (Variable x) = no (λ h. let z : _≡_ {A = ℕ} 0 1 = cc in omega arith)
+
+pub copy-decided : (i : Statement) (x : ℕ) (a : Operand) → Dec (i ≡ Assign x (Single a))
+copy-decided (Assign y (Single b)) x a = by (ℕ-discrete y x) (same-operand b a)
+  where
+    by : Dec (y ≡ x) → Dec (b ≡ a) → Dec (Assign y (Single b) ≡ Assign x (Single a))
+    by (yes e) (yes q) = yes (ap₂ (λ (z : ℕ) (c : Operand). Assign z (Single c)) e q)
+    by (no f) q = no (λ h. let e : y ≡ x = cc in f e)
+    by (yes e) (no f) = no (λ h. let q : b ≡ a = cc in f q)
+copy-decided (Assign y (Binary b o c)) x a = no (λ h. let z : _≡_ {A = ℕ} 0 1 = cc in omega arith)
+copy-decided (Read y) x a = no (λ h. let z : _≡_ {A = ℕ} 0 1 = cc in omega arith)
+copy-decided (Write y) x a = no (λ h. let z : _≡_ {A = ℕ} 0 1 = cc in omega arith)
+copy-decided (Branch y n m) x a = no (λ h. let z : _≡_ {A = ℕ} 0 1 = cc in omega arith)
+copy-decided Skip x a = no (λ h. let z : _≡_ {A = ℕ} 0 1 = cc in omega arith)

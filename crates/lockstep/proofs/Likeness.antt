@@ -18,7 +18,7 @@ use Rattle.language.specs.declared.Statement.{Statement}
 use Rattle.language.specs.declared.Statement.the-variants.{Read, Write, Assign, Branch, Skip}
 use Rattle.machine.specs.Machine.{apply, operandValue, value}
 use Rattle.truth.specs.Truth.{InOperand, In, Shows}
-use Rattle.rewriting.specs.Rewriting.{IsVariable, Takes, replaceOperand, replaceIn, replaceVariable, replace}
+use Rattle.lockstep.specs.Rules.{IsVariable, Takes, replaceOperand, replaceIn, replaceVariable, replace}
 use Rattle.base.specs.Pick.{pick}
 
 -- the value stored last is the one found

@@ -26,11 +26,11 @@ use Rattle.flow.specs.Flow.{leads}
 use Rattle.flow.proofs.Model.{forward-inside}
 use Rattle.truth.specs.Truth.{InOperand, Defines, Shows, Uses, Sat}
 use Rattle.marks.specs.declared.Mark.the-variants.{Rm, Rpl}
-use Rattle.rewriting.specs.Rewriting.{live, replace}
+use Rattle.lockstep.specs.Rules.{live, unneeded, copiedBefore, replace}
 use Rattle.lockstep.specs.Lockstep.{Change, Changed, Agree, Side, Together}
 use Rattle.lockstep.proofs.Decisions.{operand-decided, defines-decided}
 use Rattle.lockstep.proofs.Likeness.{stored-here, operand-self, operand-agrees, Like, reads, writes, assigns, branches, skips, kept-like, replaced-like}
-use Rattle.lockstep.proofs.Conditions.{copiedBefore, liveAfter, forward-step, live-use, live-step, live-next, Between, Copies, copied-cases, first-uncopied}
+use Rattle.lockstep.proofs.Conditions.{forward-step, live-use, live-step, unneeded-dead, Copies, Between, copied-cases, first-uncopied}
 
 -- both arms of an `if` are where a run may go
 branch-leads : (b : Bool) (x n m s : ℕ) → leads (Branch x n m) s (pick b m n - 1) ≡ true
@@ -59,7 +59,7 @@ module _ (P : List Statement) (w : WellFormed P) where
 
   -- ---- the first statement
 
-  first-no-copy : (x : ℕ) (a : Operand) → ¬ Copies P x a 0
+  first-no-copy : (x : ℕ) (a : Operand) → ¬ Copies P w x a 0
   first-no-copy x a e =
       let placed : InPlace (length P) 0 (at P 0) = w .placed 0 (omega (arith, w .counted .0)) in
       let inner : InPlace (length P) 0 (Assign x (Single a)) = rw e at placed in
@@ -71,7 +71,7 @@ module _ (P : List Statement) (w : WellFormed P) where
     whole = l;
     whole′ = l;
     agree = λ x h. refl;
-    copies = λ x a o c. absurd (first-uncopied P x a w (first-no-copy x a) c);
+    copies = λ x a o c. absurd (first-uncopied P w x a (first-no-copy x a) c);
   }
 
   -- ---- one step of both from place s, where i stands: what holds before it holds after it
@@ -87,6 +87,9 @@ module _ (P : List Statement) (w : WellFormed P) where
     there : leads (at P s) s t ≡ true
     there = rw is go
 
+    inside-on : t < length P
+    inside-on = forward-inside P w s t (held .inside) (forward-step P w s t there)
+
     stays : (y : ℕ) → ¬ Defines (at P s) y → ¬ Defines i y
     stays y f = rw is at f
 
@@ -95,13 +98,13 @@ module _ (P : List Statement) (w : WellFormed P) where
       where
         by : Dec (Defines i x) → getD vs′ x 0 ≡ getD ws′ x 0
         by (yes d) = stores x d l
-        by (no d) = frame x d ∙ held .agree x (live-step P x s t there (rw is d) l) ∙ sym (frame′ x d)
+        by (no d) = frame x d ∙ held .agree x (live-step P w x s t (held .inside) there (rw is d) l) ∙ sym (frame′ x d)
 
     copies-on : (x : ℕ) (a : Operand) → ¬ InOperand x a → Sat P (copiedBefore x a) t
         → (getD vs′ x 0 ≡ operandValue vs′ a) × (getD vs′ x 0 ≡ operandValue ws′ a)
-    copies-on x a o c = by (copied-cases P x a w s t (held .inside) there c)
+    copies-on x a o c = by (copied-cases P w x a s (held .inside) t inside-on there c)
       where
-        by : Copies P x a s ⊎ (Between P x a s × Sat P (copiedBefore x a) s)
+        by : Copies P w x a s ⊎ (Between P w x a s × Sat P (copiedBefore x a) s)
             → (getD vs′ x 0 ≡ operandValue vs′ a) × (getD vs′ x 0 ≡ operandValue ws′ a)
         -- the copy itself: its operand is used here, so live, and stays
         by (inl e) = (new ∙ sym given, new ∙ both ∙ sym changed)
@@ -126,20 +129,20 @@ module _ (P : List Statement) (w : WellFormed P) where
             both : operandValue vs a ≡ operandValue ws a
             both = operand-agrees vs ws a (λ y u. held .agree y (live-use P w y s (held .inside) (used y u)))
         -- a statement between: it defines neither x nor a variable of a
-        by (inr (((nd, clear), later), c′)) = (frame x (stays x nd) ∙ was .0 ∙ sym given, frame x (stays x nd) ∙ was .1 ∙ sym changed)
+        by (inr (b, c′)) = (frame x (stays x (b .undefined)) ∙ was .0 ∙ sym given, frame x (stays x (b .undefined)) ∙ was .1 ∙ sym changed)
           where
             was : (getD vs x 0 ≡ operandValue vs a) × (getD vs x 0 ≡ operandValue ws a)
             was = held .copies x a o c′
 
             given : operandValue vs′ a ≡ operandValue vs a
-            given = operand-agrees vs′ vs a (λ y u. frame y (stays y (clear y u)))
+            given = operand-agrees vs′ vs a (λ y u. frame y (stays y (b .unchanged y u)))
 
             changed : operandValue ws′ a ≡ operandValue ws a
-            changed = operand-agrees ws′ ws a (λ y u. frame′ y (stays y (clear y u)))
+            changed = operand-agrees ws′ ws a (λ y u. frame′ y (stays y (b .unchanged y u)))
 
     held-on : Held t vs′ ws′
     held-on = record {
-      inside = forward-inside P w s t (held .inside) (forward-step P s t there);
+      inside = inside-on;
       whole = long;
       whole′ = long′;
       agree = agree-on;
@@ -186,15 +189,15 @@ module _ (P : List Statement) (w : WellFormed P) where
     )
 
     -- an assignment whose variable is not live after it, and `skip`
-    removed-on : (x : ℕ) (e : Expression) → at P s ≡ Assign x e → ¬ Sat P (liveAfter x) s
+    removed-on : (x : ℕ) (e : Expression) → at P s ≡ Assign x e → Sat P (unneeded x) s
         → Side Held (perform (Assign x e) input s vs) (perform Skip input s ws)
-    removed-on x e is dead =
+    removed-on x e is c =
         let below : x < variables = valid (Assign x e) is .0 in (
           refl,
           held-on s (s + 1) vs ws (set vs x (value vs e)) ws held (Assign x e) is next-line
               (length-set vs x (value vs e) ∙ held .whole) (held .whole′)
               (λ y d. getD-set-other vs x y (value vs e) 0 d) (λ y d. refl)
-              (λ y d l. absurd (dead (live-next P x s (s + 1) (rw is next-line) (rw d at l))))
+              (λ y d l. absurd (unneeded-dead P w x s (s + 1) (held .inside) (rw is next-line) c (rw d at l)))
               (λ y a q. copy-stores vs x e y a (rw (held .whole) below) q),
         )
 
@@ -210,7 +213,6 @@ module _ (P : List Statement) (w : WellFormed P) where
         by (no o) = held .copies x a o c .1
 
     change-on : (j : Statement) → Change P s j → Side Held (perform (at P s) input s vs) (perform j input s ws)
-    unfolding Sat
     change-on j (inl e) = rw e (like-on (at P s) (at P s) refl (kept-like vs ws (at P s) shown))
     change-on j (inr (Rm n x e, v, fit, c, made)) = rw (made, fit) (removed-on x e fit c)
     change-on j (inr (Rpl n x a, v, (u, takes), c, made)) =

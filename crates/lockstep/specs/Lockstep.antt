@@ -3,7 +3,6 @@ use mathlib.Core.Path.{_≡_}
 use mathlib.Core.Logic.{_⊎_}
 use mathlib.Core.List.{List}
 use Prim.Native.Nat.{ℕ, _<_}
-use lib.IntN.{ℤ}
 use lib.ListN.{length, getD}
 use Rattle.language.specs.declared.Statement.{Statement}
 use Rattle.program.specs.Program.{at}
@@ -13,7 +12,7 @@ use Rattle.machine.specs.declared.Answer.the-variants.{Ended, Spent}
 use Rattle.truth.specs.Truth.{Sat}
 use Rattle.marks.specs.Marks.{ValidMark}
 use Rattle.marks.specs.declared.Mark.{Mark}
-use Rattle.rewriting.specs.Rewriting.{Fits, live, published, makes}
+use Rattle.lockstep.specs.Rules.{Fits, live, published, makes}
 
 -- the statement at place s becomes i: it is kept, or a mark is made that fits it and whose condition is true there
 abbrev pub Change : List Statement → ℕ → Statement → Type 0

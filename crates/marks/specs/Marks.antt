@@ -2,7 +2,10 @@
 use mathlib.Core.Path.{_≡_}
 use mathlib.Core.List.{List, [], _∷_, _++_}
 use Prim.Native.Nat.{ℕ}
+use lib.ListN.{getD}
 use Rattle.language.specs.Spelling.{spellStatementNumber, ValidStatementNumber, spellVariable, ValidVariable, spellOperand, ValidOperand, spellExpression, ValidExpression}
+use Rattle.language.specs.declared.Expression.the-variants.{Single}
+use Rattle.language.specs.declared.Operand.the-variants.{Constant}
 use Rattle.marks.specs.declared.Mark.{Mark}
 use Rattle.marks.specs.declared.Mark.the-variants.{Rm, Rpl}
 
@@ -49,3 +52,7 @@ pub record Spells (t : List ℕ) (ms : List Mark) : Type 0 where
 abbrev pub names : Mark → ℕ
 names (Rm n x e) = n
 names (Rpl n x a) = n
+
+-- the mark of line j, counted from 0
+abbrev pub markAt : List Mark → ℕ → Mark
+markAt ms j = getD ms j (Rm 0 0 (Single (Constant 0)))

@@ -8,8 +8,7 @@ use lib.ListN.{length, take, drop, getD, length-append}
 use lib.Seq.{getD-drop}
 use Rattle.language.specs.Spelling.{digits}
 use Rattle.marks.specs.declared.Mark.{Mark}
-use Rattle.marks.specs.Marks.{names}
-use Rattle.rewriting.specs.Verdicts.{markAt}
+use Rattle.marks.specs.Marks.{names, markAt}
 use Rattle.report.specs.Report.{refusedLine, countsLine, verdictLine, verdictLines}
 
 pub refused-length : (n : ℕ) → length (refusedLine n) ≡ 8 + (length (digits n) + 1)

@@ -10,11 +10,10 @@ use Rattle.statement_writer.proofs.Puts.{put-then, room}
 use Rattle.marks.specs.declared.Mark.{Mark}
 use Rattle.marks.specs.declared.read.MarkRead.{MarkRead}
 use Rattle.marks.specs.declared.read.MarkRead.the-variants.{Found, Misspelled}
-use Rattle.marks.specs.Marks.{names}
+use Rattle.marks.specs.Marks.{names, markAt}
 use Rattle.marks.specs.Reading.{MarkLineRead, Taken}
 use Rattle.marks.proofs.Lists.{marks-unique}
 use Rattle.marks.proofs.Walk.{Begins, begins-first, text-line, text-done, line-found, line-inside, line-mark, line-next}
-use Rattle.rewriting.specs.Verdicts.{markAt}
 use Rattle.report.specs.Report.{verdictLine, verdictLines}
 use Rattle.report.specs.Writing.{VerdictsFit}
 use Rattle.report.proofs.Lines.{verdicts-more, verdicts-take}

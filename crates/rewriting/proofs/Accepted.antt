@@ -14,7 +14,8 @@ use Rattle.language.specs.declared.Statement.{Statement}
 use Rattle.language.specs.declared.Statement.the-variants.{Skip}
 use Rattle.program.specs.Program.{at}
 use Rattle.marks.specs.declared.Mark.{Mark}
-use Rattle.rewriting.specs.Verdicts.{number, place, Judged, markAt, Verdicts, Accepts, Rewritten}
+use Rattle.marks.specs.Marks.{markAt}
+use Rattle.rewriting.specs.Verdicts.{number, place, Judged, Verdicts, Accepts, Rewritten}
 use Rattle.rewriting.specs.declared.Verdict.{Verdict}
 use Rattle.rewriting.specs.declared.Verdict.the-variants.{Accepted, Missing, Repeated, Unfit, Unmet}
 

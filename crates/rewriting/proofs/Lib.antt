@@ -1,3 +1,3 @@
-pub mod Published
 pub mod Accepted
 pub mod Unique
+pub mod Rewritten

@@ -7,7 +7,8 @@ use lib.ListN.{length, take, getD}
 use Rattle.language.specs.declared.Statement.{Statement}
 use Rattle.bits.proofs.Counts.{count-ext}
 use Rattle.marks.specs.declared.Mark.{Mark}
-use Rattle.rewriting.specs.Verdicts.{number, Judged, markAt, Verdicts, acceptedCount, Rewritten}
+use Rattle.marks.specs.Marks.{markAt}
+use Rattle.rewriting.specs.Verdicts.{number, Judged, Verdicts, acceptedCount, Rewritten}
 use Rattle.rewriting.specs.declared.Verdict.{Verdict}
 use Rattle.rewriting.specs.declared.Verdict.the-variants.{Accepted, Missing, Repeated, Unfit, Unmet}
 use Rattle.rewriting.proofs.Accepted.{rewritten-unique}

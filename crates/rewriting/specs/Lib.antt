@@ -1,3 +1,1 @@
-pub mod Rewriting
-pub mod Published
 pub mod Verdicts

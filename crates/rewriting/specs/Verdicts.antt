@@ -6,16 +6,13 @@ use mathlib.Core.List.{List, [], _∷_}
 use Prim.Native.Nat.{ℕ, _-_, _≤_, _<_}
 use lib.Dec.{eqb}
 use lib.ListN.{length, getD, take}
-use Rattle.language.specs.declared.Operand.the-variants.{Constant}
-use Rattle.language.specs.declared.Expression.the-variants.{Single}
 use Rattle.language.specs.declared.Statement.{Statement}
 use Rattle.program.specs.Program.{at}
 use Rattle.bits.specs.Row.{countBelow}
 use Rattle.truth.specs.Truth.{Sat}
-use Rattle.marks.specs.Marks.{names}
+use Rattle.marks.specs.Marks.{names, markAt}
 use Rattle.marks.specs.declared.Mark.{Mark}
-use Rattle.marks.specs.declared.Mark.the-variants.{Rm}
-use Rattle.rewriting.specs.Rewriting.{Fits, published, makes}
+use Rattle.lockstep.specs.Rules.{Fits, published, makes}
 use Rattle.rewriting.specs.declared.Verdict.{Verdict}
 use Rattle.rewriting.specs.declared.Verdict.the-variants.{Accepted, Missing, Repeated, Unfit, Unmet}
 
@@ -58,10 +55,6 @@ Stands Missing = ⊥
 Stands Repeated = Unit
 Stands Unfit = Unit
 Stands Unmet = Unit
-
--- the mark of line j, counted from 0
-abbrev pub markAt : List Mark → ℕ → Mark
-markAt ms j = getD ms j (Rm 0 0 (Single (Constant 0)))
 
 -- "Each is judged on the given program, line j's verdict filling byte j, counted from 0."
 abbrev pub Verdicts : List Statement → List Mark → List ℕ → Type 0

@@ -12,7 +12,8 @@ use Rattle.program.proofs.RoundTrip.{taken-unique}
 use Rattle.program.proofs.Unique.{taken-refused}
 use Rattle.marks.specs.declared.Mark.{Mark}
 use Rattle.marks.proofs.Lists as marks
-use Rattle.rewriting.specs.Verdicts.{Judged, markAt, Rewritten}
+use Rattle.marks.specs.Marks.{markAt}
+use Rattle.rewriting.specs.Verdicts.{Judged, Rewritten}
 use Rattle.rewriting.specs.declared.Verdict.the-variants.{Accepted}
 use Rattle.rewriting.proofs.Accepted.{rewritten-unique}
 use Rattle.run.specs.Run.{most-steps, RunAnswers}

@@ -1,28 +1,27 @@
 -- Marks judged line by line: what is known after j lines. Assumes nothing.
-use mathlib.Core.Path.{_≡_, refl, sym, ap, _∙_, subst}
+use mathlib.Core.Path.{_≡_, refl, sym, _∙_}
 use mathlib.Core.Bool.{true, false, _||_}
 use mathlib.Core.List.{List, [], _∷_, _++_}
 use mathlib.Core.Logic.{_⊎_, inl, inr, ⊎-elim, _↔_}
-use Prim.Native.Nat.{ℕ, zero, suc, _+_, _-_, _≤_, _<_}
-use native.Mathlib.Decide.{decLt}
+use Prim.Native.Nat.{ℕ, _+_, _-_, _≤_, _<_}
 use native.Mathlib.Numerals.{add-one}
 use native.Mathlib.Omega.{arith}
 use borrow.Author.Count.{below-more}
 use borrow.Author.Tests.{eqb-true, eq-eqb}
 use lib.Dec.{eqb}
-use lib.ListN.{length, getD, take, set, length-set}
-use lib.Seq.{take-suc, take-length, getD-set-same, getD-set-other}
+use lib.ListN.{length, getD, take, set}
+use lib.Seq.{take-suc, getD-set-same, getD-set-other}
 use Rattle.language.specs.declared.Statement.{Statement}
 use Rattle.bits.specs.Row.{member}
 use Rattle.base.proofs.Bools.{clash, or-case, or-left, or-right}
-use Rattle.marks.specs.Marks.{names, Spells}
+use Rattle.marks.specs.Marks.{names, Spells, markAt}
 use Rattle.marks.specs.Reading.{MarkLineRead}
 use Rattle.marks.specs.Reading as marks
 use Rattle.marks.specs.declared.Mark.{Mark}
 use Rattle.marks.specs.declared.read.MarkRead.{MarkRead}
 use Rattle.marks.specs.declared.read.MarkRead.the-variants as markRead
 use Rattle.marks.proofs.Walk.{Begins, begins-first, line-mark, line-next, line-inside, line-found, text-line, text-done}
-use Rattle.rewriting.specs.Verdicts.{number, Inside, Named, place, Judged, Stands, markAt, Verdicts}
+use Rattle.rewriting.specs.Verdicts.{number, Inside, Named, place, Judged, Stands}
 use Rattle.rewriting.specs.declared.Verdict.{Verdict}
 use Rattle.rewriting.specs.declared.Verdict.the-variants.{Accepted, Missing, Repeated, Unfit, Unmet}
 use Rattle.verdicts.specs.Judging.{NamedIn, Notes, VerdictsOf}

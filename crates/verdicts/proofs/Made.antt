@@ -1,10 +1,8 @@
 -- Accepted marks made line by line: what is known after j lines. Assumes nothing.
 use mathlib.Core.Path.{_≡_, refl, sym, ap, _∙_, subst}
-use mathlib.Core.Bool.{Bool, false}
 use mathlib.Core.List.{List, [], _∷_, map}
-use mathlib.Core.Logic.{_⊎_, inl, inr}
+use mathlib.Core.Logic.{inl, inr}
 use Prim.Native.Nat.{ℕ, zero, suc, _+_, _-_, _≤_, _<_}
-use native.Mathlib.Numerals.{add-one}
 use native.Mathlib.Omega.{arith}
 use borrow.Author.Count.{below-more}
 use borrow.Author.Tests.{eq-eqb, ne-eqb}
@@ -21,14 +19,14 @@ use Rattle.program.specs.declared.Program.{Program}
 use Rattle.program.proofs.Held.{held, at-held, length-held}
 use Rattle.bits.specs.Row.{countBelow}
 use Rattle.bits.proofs.Counts.{count-le, count-one, count-none}
-use Rattle.marks.specs.Marks.{names, Spells}
+use Rattle.marks.specs.Marks.{names, Spells, markAt}
 use Rattle.marks.specs.Reading.{MarkLineRead, Taken}
 use Rattle.marks.specs.declared.Mark.{Mark}
 use Rattle.marks.specs.declared.read.MarkRead.{MarkRead}
 use Rattle.marks.specs.declared.read.MarkRead.the-variants as markRead
 use Rattle.marks.proofs.Walk.{Begins, begins-first, line-mark, line-next, line-inside, text-done}
-use Rattle.rewriting.specs.Rewriting.{makes}
-use Rattle.rewriting.specs.Verdicts.{Named, place, Judged, markAt, Verdicts, Accepts, acceptedCount, Rewritten}
+use Rattle.lockstep.specs.Rules.{makes}
+use Rattle.rewriting.specs.Verdicts.{Named, place, Judged, Verdicts, acceptedCount, Rewritten}
 use Rattle.rewriting.specs.declared.Verdict.the-variants.{Accepted}
 use Rattle.rewriting.proofs.Accepted.{accepted-judged}
 use Rattle.marks.proofs.Lists.{taken-unique}

@@ -1,5 +1,5 @@
 -- The verdict of a mark, from the tests in their order. Assumes nothing.
-use mathlib.Core.Path.{_≡_, sym, ap, _∙_, subst}
+use mathlib.Core.Path.{_≡_, sym, subst}
 use mathlib.Core.Bool.{Bool, true, false}
 use mathlib.Core.List.{List}
 use Prim.Native.Nat.{ℕ, _+_, _-_, _≤_, _<_}
@@ -21,8 +21,8 @@ use Rattle.labelling.specs.Labels.{Labelled}
 use Rattle.truth.specs.Truth.{Sat}
 use Rattle.marks.specs.Marks.{names}
 use Rattle.marks.specs.declared.Mark.{Mark}
-use Rattle.rewriting.specs.Rewriting.{Fits, published}
-use Rattle.rewriting.specs.Verdicts.{Inside, Named, place, Judged}
+use Rattle.lockstep.specs.Rules.{Fits, published}
+use Rattle.rewriting.specs.Verdicts.{Inside, Named, place}
 use Rattle.rewriting.specs.declared.Verdict.the-variants.{Accepted, Missing, Repeated, Unfit, Unmet}
 use Rattle.verdicts.specs.Judging.{NamedIn, JudgedBy}
 

@@ -1,68 +1,20 @@
 -- Proof devices: what the contracts of the functions that judge a mark say. No sentence of document 01 stands here.
 use mathlib.Core.Path.{_≡_}
 use mathlib.Core.Bool.{true}
-use mathlib.Core.List.{List, [], _∷_}
+use mathlib.Core.List.{List, _∷_}
 use mathlib.Core.Logic.{_↔_}
-use Prim.Native.Nat.{ℕ, _+_, _*_, _≤_, _<_}
+use Prim.Native.Nat.{ℕ, _+_, _≤_, _<_}
 use lib.ListN.{length, getD}
-use Rattle.language.specs.declared.Operand.the-variants.{Variable, Constant}
 use Rattle.language.specs.declared.Statement.{Statement}
 use Rattle.program.specs.Program.{at}
 use Rattle.program.specs.Reading.{statements, Held}
 use Rattle.bits.specs.Row.{member}
-use Rattle.labelling.specs.Labels.{Labelled}
-use Rattle.condition.specs.Condition.{Condition, parts}
-use Rattle.condition.specs.Texts.{Taken}
-use Rattle.truth.specs.Truth.{Sat}
-use Rattle.table.specs.Table.{part-words}
-use Rattle.table.specs.Known.{Known}
-use Rattle.marks.specs.Marks.{ValidMark, names}
+use Rattle.marks.specs.Marks.{names}
 use Rattle.marks.specs.declared.Mark.{Mark}
-use Rattle.marks.specs.declared.Mark.the-variants.{Rm, Rpl}
 use Rattle.marks.specs.Reading as marks
-use Rattle.rewriting.specs.Rewriting.{published}
 use Rattle.rewriting.specs.Verdicts.{Inside, Named, place, Judged, Verdicts, acceptedCount, Rewritten}
 use Rattle.rewriting.specs.declared.Verdict.{Verdict}
 use Rattle.verdicts.specs.declared.Rewriting.{Rewriting}
-
--- the words for the parts of a published condition, the code's PUBLISHED_WORDS
-abbrev pub published-words : ℕ
-published-words = 40
-
--- the text is taken as a condition of at most ten parts
-pub record SmallTaken (t : List ℕ) : Type 0 where
-  pub c : Condition
-  pub taken : Taken t c
-  pub small : part-words * length (parts c) ≤ published-words
-
--- the row has the places of P at which the condition with the text t is true
-pub record RowOf (P : List Statement) (t row : List ℕ) : Type 0 where
-  pub room : length row ≡ part-words
-  pub labelled : (c : Condition) → Taken t c → Labelled (length P) (member row) (Sat P c)
-
--- the row has the places of P at which the mark's published condition is true
-abbrev pub RowFor : List Statement → Mark → List ℕ → Type 0
-RowFor P m row = Labelled (length P) (member row) (Sat P (published m)) × (length row ≡ part-words)
-
--- a number for a valid mark's published condition: those of different conditions differ, and none is 0
-abbrev pub keyOf : Mark → ℕ
-keyOf (Rm n x e) = x + 128
-keyOf (Rpl n x (Variable y)) = x + 32 + 128 * y
-keyOf (Rpl n x (Constant k)) = x + 64 + 128 * k
-
--- the most rows that are remembered, the code's SLOTS
-abbrev pub slots : ℕ
-slots = 251
-
--- a row beside the key of a valid mark is that of its published condition
-pub record Remembers (P : List Statement) (keys : List ℕ) (rows : List (List ℕ)) : Type 0 where
-  pub many-keys : length keys ≡ slots
-  pub many-rows : length rows ≡ slots
-  pub right : (i : ℕ) → i < slots → (m : Mark) → ValidMark m → getD keys i 0 ≡ keyOf m → RowFor P m (getD rows i [])
-
--- the same of every program that the facts and the graph are of
-abbrev pub Remembering : ℕ → List (List ℕ) → List ℕ → List ℕ → List (List ℕ) → Type 0
-Remembering n facts flow keys rows = (P : List Statement) → Known P n facts flow → Remembers P keys rows
 
 -- the row has the places of the statements that the marks name, of n statements
 pub record NamedIn (n : ℕ) (row : List ℕ) (ms : List Mark) : Type 0 where

@@ -1,7 +1,6 @@
 use mathlib.Core.Logic.{inl}
 use borrow.Author.Needs.{needs}
-use Rattle.base.proofs.Decides.{decided-true, decided-false}
-use Rattle.base.proofs.Decides.{decides-either}
+use Rattle.base.proofs.Decides.{decided-true, decided-false, decides-either}
 use Rattle.codes.proofs.in_expression.Statement.{statement}
 use Rattle.codes.proofs.in_expression.Tie as tie
 

@@ -4,10 +4,10 @@ use Prim.Native.Nat.{_-_}
 use native.Mathlib.Omega.{arith}
 use borrow.Author.Needs.{needs}
 use lib.ListN.{length, length-set}
-use Rattle.verdicts.proofs.Memory.{remembers-none}
+use Rattle.published_rows.proofs.Memory.{remembers-none}
 use Rattle.verdicts.proofs.Marks.{statement-at}
 use Rattle.verdicts.proofs.Lists.{JudgedSoFar, judged-none, never-misspelled, line-below, judged-more, judged-all}
-use Rattle.verdicts.specs.Judging.{Remembering}
+use Rattle.published_rows.specs.Memory.{Remembering}
 use Rattle.marks.proofs.Walk.{line-of, line-further}
 use Rattle.marks.specs.declared.Mark.{Mark}
 use Rattle.marks.specs.Reading.{Taken}

@@ -1,5 +1,5 @@
 use borrow.Author.Needs.{needs}
-use mathlib.Core.Path.{_≡_, refl, _∙_}
+use mathlib.Core.Path.{_≡_, _∙_}
 use mathlib.Core.List.{List}
 use Prim.Native.Nat.{_-_}
 use native.Mathlib.Omega.{arith}
@@ -8,7 +8,7 @@ use Rattle.program.specs.Program.{most}
 use Rattle.program.specs.Reading.{statements}
 use Rattle.marks.specs.Reading.{Taken}
 use Rattle.marks.specs.declared.Mark.{Mark}
-use Rattle.marks.proofs.Walk.{line-of, line-further}
+use Rattle.marks.proofs.Walk.{line-further}
 use Rattle.verdicts.proofs.Lists.{never-misspelled, line-below}
 use Rattle.verdicts.proofs.Made.{MadeSoFar, made-none, made-less, accepted-inside, made-more, accepted-few, verdicts-same, held-few, made-all, counted-all}
 use Rattle.verdicts.proofs.rewrite.Statement.{statement}

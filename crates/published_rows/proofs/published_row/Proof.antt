@@ -1,0 +1,33 @@
+use mathlib.Core.Path.{sym}
+use native.Mathlib.Omega.{arith}
+use lib.Seq.{length-take-le}
+use Rattle.published.proofs.Published.{published-short}
+use Rattle.published_rows.proofs.Rows.{published-small, published-labelled}
+use Rattle.statement_writer.proofs.Puts.{put-front, put-within}
+use borrow.Author.Needs.{needs}
+use Rattle.published_rows.proofs.published_row.Statement.{statement}
+use Rattle.published_rows.proofs.published_row.Tie as tie
+
+array-share-prefix-text : tie.Need-array-share-prefix-text
+array-share-prefix-text c = put-within (c .before .write-published .ensures) (omega (arith, published-short (c .before .before .before .before .before .args .m) (c .before .before .before .before .before .pre .1), c .before .before .before .blank-text .ensures .size))
+
+slice-aggregate-row-of : tie.Need-slice-aggregate-row-of
+slice-aggregate-row-of c = sym (length-take-le _ _ (array-share-prefix-text (c .before)))
+
+row-of-requires : tie.Need-row-of-requires
+row-of-requires c κs = (c .before .before .before .before .before .before .pre .0, published-small (c .before .before .before .before .before .before .args .m) (c .before .before .before .before .before .before .pre .1) _ (put-front (c .before .before .write-published .ensures) (omega (arith, published-short (c .before .before .before .before .before .before .args .m) (c .before .before .before .before .before .before .pre .1), c .before .before .before .before .blank-text .ensures .size))))
+
+returns : tie.Need-returns
+returns c = λ P k. published-labelled (c .before .before .before .before .before .before .before .args .m) (c .before .before .before .before .before .before .before .pre .1) _ (put-front (c .before .before .before .write-published .ensures) (omega (arith, published-short (c .before .before .before .before .before .before .before .args .m) (c .before .before .before .before .before .before .before .pre .1), c .before .before .before .before .before .blank-text .ensures .size))) (c .row-of .ensures P k)
+
+pub published-row-spec : {M : Type 1} → statement M
+published-row-spec =
+    tie.close
+    (tie.spec
+    (λ c κs. search needs)
+    (λ c. search needs)
+    (λ c κs. search needs)
+    array-share-prefix-text
+    slice-aggregate-row-of
+    row-of-requires
+    returns)

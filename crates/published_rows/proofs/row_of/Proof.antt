@@ -1,0 +1,49 @@
+use native.Mathlib.Omega.{arith}
+use Rattle.table.proofs.Whole.{held-some}
+use Rattle.published_rows.proofs.Rows.{read-held, not-refused, held-room, whole-row}
+use borrow.Author.Needs.{needs}
+use Rattle.published_rows.proofs.row_of.Statement.{statement}
+use Rattle.published_rows.proofs.row_of.Tie as tie
+
+returns : tie.Need-returns
+returns c = absurd (not-refused (c .before .before .before .before .before .before .pre .1) _ _ (c .before .before .before .read .ensures) _ (c .before .enum-told .given .1))
+
+fill-requires : tie.Need-fill-requires
+fill-requires c κs =
+    let i = c .before .before .before .before .before .before .before .before .before .pre in
+    let h = read-held (i .1) _ _ (c .before .before .before .before .before .before .read .ensures) _ (c .before .before .before .before .answer .given .1) in
+    (i .0, (record { c = i .1 .c; held = h }, omega (arith, held-room (i .1) h)))
+
+sub-last : tie.Need-sub-last
+sub-last c = omega (arith, held-some (read-held (c .before .before .before .before .before .before .before .before .before .before .before .pre .1) _ _ (c .before .before .before .before .before .before .before .before .read .ensures) _ (c .before .before .before .before .before .before .answer .given .1)))
+
+row-of-requires : tie.Need-row-of-requires
+row-of-requires c κs =
+    let i = c .before .before .before .before .before .before .before .before .before .before .before .before .pre in
+    let h = read-held (i .1) _ _ (c .before .before .before .before .before .before .before .before .before .read .ensures) _ (c .before .before .before .before .before .before .before .answer .given .1) in
+    omega (arith, held-room (i .1) h, held-some h, c .before .before .fill .ensures (i .0 .P) (i .1 .c) (i .0 .known) h .same, c .before .before .before .before .blank-rows .ensures .size)
+
+returns-2 : tie.Need-returns-2
+returns-2 c = λ P k.
+    let i = c .before .before .before .before .before .before .before .before .before .before .before .before .before .pre in
+    let h = read-held (i .1) _ _ (c .before .before .before .before .before .before .before .before .before .before .read .ensures) _ (c .before .before .before .before .before .before .before .before .answer .given .1) in
+    let t = c .before .before .before .fill .ensures P (i .1 .c) k h in
+    rw (c .row-of .ensures) (whole-row (i .1) h (omega (arith, t .same, c .before .before .before .before .before .blank-rows .ensures .size)) t)
+
+pub row-of-spec : {M : Type 1} → statement M
+row-of-spec =
+    tie.close
+    (tie.spec
+    (λ c κs. search needs)
+    (λ c. search needs)
+    (λ c. search needs)
+    (λ c κs. search needs)
+    returns
+    (λ c. search needs)
+    (λ c κs. search needs)
+    (λ c. search needs)
+    fill-requires
+    sub-last
+    (λ c. search needs)
+    row-of-requires
+    returns-2)

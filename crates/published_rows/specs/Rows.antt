@@ -1,0 +1,34 @@
+-- Proof devices: what the contracts of the functions that find the row of a published condition say. No sentence of document 01 stands
+-- here.
+use mathlib.Core.Path.{_≡_}
+use mathlib.Core.List.{List}
+use Prim.Native.Nat.{ℕ, _*_, _≤_}
+use lib.ListN.{length}
+use Rattle.language.specs.declared.Statement.{Statement}
+use Rattle.bits.specs.Row.{member}
+use Rattle.labelling.specs.Labels.{Labelled}
+use Rattle.condition.specs.Condition.{Condition, parts}
+use Rattle.condition.specs.Texts.{Taken}
+use Rattle.truth.specs.Truth.{Sat}
+use Rattle.table.specs.Table.{part-words}
+use Rattle.marks.specs.declared.Mark.{Mark}
+use Rattle.lockstep.specs.Rules.{published}
+
+-- the words for the parts of a published condition, the code's PUBLISHED_WORDS
+abbrev pub published-words : ℕ
+published-words = 40
+
+-- the text is taken as a condition of at most ten parts
+pub record SmallTaken (t : List ℕ) : Type 0 where
+  pub c : Condition
+  pub taken : Taken t c
+  pub small : part-words * length (parts c) ≤ published-words
+
+-- the row has the places of P at which the condition with the text t is true
+pub record RowOf (P : List Statement) (t row : List ℕ) : Type 0 where
+  pub room : length row ≡ part-words
+  pub labelled : (c : Condition) → Taken t c → Labelled (length P) (member row) (Sat P c)
+
+-- the row has the places of P at which the mark's published condition is true
+abbrev pub RowFor : List Statement → Mark → List ℕ → Type 0
+RowFor P m row = Labelled (length P) (member row) (Sat P (published m)) × (length row ≡ part-words)
