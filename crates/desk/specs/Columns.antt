@@ -3,10 +3,11 @@ use mathlib.Core.List.{List, [], _∷_, _++_}
 use Prim.Native.Nat.{ℕ, _-_}
 use lib.ListN.{length, replicate}
 use lib.IntN.{ℤ, pos, negsuc, natAbs}
+use Rattle.base.specs.Bytes.{byte, bytes}
 use Rattle.language.specs.Spelling.{digits}
 
 abbrev pub spaces : ℕ → List ℕ
-spaces n = replicate n 32
+spaces n = replicate n (byte " ")
 
 -- the number n, right-aligned in w columns; one that is wider keeps its digits
 unfoldable pub wide : ℕ → ℕ → List ℕ
@@ -19,7 +20,7 @@ padded w xs = xs ++ spaces (w - length xs)
 -- a signed value in decimal: `-7`
 abbrev pub signMark : ℤ → List ℕ
 signMark (pos n) = []
-signMark (negsuc n) = 45 ∷ []
+signMark (negsuc n) = bytes "-"
 
 unfoldable pub signedDigits : ℤ → List ℕ
 signedDigits v = signMark v ++ digits (natAbs v)

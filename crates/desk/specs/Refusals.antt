@@ -2,29 +2,40 @@
 use mathlib.Core.List.{List, [], _∷_, _++_}
 use Prim.Native.Nat.{ℕ}
 use Prim.Native.String.{String}
-use Rattle.base.specs.Bytes.{bytes}
 use lib.Dec.{eqb}
-use Rattle.language.specs.Spelling.{digits}
+use Rattle.base.specs.Bytes.{bytes}
 use Rattle.base.specs.Pick.{pick}
+use Rattle.language.specs.Spelling.{digits}
 
--- the line's number within a text
-abbrev pub onLine : String → ℕ → String → List ℕ
-onLine before line after = bytes before ++ (digits line ++ bytes after)
+-- the number of a refusal and what is said of it; the number of a line of the program's text, where it is about one, stands between two texts
+pub data Row : Type 0 where
+  whole : ℕ → String → Row
+  onLine : ℕ → String → String → Row
+
+abbrev pub refusals : List Row
+refusals =
+    whole 1 "the host program: table under 256 words, verdicts under 256 bytes or new text under 8,192 bytes"
+    ∷ whole 15 "the host program: budget over 1,000,000"
+    ∷ onLine 2 "the author of the shift program: line " " isn't spelled as a statement, or lacks its byte 10"
+    ∷ whole 3 "the author of the shift program: under 2 or over 256 lines"
+    ∷ onLine 4 "the author of the shift program: line " ": read or write missing from its place or standing elsewhere"
+    ∷ onLine 5 "the author of the shift program: line " ": a target outside 2 to N"
+    ∷ whole 6 "the author of the condition: longer than 1,024 bytes"
+    ∷ whole 7 "the author of the condition: misspelled"
+    ∷ whole 8 "the author of the condition: over 64 parts"
+    ∷ whole 9 "the optimiser: some line misspelled, or the last without its byte 10"
+    ∷ whole 10 "the optimiser: over 256 lines"
+    ∷ []
+
+-- what the row of n says, or nothing
+abbrev pub wordsIn : List Row → ℕ → ℕ → List ℕ
+wordsIn [] n line = []
+wordsIn (whole m text ∷ rows) n line = pick (eqb n m) (bytes text) (wordsIn rows n line)
+wordsIn (onLine m before after ∷ rows) n line = pick (eqb n m) (bytes before ++ (digits line ++ bytes after)) (wordsIn rows n line)
 
 -- the words of refusal n, which for 2, 4 and 5 is about this line of the program's text
 unfoldable pub refusalWords : ℕ → ℕ → List ℕ
-refusalWords n line =
-    pick (eqb n 1) (bytes "the host program: table under 256 words, verdicts under 256 bytes or new text under 8,192 bytes")
-    (pick (eqb n 15) (bytes "the host program: budget over 1,000,000")
-    (pick (eqb n 2) (onLine "the author of the shift program: line " line " isn't spelled as a statement, or lacks its byte 10")
-    (pick (eqb n 3) (bytes "the author of the shift program: under 2 or over 256 lines")
-    (pick (eqb n 4) (onLine "the author of the shift program: line " line ": read or write missing from its place or standing elsewhere")
-    (pick (eqb n 5) (onLine "the author of the shift program: line " line ": a target outside 2 to N")
-    (pick (eqb n 6) (bytes "the author of the condition: longer than 1,024 bytes")
-    (pick (eqb n 7) (bytes "the author of the condition: misspelled")
-    (pick (eqb n 8) (bytes "the author of the condition: over 64 parts")
-    (pick (eqb n 9) (bytes "the optimiser: some line misspelled, or the last without its byte 10")
-    (pick (eqb n 10) (bytes "the optimiser: over 256 lines") []))))))))))
+refusalWords n line = wordsIn refusals n line
 
 -- "`refused`, a space and the number", and the words on a line of their own
 unfoldable pub refusalText : ℕ → ℕ → List ℕ
