@@ -1,13 +1,14 @@
 -- From the line at which the reading stops to the line that a refusal is about. Assumes nothing.
 use mathlib.Core.Path.{_≡_, refl, ap, sym, _∙_}
-use mathlib.Core.List.{List, [], _∷_, _++_, append-assoc}
-use mathlib.Core.Bool.{Bool, true, false}
-use lib.Dec.{ltb}
-use Prim.Native.Nat.{ℕ, _+_, _-_, _≤_, _<_}
+use mathlib.Core.List.{List, [], _∷_, append-nil}
+use Prim.Native.Nat.{ℕ, _+_, _≤_, _<_}
 use native.Mathlib.Omega.{arith}
-use lib.ListN.{length, getD, drop, length-append, length-drop, List·getD-append}
-use lib.Seq.{getD-append-seam}
-use borrow.Author.Tests.{ltb-true, ltb-false}
+use lib.ListN.{length, getD, drop, length-drop}
+use borrow.Author.Count.{below-more}
+use Rattle.lines.proofs.Texts.{no-line-empty, front-unique, spells-unique}
+use Rattle.lines.proofs.Walk.{Begins, text-done, line-inside, line-is}
+use Rattle.lines.proofs.Reading.{SoFar, none-yet, one-more, begins-here}
+use Rattle.language.specs.Spelling.{spell, Valid}
 use Rattle.statement_reader.specs.Reading.{LineRead}
 use Rattle.language.specs.declared.Statement.{Statement}
 use Rattle.language.specs.declared.Statement.the-variants.{Skip}
@@ -15,105 +16,77 @@ use Rattle.statement_reader.specs.declared.StatementRead.{StatementRead}
 use Rattle.statement_reader.specs.declared.StatementRead.the-variants.{Found, Misspelled}
 use Rattle.program.specs.declared.Refusal.{Refusal}
 use Rattle.program.specs.declared.Refusal.the-variants as refusal
-use Rattle.program.specs.Program.{text, AllValid, Spells, at}
+use Rattle.program.specs.Program.{text, Spells, at}
 use Rattle.program.specs.Reading.{Refused, number}
-use Rattle.program.proofs.Texts.{text-rest, text-unique}
+use Rattle.program.proofs.Texts.{statements-unambiguous, line-of, no-line}
 use Rattle.blame.specs.Blame.{lineAt, Rule, FirstMisspelled, FirstBroken, NoneBroken, Blames, LineTold, misspelled, broken, none, NumberTold, Blamed}
-use Rattle.blame.proofs.Lines.{SoFar, none-yet, whole, one-line}
-
--- the lines before are as the refusal asks, n being the number of all lines
-pub record Good (t : List ℕ) (r : Refusal) (n s at₀ : ℕ) : Type 0 where
-  pub so : SoFar t s at₀
-  pub good : (j : ℕ) → j < length (so .P) → Rule r n j (at (so .P) j)
-
--- a claim of each statement, with one statement more
-claim-more : (C : ℕ → Statement → Type 0) (P : List Statement) (e : Statement) (s : ℕ) → s ≡ length P → ((j : ℕ) → j < length P → C j (at P j)) → C s e
-    → (j : ℕ) → j < length (P ++ e ∷ []) → C j (at (P ++ e ∷ []) j)
-claim-more C P e s c f q j h = go (ltb j (length P)) refl
-  where
-    go : (b : Bool) → ltb j (length P) ≡ b → C j (at (P ++ e ∷ []) j)
-    go true is = let l = ltb-true j (length P) is in rw (List·getD-append P (e ∷ []) Skip j l) (f j l)
-    go false is =
-        let l = ltb-false j (length P) is in
-        let n = length-append P (e ∷ []) in
-        let z : j ≡ length P = omega arith in
-        rw (z, getD-append-seam P e [] Skip) (rw c at q)
 
 -- no line stands there: it is the first that isn't spelled
-pub first-misspelled : {t : List ℕ} {s p : ℕ} (so : SoFar t s p) {a : StatementRead} → LineRead t p a → a ≡ Misspelled → p < length t → {k : ℕ} → k ≡ lineAt s
+pub first-misspelled : {t : List ℕ} {s p : ℕ} (so : SoFar spell Valid t s p) {a : StatementRead} → LineRead t p a → a ≡ Misspelled → p < length t → {k : ℕ} → k ≡ lineAt s
     → FirstMisspelled t k
 first-misspelled {t} {s} {p} so l is h e =
     record {
-      P = so .P;
+      P = so .read;
       rest = drop p t;
       lines = so .front;
       valid = so .valid;
       more = omega (arith, length-drop p t);
-      misspelled = rw is at l;
+      misspelled = no-line t p is l;
       line = e ∙ ap lineAt (so .counted);
     }
 
--- a text of n lines
-module _ {t : List ℕ} {r : Refusal} {n s p : ℕ} (g : Good t r n s p) (Q : List Statement) (q : Spells t Q) (counted : n ≡ length Q) where
-  -- the lines are all, and each is as asked
-  pub none-broken : length t ≤ p → NoneBroken (Rule r) t
-  none-broken h =
-      let w = whole (g .so) h in
-      let e : g .so .P ≡ Q = text-unique (g .so .P) Q (g .so .valid) (q .valid) (sym (w .lines) ∙ q .lines) in
-      record { P = Q; spells = q; each = rw (e, counted) at (g .good) }
-
-  -- the statement of the next line isn't
-  pub first-broken : {a : StatementRead} {e : Statement} {k : ℕ} → LineRead t p a → a ≡ Found e k → (Rule r n s e → ⊥) → {m : ℕ} → m ≡ lineAt s → FirstBroken (Rule r) t m
-  unfolding one-line
-  first-broken {e = e} {k = k} l is b {m = m} il =
-      let so = g .so in
-      let more = one-line so l is in
-      let z = text-rest (so .P ++ e ∷ []) Q (drop k t) (more .valid) (q .valid) (sym (q .lines) ∙ more .front) in
-      go (z .0) (z .1)
-    where
-      go : (R : List Statement) → Q ≡ (g .so .P ++ e ∷ []) ++ R → FirstBroken (Rule r) t m
-      go R is-Q =
-          let P = g .so .P in
-          let c = g .so .counted in
-          let x : length Q ≡ length P + 1 + length R = ap length is-Q ∙ simp length-append in
-          let y : (j : ℕ) → j < length P → at Q j ≡ at P j =
-          λ j h. ap (λ (L : List Statement). at L j) (is-Q ∙ append-assoc P (e ∷ []) R) ∙ List·getD-append P (e ∷ R) Skip j h in
-          let w : at Q s ≡ e = ap (λ (L : List Statement). at L s) (is-Q ∙ append-assoc P (e ∷ []) R) ∙ rw c (getD-append-seam P e R Skip) in
-          let N : length Q ≡ n = sym counted in
-          record {
-            P = Q;
-            spells = q;
-            s = s;
-            inside = omega arith;
-            broken = rw (w, N) b;
-            before = λ j h. rw (y j (omega arith), N) (g .good j (omega arith));
-            line = il;
-          }
+-- s lines are read up to the position; if the text has n, the statements of these are as the refusal asks
+pub record Good (t : List ℕ) (r : Refusal) (n s p : ℕ) : Type 0 where
+  pub so : SoFar spell Valid t s p
+  pub good : (Q : List Statement) → Spells t Q → n ≡ length Q → (j : ℕ) → j < s → Rule r n j (at Q j)
 
 pub good-none : (t : List ℕ) (r : Refusal) (n : ℕ) → Good t r n 0 0
-unfolding none-yet text
-good-none t r n = record { so = none-yet t; good = λ j h. absurd (omega arith) }
+good-none t r n = record { so = none-yet spell Valid t; good = λ Q q c j h. absurd (omega arith) }
 
-pub good-more : {t : List ℕ} {r : Refusal} {n s p : ℕ} → Good t r n s p → {a : StatementRead} {e : Statement} {k : ℕ} → LineRead t p a → a ≡ Found e k → Rule r n s e
-    → Good t r n (s + 1) k
-unfolding one-line
-good-more {r = r} {n = n} g {e = e} l is h =
-    record { so = one-line (g .so) l is; good = claim-more (Rule r n) (g .so .P) e _ (g .so .counted) (g .good) h }
+module _ {t : List ℕ} {r : Refusal} {n s p : ℕ} (g : Good t r n s p) where
+  -- line s of whatever the text spells begins at the position
+  here : {Q : List Statement} → Spells t Q → Begins spell Valid t Q s p
+  here q = begins-here (g .so) statements-unambiguous q
+
+  next-is : {a : StatementRead} {e : Statement} {k : ℕ} → LineRead t p a → a ≡ Found e k → {Q : List Statement} → Spells t Q → e ≡ at Q s
+  next-is l is q = line-is (here q) (line-of is l) statements-unambiguous Skip
+
+  pub good-more : {a : StatementRead} {e : Statement} {k : ℕ} → LineRead t p a → a ≡ Found e k → Rule r n s e → Good t r n (s + 1) k
+  good-more l is h =
+      record {
+        so = one-more (g .so) (line-of is l);
+        good = λ Q q c. below-more (λ (j : ℕ). Rule r n j (at Q j)) s (g .good Q q c) (rw (next-is l is q) at h);
+      }
+
+  -- a text of n lines
+  module _ (Q : List Statement) (q : Spells t Q) (counted : n ≡ length Q) where
+    -- the lines are all, and each is as asked
+    pub none-broken : length t ≤ p → NoneBroken (Rule r) t
+    none-broken h = record { P = Q; spells = q; each = λ j l. rw counted at (g .good Q q counted j (omega (arith, text-done (here q) h))) }
+
+    -- the statement of the next line isn't
+    pub first-broken : {a : StatementRead} {e : Statement} {k : ℕ} → LineRead t p a → a ≡ Found e k → (Rule r n s e → ⊥) → {m : ℕ} → m ≡ lineAt s → FirstBroken (Rule r) t m
+    first-broken l is b il =
+        record {
+          P = Q;
+          spells = q;
+          s = s;
+          inside = line-inside (here q) (line-of is l);
+          broken = rw (next-is l is q, counted) at b;
+          before = λ j h. rw counted at (g .good Q q counted j h);
+          line = il;
+        }
 
 -- a text with a line that isn't spelled is that of no statements
 pub not-spelled : {t : List ℕ} {n : ℕ} → FirstMisspelled t n → (Q : List Statement) → Spells t Q → ⊥
-unfolding text
-not-spelled {t} m Q q =
-    let z = text-rest (m .P) Q (m .rest) (m .valid) (q .valid) (sym (q .lines) ∙ m .lines) in
-    go (z .0) (z .2) (z .3)
-  where
-    go : (R : List Statement) → m .rest ≡ text R → AllValid R → ⊥
-    go [] f v = omega (arith, m .more, ap length f)
-    go (i ∷ R) f v = m .misspelled i (text R) (v .0) f
+not-spelled m Q q =
+    let e = sym (m .lines) ∙ q .lines ∙ sym (append-nil (text Q)) in
+    let u = front-unique statements-unambiguous (m .P) Q (m .rest) [] (m .valid) (q .valid) (m .misspelled) (no-line-empty spell Valid) e in
+    omega (arith, m .more, ap length (u .1))
 
 -- what each holds of a text's statements holds of those of any other reading of it
 pub none-of : {C : ℕ → ℕ → Statement → Type 0} {t : List ℕ} → NoneBroken C t → (Q : List Statement) → Spells t Q → (j : ℕ) → j < length Q → C (length Q) j (at Q j)
-none-of b Q q = rw (text-unique (b .P) Q (b .spells .valid) (q .valid) (sym (b .spells .lines) ∙ q .lines)) at (b .each)
+none-of b Q q = rw (spells-unique statements-unambiguous (b .spells) q) at (b .each)
 
 -- of a text that gets the refusal, the line told is the one that the refusal is about
 pub blames : {t : List ℕ} {r : Refusal} {n : ℕ} → LineTold t r n → Refused t r → Blames t r n

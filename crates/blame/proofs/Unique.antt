@@ -1,40 +1,24 @@
 -- A refusal is about one line only, and one line is told of each text. Assumes nothing.
 use mathlib.Core.Path.{_≡_, refl, ap, sym, _∙_}
 use mathlib.Core.Bool.{Bool, true, false}
-use mathlib.Core.List.{List, [], _∷_, _++_, append-assoc}
-use Prim.Native.Nat.{ℕ, suc, _+_, _<_}
+use mathlib.Core.List.{List}
+use Prim.Native.Nat.{ℕ, _<_}
 use native.Mathlib.Omega.{arith}
 use lib.Dec.{ltb}
 use lib.ListN.{length}
 use borrow.Author.Tests.{ltb-true, ltb-false}
-use Rattle.language.specs.Spelling.{spell, Valid}
+use Rattle.lines.proofs.Texts.{front-unique, spells-unique}
 use Rattle.language.specs.declared.Statement.{Statement}
-use Rattle.statement_reader.proofs.Lines.{line-unique}
-use Rattle.program.specs.Program.{text, AllValid}
 use Rattle.program.specs.declared.Refusal.{Refusal}
 use Rattle.program.specs.declared.Refusal.the-variants.{Misspelled, LineCount, Placement, Target}
-use Rattle.program.proofs.Texts.{text-unique}
+use Rattle.program.proofs.Texts.{statements-unambiguous}
 use Rattle.blame.specs.Blame.{lineAt, FirstMisspelled, FirstBroken, Blames, LineTold, misspelled, broken, none}
 use Rattle.blame.proofs.Blames.{not-spelled, none-of}
 
--- no line begins there
-abbrev Stops : List ℕ → Type 0
-Stops x = (i : Statement) (after : List ℕ) → Valid i → x ≡ spell i ++ 10 ∷ after → ⊥
-
--- lines up to where none begins are equally many
-same-count : (P Q : List Statement) (x y : List ℕ) → AllValid P → AllValid Q → Stops x → Stops y → text P ++ x ≡ text Q ++ y → length P ≡ length Q
-unfolding text
-same-count [] [] x y v w a b e = refl
-same-count [] (s ∷ Q) x y v w a b e = absurd (a s (text Q ++ y) (w .0) (e ∙ append-assoc (spell s) (10 ∷ text Q) y))
-same-count (r ∷ P) [] x y v w a b e = absurd (b r (text P ++ x) (v .0) (sym e ∙ append-assoc (spell r) (10 ∷ text P) x))
-same-count (r ∷ P) (s ∷ Q) x y v w a b e =
-    let f : spell r ++ 10 ∷ (text P ++ x) ≡ spell s ++ 10 ∷ (text Q ++ y) = sym (append-assoc (spell r) (10 ∷ text P) x) ∙ e ∙ append-assoc (spell s) (10 ∷ text Q) y in
-    let u = line-unique r s (text P ++ x) (text Q ++ y) (v .0) (w .0) f in
-    ap suc (same-count P Q x y (v .1) (w .1) a b (u .1))
-
 misspelled-unique : {t : List ℕ} {m n : ℕ} → FirstMisspelled t m → FirstMisspelled t n → m ≡ n
 misspelled-unique a b =
-    a .line ∙ ap lineAt (same-count (a .P) (b .P) (a .rest) (b .rest) (a .valid) (b .valid) (a .misspelled) (b .misspelled) (sym (a .lines) ∙ b .lines)) ∙ sym (b .line)
+    let e = front-unique statements-unambiguous (a .P) (b .P) (a .rest) (b .rest) (a .valid) (b .valid) (a .misspelled) (b .misspelled) (sym (a .lines) ∙ b .lines) .0 in
+    a .line ∙ ap (λ (P : List Statement). lineAt (length P)) e ∙ sym (b .line)
 
 -- of two first places neither comes before the other
 broken-before : {C : ℕ → ℕ → Statement → Type 0} {t : List ℕ} {m n : ℕ} (a : FirstBroken C t m) (b : FirstBroken C t n) → a .P ≡ b .P → a .s < b .s → ⊥
@@ -44,7 +28,7 @@ broken-unique : {C : ℕ → ℕ → Statement → Type 0} {t : List ℕ} {m n :
 broken-unique a b = a .line ∙ ap lineAt (go (ltb (a .s) (b .s)) refl (ltb (b .s) (a .s)) refl) ∙ sym (b .line)
   where
     e : a .P ≡ b .P
-    e = text-unique (a .P) (b .P) (a .spells .valid) (b .spells .valid) (sym (a .spells .lines) ∙ b .spells .lines)
+    e = spells-unique statements-unambiguous (a .spells) (b .spells)
 
     go : (p : Bool) → ltb (a .s) (b .s) ≡ p → (q : Bool) → ltb (b .s) (a .s) ≡ q → a .s ≡ b .s
     go true i q j = absurd (broken-before a b e (ltb-true (a .s) (b .s) i))

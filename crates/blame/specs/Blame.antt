@@ -1,8 +1,9 @@
 -- Which line of a program's text a refusal is about.
 use mathlib.Core.Path.{_≡_}
-use mathlib.Core.List.{List, _∷_, _++_}
+use mathlib.Core.List.{List, _++_}
 use Prim.Native.Nat.{ℕ, _+_, _<_, min}
 use lib.ListN.{length}
+use Rattle.lines.specs.Lines.{NoLine}
 use Rattle.language.specs.Spelling.{spell, Valid}
 use Rattle.language.specs.declared.Statement.{Statement}
 use Rattle.program.specs.Program.{text, AllValid, Spells, at, InPlace, Targets}
@@ -24,7 +25,7 @@ pub record FirstMisspelled (t : List ℕ) (n : ℕ) : Type 0 where
   pub lines : t ≡ text P ++ rest
   pub valid : AllValid P
   pub more : 0 < length rest
-  pub misspelled : (i : Statement) (after : List ℕ) → Valid i → rest ≡ spell i ++ 10 ∷ after → ⊥
+  pub misspelled : NoLine spell Valid rest
   pub line : n ≡ lineAt (length P)
 
 -- line n has the first statement of which the claim fails, a claim about the number of statements, a place and the statement there

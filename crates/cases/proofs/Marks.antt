@@ -4,6 +4,7 @@ use mathlib.Core.List.{List, [], _∷_, _++_, append-assoc, append-nil}
 use Prim.Native.Nat.{ℕ, zero, suc, _≤_}
 use native.Mathlib.Omega.{arith}
 use lib.ListN.{length}
+use Rattle.lines.specs.Lines as lines
 use Rattle.tokens.specs.Parsing.{Parsed, found, after, afterOr, parseWord, digitOf, parseDigits, parseZero, parseNumber, parseVariable}
 use Rattle.statement_reader.specs.Parsing.{parseOperand, parseOperator, parseExpression}
 use Rattle.tokens.proofs.Parse.{after-inv, afterOr-inv}
@@ -31,11 +32,11 @@ record Begin (n : ℕ) (t : List ℕ) (ms : List Mark) (u : List ℕ) : Type 0 w
   few : length ms ≤ n
 
 marks-none : (n : ℕ) (t : List ℕ) → Begin n t [] t
-unfolding text
+unfolding lines.text
 marks-none n t = record { lines = refl; valid = tt; few = omega arith }
 
 marks-sound : (n : ℕ) (t : List ℕ) (ms : List Mark) (u : List ℕ) → parseMarks n t ≡ found ms u → Begin n t ms u
-unfolding parseMarks text
+unfolding parseMarks lines.text
 marks-sound zero t ms u e =
     let p : [] ≡ ms = cc in
     let q : t ≡ u = cc in

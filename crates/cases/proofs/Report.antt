@@ -3,11 +3,12 @@ use mathlib.Core.Path.{_≡_, sym, ap, _∙_}
 use mathlib.Core.List.{List, []}
 use Prim.Native.Nat.{ℕ}
 use lib.ListN.{length}
+use Rattle.lines.specs.Lines as lines
 use Rattle.language.specs.declared.Statement.{Statement}
 use Rattle.language.specs.Spelling.{digitsBy, digits, spellVariable, spellOperand, spellExpression, spell}
 use Rattle.tokens.specs.Parsing.{Parsed, found, after}
 use Rattle.tokens.proofs.Parse.{after-inv}
-use Rattle.program.specs.Program.{text, WellFormed, Taken}
+use Rattle.program.specs.Program.{WellFormed, Taken}
 use Rattle.bits.specs.Row.{countBelow}
 use Rattle.marks.specs.declared.Mark.{Mark}
 use Rattle.marks.specs.Reading.{most}
@@ -19,7 +20,7 @@ use Rattle.cases.proofs.Made.{made, made-rewritten}
 module _ (P : List Statement) (w : WellFormed P) where
   -- what is printed for the marks
   unfoldable pub reported : List Mark → List ℕ
-  unfolding verdictsFrom made countBelow reportText countsLine verdictLines verdictLine text spell spellExpression spellOperand spellVariable digits digitsBy
+  unfolding verdictsFrom made countBelow reportText countsLine verdictLines verdictLine lines.text spell spellExpression spellOperand spellVariable digits digitsBy
   reported ms = let vs = verdictsFrom P w [] ms in reportText ms vs (made P ms vs (length ms))
 
   -- for the marks that the text u begins with, and what follows them

@@ -4,6 +4,7 @@ use mathlib.Core.List.{List, [], _∷_, _++_, append-assoc}
 use Prim.Native.Nat.{ℕ, _≤_}
 use native.Mathlib.Omega.{arith}
 use lib.ListN.{length, drop}
+use Rattle.lines.proofs.Texts.{Unambiguous}
 use Rattle.language.specs.declared.Operand.{Operand}
 use Rattle.language.specs.declared.Expression.{Expression}
 use Rattle.language.specs.Spelling.{digits, spellVariable, ValidVariable, spellOperand, ValidOperand, spellExpression, ValidExpression}
@@ -61,11 +62,14 @@ unfolding parseMarkLine parseWord
 line-complete m rest v = rw (mark-complete m (10 ∷ rest) v)
 
 -- lines that begin a text in two ways are one mark's line
-pub mark-unique : (m o : Mark) (t u : List ℕ) → ValidMark m → ValidMark o → spellMark m ++ 10 ∷ t ≡ spellMark o ++ 10 ∷ u → (m ≡ o) × (t ≡ u)
+mark-unique : (m o : Mark) (t u : List ℕ) → ValidMark m → ValidMark o → spellMark m ++ 10 ∷ t ≡ spellMark o ++ 10 ∷ u → (m ≡ o) × (t ≡ u)
 mark-unique m o t u v w e =
     let a = line-complete m t v in
     let b = line-complete o u w in
     (cc, cc)
+
+pub marks-unambiguous : Unambiguous spellMark ValidMark
+marks-unambiguous = record { same = mark-unique }
 
 -- what is read is what is spelled: past the number and `mark(`, with a sound reader of E or A; the last argument goes on with it
 tail-sound : {A C : Type 0} (w : List ℕ) (p : List ℕ → Parsed A) (spelt : A → List ℕ) (Good : A → Type 0)

@@ -1,33 +1,33 @@
 -- Marks and how a list of them is spelled: document 01, "Marks".
-use mathlib.Core.Path.{_≡_}
 use mathlib.Core.List.{List, [], _∷_, _++_}
 use Prim.Native.Nat.{ℕ}
 use lib.ListN.{getD}
+use Rattle.base.specs.Bytes.{bytes}
+use Rattle.lines.specs.Lines as lines
 use Rattle.language.specs.Spelling.{spellStatementNumber, ValidStatementNumber, spellVariable, ValidVariable, spellOperand, ValidOperand, spellExpression, ValidExpression}
 use Rattle.language.specs.declared.Expression.the-variants.{Single}
 use Rattle.language.specs.declared.Operand.the-variants.{Constant}
 use Rattle.marks.specs.declared.Mark.{Mark}
 use Rattle.marks.specs.declared.Mark.the-variants.{Rm, Rpl}
 
--- `: mark(`, `rm, `, `rpl, ` and `, ` as bytes
 abbrev pub mark-word : List ℕ
-mark-word = 58 ∷ 32 ∷ 109 ∷ 97 ∷ 114 ∷ 107 ∷ 40 ∷ []
+mark-word = bytes ": mark("
 
 abbrev pub rm-word : List ℕ
-rm-word = 114 ∷ 109 ∷ 44 ∷ 32 ∷ []
+rm-word = bytes "rm, "
 
 abbrev pub rpl-word : List ℕ
-rpl-word = 114 ∷ 112 ∷ 108 ∷ 44 ∷ 32 ∷ []
+rpl-word = bytes "rpl, "
 
 abbrev pub comma-word : List ℕ
-comma-word = 44 ∷ 32 ∷ []
+comma-word = bytes ", "
 
 -- "`n: mark(rm, X, E)` or `n: mark(rpl, X, A)`": a mark's line without its byte 10
 unfoldable pub spellMark : Mark → List ℕ
 spellMark (Rm n x e) =
-    spellStatementNumber n ++ (mark-word ++ (rm-word ++ (spellVariable x ++ (comma-word ++ (spellExpression e ++ 41 ∷ [])))))
+    spellStatementNumber n ++ (mark-word ++ (rm-word ++ (spellVariable x ++ (comma-word ++ (spellExpression e ++ bytes ")")))))
 spellMark (Rpl n x a) =
-    spellStatementNumber n ++ (mark-word ++ (rpl-word ++ (spellVariable x ++ (comma-word ++ (spellOperand a ++ 41 ∷ [])))))
+    spellStatementNumber n ++ (mark-word ++ (rpl-word ++ (spellVariable x ++ (comma-word ++ (spellOperand a ++ bytes ")")))))
 
 -- what it names lies in its range
 abbrev pub ValidMark : Mark → Type 0
@@ -35,18 +35,15 @@ ValidMark (Rm n x e) = ValidStatementNumber n × ValidVariable x × ValidExpress
 ValidMark (Rpl n x a) = ValidStatementNumber n × ValidVariable x × ValidOperand a
 
 -- "lines, each ended by byte 10"
-unfoldable pub text : List Mark → List ℕ
-text [] = []
-text (m ∷ ms) = spellMark m ++ 10 ∷ text ms
+abbrev pub text : List Mark → List ℕ
+text ms = lines.text spellMark ms
 
 abbrev pub AllValid : List Mark → Type 0
-AllValid [] = Unit
-AllValid (m ∷ ms) = ValidMark m × AllValid ms
+AllValid ms = lines.AllValid ValidMark ms
 
 -- the text t is the lines of the valid marks ms
-pub record Spells (t : List ℕ) (ms : List Mark) : Type 0 where
-  pub lines : t ≡ text ms
-  pub valid : AllValid ms
+abbrev pub Spells : List ℕ → List Mark → Type 0
+Spells t ms = lines.Spells spellMark ValidMark t ms
 
 -- the number of the statement that a mark names
 abbrev pub names : Mark → ℕ

@@ -3,6 +3,7 @@
 use mathlib.Core.List.{List, [], _∷_}
 use Prim.Native.Nat.{ℕ}
 use lib.ListN.{drop}
+use Rattle.base.specs.Bytes.{bytes}
 use Rattle.tokens.specs.Parsing.{Parsed, found, misspelled, after, either, parseWord, parseStatementNumber, parseVariable}
 use Rattle.statement_reader.specs.Parsing.{parseOperand, parseExpression}
 use Rattle.marks.specs.Marks.{mark-word, rm-word, rpl-word, comma-word}
@@ -24,7 +25,7 @@ unfoldable pub parseTail : {A : Type 0} → List ℕ → (List ℕ → Parsed A)
 parseTail w p f l =
     after (parseFront w l) λ x t.
     after (p t) λ a u.
-    after (parseWord (41 ∷ []) u) λ _ v.
+    after (parseWord (bytes ")") u) λ _ v.
     found (f x a) v
 
 abbrev pub parseRm : ℕ → List ℕ → Parsed Mark

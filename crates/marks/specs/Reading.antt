@@ -1,8 +1,9 @@
 -- Which refusal a list of marks gets, and what it means that a line and that a list were read right.
 use mathlib.Core.Path.{_≡_}
-use mathlib.Core.List.{List, _∷_, _++_}
+use mathlib.Core.List.{List}
 use Prim.Native.Nat.{ℕ, _≤_, _<_}
 use lib.ListN.{length, drop}
+use Rattle.lines.specs.Lines as lines
 use Rattle.marks.specs.Marks.{spellMark, ValidMark, Spells}
 use Rattle.marks.specs.declared.Mark.{Mark}
 use Rattle.marks.specs.declared.Refusal.{Refusal}
@@ -12,16 +13,10 @@ use Rattle.marks.specs.declared.Checked.the-variants as checked
 use Rattle.marks.specs.declared.read.MarkRead.{MarkRead}
 use Rattle.marks.specs.declared.read.MarkRead.the-variants as markRead
 
--- the valid mark m is the line of the text s that begins at `at` and ends, its byte 10 included, before k
-pub record LineOf (s : List ℕ) (at : ℕ) (m : Mark) (k : ℕ) : Type 0 where
-  pub stands : drop at s ≡ spellMark m ++ 10 ∷ drop k s
-  pub within : k ≤ length s
-  pub valid : ValidMark m
-
--- found: that mark's line stands there; misspelled: no valid mark's line does
+-- found: the valid mark m has the line from `at` to k; misspelled: no valid mark's line stands there
 abbrev pub MarkLineRead : List ℕ → ℕ → MarkRead → Type 0
-MarkLineRead s at (markRead.Found m k) = LineOf s at m k
-MarkLineRead s at markRead.Misspelled = (m : Mark) (rest : List ℕ) → ValidMark m → drop at s ≡ spellMark m ++ 10 ∷ rest → ⊥
+MarkLineRead s at (markRead.Found m k) = lines.LineOf spellMark ValidMark s at m k
+MarkLineRead s at markRead.Misspelled = lines.NoLine spellMark ValidMark (drop at s)
 
 -- "Zero to 256 lines"
 abbrev pub most : ℕ

@@ -1,11 +1,12 @@
 -- The statements that the code's value of a program holds, and what is known of each. Assumes nothing.
-use mathlib.Core.Path.{_≡_, refl, ap, sym, _∙_}
+use mathlib.Core.Path.{_≡_, refl, ap, _∙_}
 use mathlib.Core.List.{List, [], _∷_, map}
 use Prim.Native.Nat.{ℕ, zero, suc, _+_, _≤_, _<_}
 use native.Mathlib.Omega.{arith}
 use borrow.Author.Count.{below-more}
 use lib.ListN.{length, take, getD, length-take, length-map, List·getD-map}
 use lib.Seq.{getD-take, length-take-le}
+use Rattle.lines.proofs.Texts.{valid-at}
 use Rattle.language.specs.Spelling.{Valid}
 use Rattle.language.specs.declared.Statement.{Statement}
 use Rattle.language.specs.declared.Statement.the-variants.{Read, Write, Assign, Branch, Skip}
@@ -20,9 +21,7 @@ getD-within (a ∷ l) zero d e h = refl
 getD-within (a ∷ l) (suc i) d e h = getD-within l i d e (omega arith)
 
 pub at-valid : (P : List Statement) (s : ℕ) → AllValid P → s < length P → Valid (at P s)
-at-valid [] s v h = absurd (omega arith)
-at-valid (x ∷ P) zero v h = v .0
-at-valid (x ∷ P) (suc s) v h = at-valid P s (v .1) (omega arith)
+at-valid P s v h = valid-at Valid P s Skip v h
 
 pub targets-wider : (n m : ℕ) (x : Statement) → n ≤ m → Targets n x → Targets m x
 targets-wider n m (Read x) l t = tt

@@ -1,101 +1,36 @@
--- Lines after lines: what a text says while it is read. Assumes nothing.
-use mathlib.Core.Path.{_≡_, refl, ap, ap₂, sym, _∙_}
-use mathlib.Core.List.{List, [], _∷_, _++_, map, append-assoc, append-nil}
+-- A program's text is lines, each told by the reader of a line, and what is known once all are read. Assumes nothing.
+use mathlib.Core.Path.{_≡_, refl, sym, _∙_}
+use mathlib.Core.List.{List, [], _∷_, _++_, map}
 use mathlib.Core.Bool.{Bool, true, false}
-use Prim.Native.Nat.{ℕ, zero, suc, _+_, _-_, _≤_, _<_}
+use Prim.Native.Nat.{ℕ, _+_, _≤_, _<_}
 use native.Mathlib.Omega.{arith}
 use native.Mathlib.Numerals.{add-one}
-use lib.ListN.{length, take, drop, set, length-append, length-drop, length-map, drop-of-length-le, take-append-drop}
-use lib.Seq.{take-all, take-suc, take-suc-set, take-append-le}
+use lib.ListN.{length, take, drop, set, length-append, length-map}
+use lib.Seq.{take-all, take-suc-set, take-append-le}
+use Rattle.lines.specs.Lines.{LineOf, NoLine}
+use Rattle.lines.proofs.Texts.{Unambiguous}
 use Rattle.language.specs.Spelling.{spell, Valid}
 use Rattle.statement_reader.specs.Reading.{LineRead}
 use Rattle.language.specs.declared.Statement.{Statement}
-use Rattle.language.specs.declared.Statement.the-variants.{Skip}
 use Rattle.statement_reader.specs.declared.StatementRead.{StatementRead}
 use Rattle.statement_reader.specs.declared.StatementRead.the-variants.{Found, Misspelled}
 use Rattle.statement_reader.proofs.Lines.{line-unique}
 use Rattle.program.specs.declared.Entry.{Entry}
 use Rattle.program.specs.declared.Refusal.{Refusal}
-use Rattle.program.specs.Program.{at, text, AllValid, Spells, fewest, most, Counted, Placed, Aimed, Taken}
+use Rattle.program.specs.Program.{Spells, fewest, most, Counted, Placed, Aimed, Taken}
 use Rattle.program.specs.Reading.{Refused, entry, statementIn, Kept, LinesRead}
 use Rattle.program.proofs.Held.{statements-entries}
 
-pub text-append : (P Q : List Statement) → text (P ++ Q) ≡ text P ++ text Q
-unfolding text
-text-append [] Q = refl
-text-append (s ∷ P) Q = rw (text-append P Q) (sym (append-assoc (spell s) (10 ∷ text P) (text Q)))
+-- the line of a statement at the front of a text is that of one valid statement only
+pub statements-unambiguous : Unambiguous spell Valid
+statements-unambiguous = record { same = line-unique }
 
-pub valid-append : (P Q : List Statement) → AllValid P → AllValid Q → AllValid (P ++ Q)
-valid-append [] Q v w = w
-valid-append (s ∷ P) Q v w = (v .0, valid-append P Q (v .1) w)
+-- what the reader of a line told
+pub line-of : {t : List ℕ} {at : ℕ} {r : StatementRead} {s : Statement} {k : ℕ} → r ≡ Found s k → LineRead t at r → LineOf spell Valid t at s k
+line-of is l = rw is at l
 
--- one line more of a program's text
-pub text-more : (P : List Statement) (s : ℕ) → s < length P → text (take (s + 1) P) ≡ text (take s P) ++ (spell (at P s) ++ 10 ∷ [])
-unfolding text
-text-more P s h = rw (add-one, take-suc P s Skip h) (text-append (take s P) (at P s ∷ []))
-
-pub text-take : (P : List Statement) (s : ℕ) → length (text (take s P)) ≤ length (text P)
-text-take P s =
-    let e : length (text P) ≡ length (text (take s P)) + length (text (drop s P)) =
-    ap (λ (Q : List Statement). length (text Q)) (sym (take-append-drop s P)) ∙ rw (text-append (take s P) (drop s P)) (length-append (text (take s P)) (text (drop s P))) in
-    omega arith
-
--- a text that begins with lines is those lines and further lines
-pub text-rest : (P Q : List Statement) (rest : List ℕ) → AllValid P → AllValid Q → text Q ≡ text P ++ rest
-    → (R : List Statement) × (Q ≡ P ++ R) × (rest ≡ text R) × AllValid R
-unfolding text
-text-rest [] Q rest v w e = (Q, refl, sym e, w)
-text-rest (s ∷ P) [] rest v w e =
-    let f : 0 ≡ length (spell s) + (1 + length (text P)) + length rest = ap length e ∙ simp length-append (omega arith) in
-    absurd (omega arith)
-text-rest (s ∷ P) (r ∷ Q) rest v w e =
-    let g : spell r ++ 10 ∷ text Q ≡ spell s ++ 10 ∷ (text P ++ rest) = e ∙ append-assoc (spell s) (10 ∷ text P) rest in
-    let u = line-unique r s (text Q) (text P ++ rest) (w .0) (v .0) g in
-    let q = text-rest P Q rest (v .1) (w .1) (u .1) in
-    (q .0, ap₂ _∷_ (u .0) (q .1), q .2, q .3)
-
--- a text has the lines of one list of valid statements only
-pub text-unique : (P Q : List Statement) → AllValid P → AllValid Q → text P ≡ text Q → P ≡ Q
-unfolding text
-text-unique P Q v w e = go (text-rest P Q [] v w (sym e ∙ sym (append-nil (text P))))
-  where
-    empty : (R : List Statement) → [] ≡ text R → R ≡ []
-    empty [] f = refl
-    empty (r ∷ R) f =
-        let z : 0 ≡ length (spell r) + (1 + length (text R)) = ap length f ∙ simp length-append (omega arith) in
-        absurd (omega arith)
-
-    go : (R : List Statement) × (Q ≡ P ++ R) × ([] ≡ text R) × AllValid R → P ≡ Q
-    go q = sym (q .1 ∙ rw (empty (q .0) (q .2)) (append-nil P))
-
--- what is read at a position of a text that begins with the lines P
-module _ (t : List ℕ) (P : List Statement) (at : ℕ) (valid : AllValid P) (front : t ≡ text P ++ drop at t) where
-  -- no line stands there, so no lines are the text
-  pub no-lines : (r : StatementRead) → r ≡ Misspelled → LineRead t at r → at < length t → (Q : List Statement) → Spells t Q → ⊥
-  unfolding text
-  no-lines r is l h Q q =
-      let z = text-rest P Q (drop at t) valid (q .valid) (sym (q .lines) ∙ front) in
-      go (z .0) (z .2) (z .3)
-    where
-      go : (R : List Statement) → drop at t ≡ text R → AllValid R → ⊥
-      go [] f w = let e : length t - at ≡ 0 = sym (length-drop at t) ∙ ap length f in omega arith
-      go (s ∷ R) f w = (rw is at l) s (text R) (w .0) f
-
-  module _ (r : StatementRead) (s : Statement) (k : ℕ) (is : r ≡ Found s k) (l : LineRead t at r) where
-    -- a line is shorter by at least its byte 10
-    pub line-shorter : length t - k < length t - at
-    line-shorter =
-        let f = ap length ((rw is at l) .stands) in
-        let g : length t - at ≡ length (spell s) + suc (length t - k) = simp (length-append, length-drop) at f in
-        omega arith
-
-    pub one-more : t ≡ text (P ++ s ∷ []) ++ drop k t
-    unfolding text
-    one-more =
-        front ∙ ap (λ (u : List ℕ). text P ++ u) ((rw is at l) .stands) ∙ rw (text-append P (s ∷ [])) (simp append-assoc)
-
-    pub one-more-valid : AllValid (P ++ s ∷ [])
-    one-more-valid = valid-append P (s ∷ []) valid ((rw is at l) .valid, tt)
+pub no-line : (t : List ℕ) (at : ℕ) {r : StatementRead} → r ≡ Misspelled → LineRead t at r → NoLine spell Valid (drop at t)
+no-line t at is l = rw is at l
 
 map-append : (P Q : List Statement) → map entry (P ++ Q) ≡ map entry P ++ map entry Q
 map-append [] Q = refl

@@ -1,18 +1,19 @@
 -- A text gets one refusal only, and none where it is taken. Assumes nothing.
-use mathlib.Core.Path.{_≡_, refl, sym, _∙_}
+use mathlib.Core.Path.{_≡_, refl}
 use mathlib.Core.List.{List}
 use Prim.Native.Nat.{ℕ}
+use Rattle.lines.proofs.Texts.{spells-unique}
 use Rattle.language.specs.declared.Statement.{Statement}
 use Rattle.program.specs.Program.{Spells, Taken}
 use Rattle.program.specs.Reading.{Refused}
 use Rattle.program.specs.declared.Refusal.{Refusal}
 use Rattle.program.specs.declared.Refusal.the-variants.{Misspelled, LineCount, Placement, Target}
-use Rattle.program.proofs.Texts.{text-unique}
+use Rattle.program.proofs.Texts.{statements-unambiguous}
 use Rattle.program.proofs.RoundTrip.{program-taken}
 
 module _ (t : List ℕ) where
   spelled-unique : {P Q : List Statement} → Spells t P → Spells t Q → P ≡ Q
-  spelled-unique {P = P} {Q = Q} a b = text-unique P Q (a .valid) (b .valid) (sym (a .lines) ∙ b .lines)
+  spelled-unique a b = spells-unique statements-unambiguous a b
 
   pub refused-unique : (r s : Refusal) → Refused t r → Refused t s → r ≡ s
   refused-unique Misspelled Misspelled a b = refl

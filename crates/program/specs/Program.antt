@@ -1,25 +1,23 @@
 -- What a program is and what its text is: document 01, "The statement language".
 use mathlib.Core.Path.{_≡_}
-use mathlib.Core.List.{List, [], _∷_, _++_}
+use mathlib.Core.List.{List}
 use Prim.Native.Nat.{ℕ, _+_, _≤_, _<_}
 use lib.ListN.{length, getD}
+use Rattle.lines.specs.Lines as lines
 use Rattle.language.specs.Spelling.{spell, Valid}
 use Rattle.language.specs.declared.Statement.{Statement}
 use Rattle.language.specs.declared.Statement.the-variants.{Read, Write, Assign, Branch, Skip}
 
 -- "one statement a line, each line ended by byte 10"
-unfoldable pub text : List Statement → List ℕ
-text [] = []
-text (s ∷ P) = spell s ++ 10 ∷ text P
+abbrev pub text : List Statement → List ℕ
+text P = lines.text spell P
 
 abbrev pub AllValid : List Statement → Type 0
-AllValid [] = Unit
-AllValid (s ∷ P) = Valid s × AllValid P
+AllValid P = lines.AllValid Valid P
 
 -- the text t is the lines of the valid statements P
-pub record Spells (t : List ℕ) (P : List Statement) : Type 0 where
-  pub lines : t ≡ text P
-  pub valid : AllValid P
+abbrev pub Spells : List ℕ → List Statement → Type 0
+Spells t P = lines.Spells spell Valid t P
 
 -- "N is their count, 2 to 256"
 abbrev pub fewest : ℕ

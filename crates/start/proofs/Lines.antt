@@ -1,13 +1,14 @@
 -- Lines after lines: what the text of a start says while it is read. Assumes nothing.
 use mathlib.Core.Path.{_≡_, refl, ap, sym, _∙_}
-use mathlib.Core.Logic.{_⊎_, inl, inr, ⊎-elim}
-use mathlib.Core.List.{List, [], _∷_, _++_, append-assoc, append-nil}
-use Prim.Native.Nat.{ℕ, zero, suc, _+_, _-_, _≤_, _<_}
+use mathlib.Core.List.{List, [], _∷_, _++_, append-assoc}
+use Prim.Native.Nat.{ℕ, suc, _+_, _-_, _≤_, _<_}
 use native.Mathlib.Decide.{decLt}
 use native.Mathlib.Omega.{arith}
 use lib.ListN.{length, getD, set, drop, length-append, length-drop, length-set, length-replicate, replicate, getD-replicate, drop-of-length-le, List·getD-append, List·getD-eq-default}
 use borrow.Author.Count.{below-more}
 use lib.Seq.{getD-set-same, getD-set-other, getD-append-seam}
+use Rattle.lines.specs.Lines.{LineOf}
+use Rattle.lines.proofs.Walk.{line-further}
 use Rattle.tokens.specs.declared.NumberRead.{NumberRead}
 use Rattle.tokens.specs.declared.NumberRead.the-variants.{Found, Misspelled}
 use Rattle.start.specs.Start.{spellLine, RightLine, startLines, AllRight, fewest, most, Begins, StartTaken, WrongLine, LineRead}
@@ -68,17 +69,17 @@ module _ {t ns : List ℕ} {at k : ℕ} (i : SoFar t ns at k) where
         }
 
     module _ {v next : ℕ} (is : r ≡ Found v next) (l : LineRead t at k r) where
+      here : LineOf (spellLine k) (RightLine k) t at v next
+      here = rw is at l
+
       pub further : length t - next < length t - at
-      further =
-          let f = ap length ((rw is at l) .stands) in
-          let g : length t - at ≡ length (spellLine k v) + suc (length t - next) = simp (length-append, length-drop) at f in
-          omega arith
+      further = line-further here
 
       pub one-more : (k ≡ most → ⊥) → SoFar t (set ns k v) next (k + 1)
       one-more m =
           record {
             ls = i .ls ++ v ∷ [];
-            begins = record { lines = text; right = right-append 0 (i .ls) v (i .begins .right) (rw (← n) ((rw is at l) .right)) };
+            begins = record { lines = text; right = right-append 0 (i .ls) v (i .begins .right) (rw (← n) (here .valid)) };
             counted = omega (arith, i .counted, length-append (i .ls) (v ∷ []));
             few = omega (arith, i .few);
             room = length-set ns k v ∙ i .room;
@@ -90,7 +91,7 @@ module _ {t ns : List ℕ} {at k : ℕ} (i : SoFar t ns at k) where
 
           text : t ≡ startLines 0 (i .ls ++ v ∷ []) ++ drop next t
           text =
-              i .begins .lines ∙ ap (λ (u : List ℕ). startLines 0 (i .ls) ++ u) ((rw is at l) .stands)
+              i .begins .lines ∙ ap (λ (u : List ℕ). startLines 0 (i .ls) ++ u) (here .stands)
               ∙ rw (lines-append 0 (i .ls) v, ← n) (simp append-assoc)
 
           held : (j : ℕ) → Dec (j < k) → Dec (k < j) → getD (set ns k v) j 0 ≡ getD (i .ls ++ v ∷ []) j 0

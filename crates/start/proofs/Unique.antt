@@ -2,14 +2,16 @@
 use mathlib.Core.Path.{_≡_, refl, ap, sym, _∙_}
 use mathlib.Core.List.{List, [], _∷_, _++_, append-assoc}
 use mathlib.Core.Bool.{Bool, true, false}
-use Prim.Native.Nat.{ℕ, zero, suc, _+_, _≤_, _<_}
+use Prim.Native.Nat.{ℕ, suc, _+_, _≤_, _<_}
 use native.Mathlib.Omega.{arith}
 use lib.Dec.{ltb, eqb}
-use lib.ListN.{length, getD, length-append}
+use lib.ListN.{length, getD}
 use lib.Seq.{ext-getD}
 use borrow.Author.Tests.{lt-ltb, le-ltb, eq-eqb, ne-eqb}
+use Rattle.lines.specs.Lines.{NoLine}
+use Rattle.lines.proofs.Texts.{no-line-empty}
 use Rattle.tokens.specs.Parsing.{found}
-use Rattle.start.specs.Start.{spellLine, RightLine, startLines, AllRight, fewest, most, Begins, StartTaken, WrongLine, Nothing, StartRead}
+use Rattle.start.specs.Start.{spellLine, RightLine, startLines, AllRight, fewest, most, Begins, StartTaken, Nothing, StartRead}
 use Rattle.start.specs.Parsing.{parseStartLine}
 use Rattle.start.specs.declared.Answer.{Answer}
 use Rattle.start.specs.declared.Answer.the-variants.{Taken, Few, Many, Line}
@@ -22,7 +24,7 @@ line-unique k v w r s a b e =
 
 -- no right line follows n lines
 abbrev Stuck : ℕ → List ℕ → Type 0
-Stuck n rest = n < most → (v : ℕ) (u : List ℕ) → RightLine n v → rest ≡ spellLine n v ++ 10 ∷ u → ⊥
+Stuck n rest = n < most → NoLine (spellLine n) (RightLine n) rest
 
 lines-unique : (k : ℕ) (ls ms rest other : List ℕ) → AllRight k ls → AllRight k ms → k + length ls ≤ most → k + length ms ≤ most
     → Stuck (k + length ls) rest → Stuck (k + length ms) other → startLines k ls ++ rest ≡ startLines k ms ++ other → (ls ≡ ms) × (rest ≡ other)
@@ -61,9 +63,7 @@ record Settled (t : List ℕ) (a : Answer) : Type 0 where
 
 -- after the last byte no line follows
 ended : (n : ℕ) → Stuck n []
-ended n h v u r e =
-    let z : 0 ≡ length (spellLine n v) + suc (length u) = ap length e ∙ length-append (spellLine n v) (10 ∷ u) in
-    omega arith
+ended n h = no-line-empty (spellLine n) (RightLine n)
 
 settled : {t : List ℕ} (a : Answer) (input budget : ℕ) (vs : List ℕ) → StartRead t a input budget vs → Settled t a
 unfolding answerFor
@@ -86,7 +86,7 @@ settled (Line n) input budget vs h =
       rest = h .0 .rest;
       begins = h .0 .begins;
       few = omega (arith, h .0 .counted, h .0 .within);
-      stuck = λ l v u r e. h .0 .wrong v u r e;
+      stuck = λ l. h .0 .wrong;
       is =
           rw (ne-eqb (length (h .0 .rest)) 0 (λ e. omega (arith, e, h .0 .some)), ne-eqb (length (h .0 .ls)) most (λ e. omega (arith, e, h .0 .counted, h .0 .within)))
           (ap Line (h .0 .counted));

@@ -2,7 +2,7 @@
 use mathlib.Core.Path.{_≡_, refl, ap, sym, _∙_}
 use mathlib.Core.List.{List, [], _∷_, _++_}
 use mathlib.Core.Bool.{Bool, true, false}
-use Prim.Native.Nat.{ℕ, suc, _+_, _-_, _^_, _≤_, _<_}
+use Prim.Native.Nat.{ℕ, suc, _-_, _^_, _≤_, _<_}
 use native.Mathlib.Decide.{decLt}
 use native.Mathlib.Omega.{arith}
 use lib.Dec.{ltb, eqb}
@@ -10,7 +10,7 @@ use lib.ListN.{length, drop}
 use borrow.Author.Tests.{lt-ltb, le-ltb, ltb-true}
 use Rattle.language.specs.Spelling.{largest, digits, digitsBy}
 use Rattle.base.specs.Pick.{pick}
-use Rattle.tokens.specs.Parsing.{Parsed, found, misspelled, after, afterOr, where?, either, parseWord, digitOf, parseDigits, parseNumber, parsedNumber, numberEnd}
+use Rattle.tokens.specs.Parsing.{found, misspelled, after, where?, parseWord, digitOf, parseDigits, parseNumber, parsedNumber, numberEnd}
 use Rattle.tokens.specs.declared.NumberRead.{NumberRead}
 use Rattle.tokens.specs.declared.NumberRead.the-variants.{Found, Misspelled}
 use Rattle.tokens.proofs.Numbers.{NoDigit, number-sound, number-complete}
@@ -128,7 +128,7 @@ line-complete k v rest r = rw (field-complete k v (10 ∷ rest) r refl)
 
 -- a reader that finds what `parseStartLine` finds reads the line right
 pub line-right : (s : List ℕ) (at k : ℕ) (r : NumberRead) → numberEnd r ≤ length s → parsedNumber s r ≡ parseStartLine k (drop at s) → LineRead s at k r
-line-right s at k (Found v next) b e = let l = line-sound k (drop at s) v (drop next s) (sym e) in record { stands = l .0; within = b; right = l .1 }
+line-right s at k (Found v next) b e = let l = line-sound k (drop at s) v (drop next s) (sym e) in record { stands = l .0; within = b; valid = l .1 }
 line-right s at k Misspelled b e = λ v u w p.
     let f : misspelled ≡ found v u = e ∙ ap (parseStartLine k) p ∙ line-complete k v u w in
     let z : _≡_ {A = ℕ} 0 1 = cc in

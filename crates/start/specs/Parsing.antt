@@ -2,12 +2,13 @@
 use mathlib.Core.List.{List, [], _∷_}
 use Prim.Native.Nat.{ℕ, _-_, _^_}
 use lib.Dec.{ltb, eqb}
-use Rattle.tokens.specs.Parsing.{Parsed, found, misspelled, after, afterOr, where?, either, parseWord, parseNumber}
+use Rattle.base.specs.Bytes.{bytes}
+use Rattle.tokens.specs.Parsing.{Parsed, found, after, afterOr, where?, either, parseWord, parseNumber}
 use Rattle.base.specs.Pick.{pick}
 
 -- 2147483648, which is no constant
 abbrev pub least-word : List ℕ
-least-word = 50 ∷ 49 ∷ 52 ∷ 55 ∷ 52 ∷ 56 ∷ 51 ∷ 54 ∷ 52 ∷ 56 ∷ []
+least-word = bytes "2147483648"
 
 -- after a `-`
 unfoldable pub parseNegative : List ℕ → Parsed ℕ
@@ -17,7 +18,7 @@ parseNegative l =
     (after (parseWord least-word l) λ _ t. found (2 ^ 31) t)
 
 unfoldable pub parseSigned : List ℕ → Parsed ℕ
-parseSigned l = either (parseNumber l) (after (parseWord (45 ∷ []) l) λ _ t. parseNegative t)
+parseSigned l = either (parseNumber l) (after (parseWord (bytes "-") l) λ _ t. parseNegative t)
 
 unfoldable pub parseField : ℕ → List ℕ → Parsed ℕ
 parseField k l = pick (eqb k 1) (parseNumber l) (parseSigned l)

@@ -6,6 +6,7 @@ use lib.Dec.{eqb}
 use lib.ListN.{length, getD, drop, replicate}
 use mir.Syntax.{w32}
 use mir.Val.{toZ}
+use Rattle.lines.specs.Lines.{LineOf, NoLine}
 use Rattle.language.specs.Spelling.{variables, digits}
 use Rattle.base.specs.Pick.{pick}
 use Rattle.tokens.specs.declared.NumberRead.{NumberRead}
@@ -63,7 +64,7 @@ pub record WrongLine (t : List ℕ) (n : ℕ) : Type 0 where
   pub counted : n ≡ length ls + 1
   pub within : n ≤ most
   pub some : 0 < length rest
-  pub wrong : (v : ℕ) (u : List ℕ) → RightLine (length ls) v → rest ≡ spellLine (length ls) v ++ 10 ∷ u → ⊥
+  pub wrong : NoLine (spellLine (length ls)) (RightLine (length ls)) rest
 
 -- the start beside a refusal: all is 0
 pub record Nothing (input budget : ℕ) (values : List ℕ) : Type 0 where
@@ -79,13 +80,7 @@ StartRead t Many input budget values =
     (ls : List ℕ) × (rest : List ℕ) × Begins t ls rest × (length ls ≡ most) × (0 < length rest) × Nothing input budget values
 StartRead t (Line n) input budget values = WrongLine t n × Nothing input budget values
 
--- the text from `at` on is the right line k of the number v and then the text from `next` on
-pub record LineOf (s : List ℕ) (at k v next : ℕ) : Type 0 where
-  pub stands : drop at s ≡ spellLine k v ++ 10 ∷ drop next s
-  pub within : next ≤ length s
-  pub right : RightLine k v
-
--- misspelled: no right line stands there
+-- found: v has the right line k from `at` to next; misspelled: no right line k stands there
 abbrev pub LineRead : List ℕ → ℕ → ℕ → NumberRead → Type 0
-LineRead s at k (Found v next) = LineOf s at k v next
-LineRead s at k Misspelled = (v : ℕ) (u : List ℕ) → RightLine k v → drop at s ≡ spellLine k v ++ 10 ∷ u → ⊥
+LineRead s at k (Found v next) = LineOf (spellLine k) (RightLine k) s at v next
+LineRead s at k Misspelled = NoLine (spellLine k) (RightLine k) (drop at s)

@@ -5,6 +5,7 @@ use lib.Dec.{eqb}
 use lib.ListN.{getD}
 use mir.Syntax.{w32}
 use mir.Val.{toZ}
+use Rattle.base.specs.Bytes.{bytes}
 use Rattle.language.specs.Spelling.{variables, spellVariable, spell}
 use Rattle.base.specs.Pick.{pick}
 use Rattle.language.specs.declared.Statement.{Statement}
@@ -14,7 +15,7 @@ use Rattle.desk.specs.Columns.{spaces, wide, padded, signedDigits}
 
 -- `i3 = 9`: variable x has the 32 bits v
 unfoldable pub valueText : ℕ → ℕ → List ℕ
-valueText x v = spellVariable x ++ (32 ∷ 61 ∷ 32 ∷ signedDigits (toZ w32 v))
+valueText x v = spellVariable x ++ (bytes " = " ++ signedDigits (toZ w32 v))
 
 -- two spaces and the value in us, where it differs from that in vs
 unfoldable pub change : ℕ → List ℕ → List ℕ → List ℕ

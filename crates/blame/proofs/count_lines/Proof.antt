@@ -3,19 +3,22 @@ use Prim.Native.Nat.{_-_}
 use native.Mathlib.Omega.{arith}
 use lib.ListN.{length}
 use borrow.Author.Needs.{needs}
-use Rattle.blame.proofs.Lines.{SoFar, none-yet, whole, further, one-line}
+use Rattle.lines.proofs.Walk.{line-further}
+use Rattle.lines.proofs.Reading.{SoFar, none-yet, one-more, whole}
+use Rattle.language.specs.Spelling.{spell, Valid}
+use Rattle.program.proofs.Texts.{line-of}
 use Rattle.blame.proofs.Blames.{first-misspelled}
 use Rattle.blame.proofs.count_lines.Statement.{statement}
 use Rattle.blame.proofs.count_lines.Tie as tie
 
 abbrev Inv-loop : tie.InvT-loop
-Inv-loop s n₀ at₀ n at = SoFar s n at
+Inv-loop s n₀ at₀ n at = SoFar spell Valid s n at
 
 abbrev μ-loop : tie.MeasureT-loop
 μ-loop s n₀ at₀ n at = length s - at
 
 loop-holds : tie.Need-loop-holds Inv-loop μ-loop
-loop-holds c = none-yet _
+loop-holds c = none-yet spell Valid _
 
 returns : tie.Need-returns Inv-loop μ-loop
 returns c =
@@ -23,16 +26,16 @@ returns c =
     first-misspelled (l .before .before .loop .inv) (l .line .ensures) (c .before .enum-told .given .1) (l .before .loop-test .taken) (c .line-at .ensures)
 
 add-n : tie.Need-add-n Inv-loop μ-loop
-add-n c = let i = c .before .before .before .before .before .loop .inv in let p = i .paid in let f = further i (c .before .before .before .line .ensures) (c .before .k .given .1) in omega arith
+add-n c = omega (arith, c .before .before .before .before .before .loop .inv .paid)
 
 loop-less : tie.Need-loop-less Inv-loop μ-loop
-loop-less c = further (c .before .before .before .before .before .loop .inv) (c .before .before .before .line .ensures) (c .before .k .given .1)
+loop-less c = line-further (line-of (c .before .k .given .1) (c .before .before .before .line .ensures))
 
 loop-again : tie.Need-loop-again Inv-loop μ-loop
-loop-again c = one-line (c .before .before .before .before .before .loop .inv) (c .before .before .before .line .ensures) (c .before .k .given .1)
+loop-again c = one-more (c .before .before .before .before .before .loop .inv) (line-of (c .before .k .given .1) (c .before .before .before .line .ensures))
 
 returns-2 : tie.Need-returns-2 Inv-loop μ-loop
-returns-2 c = let i = c .before .loop .inv in (i .P, whole i (c .loop-test .left), i .counted)
+returns-2 c = let i = c .before .loop .inv in (i .read, whole i (c .loop-test .left), i .counted)
 
 pub count-lines-spec : {M : Type 1} → statement M
 count-lines-spec =

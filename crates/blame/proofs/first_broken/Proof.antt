@@ -5,9 +5,11 @@ use native.Mathlib.Omega.{arith}
 use lib.ListN.{length}
 use borrow.Author.Needs.{needs}
 use borrow.Author.Tests.{not-true, not-false}
+use Rattle.lines.proofs.Walk.{line-further}
+use Rattle.lines.proofs.Reading.{no-lines}
+use Rattle.program.proofs.Texts.{statements-unambiguous, line-of, no-line}
 use Rattle.base.proofs.Decides.{decided-true, decided-false}
 use Rattle.blame.specs.Blame.{broken, none}
-use Rattle.blame.proofs.Lines.{stuck, further}
 use Rattle.blame.proofs.Blames.{Good, good-none, good-more, none-broken, first-broken}
 use Rattle.blame.proofs.first_broken.Statement.{statement}
 use Rattle.blame.proofs.first_broken.Tie as tie
@@ -24,7 +26,8 @@ loop-holds c = good-none _ _ _
 returns : tie.Need-returns Inv-loop μ-loop
 returns c = λ P p e.
     let l = c .before .before .before in
-    absurd (stuck (l .before .before .loop .inv .so) (l .line .ensures) (c .before .enum-told .given .1) (l .before .loop-test .taken) P p)
+    let i = l .before .before .loop in
+    absurd (no-lines (i .inv .so) statements-unambiguous (no-line _ (i .at) (c .before .enum-told .given .1) (l .line .ensures)) (l .before .loop-test .taken) P p)
 
 returns-2 : tie.Need-returns-2 Inv-loop μ-loop
 returns-2 c = λ P p e.
@@ -34,17 +37,10 @@ returns-2 c = λ P p e.
     broken (first-broken (l .before .before .loop .inv) P p e (l .line .ensures) (k .before .before .e .given .1) b (c .line-at2 .ensures))
 
 add-s : tie.Need-add-s Inv-loop μ-loop
-add-s c =
-    let l = c .before .before .before .before .before in
-    let i = l .before .before .loop .inv .so in
-    let p = i .paid in
-    let f = further i (l .line .ensures) (c .before .before .before .e .given .1) in
-    omega arith
+add-s c = omega (arith, c .before .before .before .before .before .before .before .loop .inv .so .paid)
 
 loop-less : tie.Need-loop-less Inv-loop μ-loop
-loop-less c =
-    let l = c .before .before .before .before .before in
-    further (l .before .before .loop .inv .so) (l .line .ensures) (c .before .before .before .e .given .1)
+loop-less c = line-further (line-of (c .before .before .before .e .given .1) (c .before .before .before .before .before .line .ensures))
 
 loop-again : tie.Need-loop-again Inv-loop μ-loop
 loop-again c =

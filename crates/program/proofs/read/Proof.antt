@@ -1,5 +1,4 @@
 -- `read` meets its contract: at each return the tests on the way are those of the refusal that is answered. Assumes nothing.
-use mathlib.Core.Path.{_≡_}
 use native.Mathlib.Omega.{arith}
 use borrow.Author.Needs.{needs}
 use borrow.Author.Tests.{not-true, not-false}

@@ -1,29 +1,27 @@
 -- `read_lines` meets its contract. The invariant: the text up to the position is the lines of the valid statements read so far, of which
 -- the first 256 are kept. Assumes nothing.
-use mathlib.Core.Path.{_≡_, refl, ap, sym, _∙_}
-use mathlib.Core.List.{List, [], _∷_, _++_, map, append-nil}
+use mathlib.Core.Path.{_≡_, refl, ap, _∙_}
+use mathlib.Core.List.{List, map}
 use mathlib.Core.Logic.{⊎-elim}
-use Prim.Native.Nat.{ℕ, _+_, _-_, _≤_, _<_}
+use Prim.Native.Nat.{ℕ, _-_}
 use native.Mathlib.Omega.{arith}
 use borrow.Author.Needs.{needs}
-use lib.ListN.{length, take, drop, set, length-append, length-set, length-replicate, drop-of-length-le}
-use Rattle.language.specs.declared.Statement.{Statement}
+use lib.ListN.{length, take, length-set, length-replicate}
+use Rattle.lines.proofs.Walk.{line-further}
+use Rattle.lines.proofs.Reading as reading
+use Rattle.language.specs.Spelling.{spell, Valid}
 use Rattle.language.specs.declared.Statement.the-variants.{Skip}
 use Rattle.program.specs.declared.Entry.{Entry}
-use Rattle.program.specs.Program.{text, AllValid, most}
+use Rattle.program.specs.Program.{most}
 use Rattle.program.specs.Reading.{entry}
-use Rattle.program.proofs.Texts.{no-lines, line-shorter, one-more, one-more-valid, kept-more, kept-same}
+use Rattle.program.proofs.Texts.{statements-unambiguous, line-of, no-line, kept-more, kept-same}
 use Rattle.program.proofs.read_lines.Statement.{statement}
 use Rattle.program.proofs.read_lines.Tie as tie
 
 record SoFar (t : List ℕ) (es : List Entry) (n at : ℕ) : Type 0 where
-  P : List Statement
-  front : t ≡ text P ++ drop at t
-  valid : AllValid P
-  counted : n ≡ length P
-  kept : take n es ≡ take most (map entry P)
+  lines : reading.SoFar spell Valid t n at
+  kept : take n es ≡ take most (map entry (lines .read))
   room : length es ≡ most
-  paid : n + (length t - at) ≤ length t
 
 abbrev Inv-loop : tie.InvT-loop
 Inv-loop s entries₀ count₀ at₀ entries count at = SoFar s entries count at
@@ -32,14 +30,13 @@ abbrev μ-loop : tie.MeasureT-loop
 μ-loop s entries₀ count₀ at₀ entries count at = length s - at
 
 loop-holds : tie.Need-loop-holds Inv-loop μ-loop
-unfolding text
-loop-holds c = record { P = []; front = refl; valid = tt; counted = refl; kept = refl; room = ap length (c .blank .ensures) ∙ length-replicate most (entry Skip); paid = omega arith }
+unfolding reading.none-yet
+loop-holds c = record { lines = reading.none-yet spell Valid _; kept = refl; room = ap length (c .blank .ensures) ∙ length-replicate most (entry Skip) }
 
 returns : tie.Need-returns Inv-loop μ-loop
 returns c =
     let h = c .before .before .before .before in
-    let i = h .loop .inv in
-    no-lines _ (i .P) (h .loop .at) (i .valid) (i .front) _ (c .enum-told .given .1) (c .before .before .line .ensures) (omega arith)
+    reading.no-lines (h .loop .inv .lines) statements-unambiguous (no-line _ (h .loop .at) (c .enum-told .given .1) (c .before .before .line .ensures)) (c .before .before .before .loop-test .taken)
 
 mul-entries : tie.Need-mul-entries Inv-loop μ-loop
 mul-entries c = omega arith
@@ -48,51 +45,31 @@ array-set-from-entries : tie.Need-array-set-from-entries Inv-loop μ-loop
 array-set-from-entries c = omega arith
 
 add-count : tie.Need-add-count Inv-loop μ-loop
-add-count c = omega arith
-
--- the position after a line is further on
-further : (c : tie.After-e Inv-loop μ-loop) →
-    let s = c .before .before .before .before .before .before .before .args .s .now in
-    length s - c .e .given .0 .1 .0 < length s - c .before .before .before .before .loop .at
-further c =
-    let i = c .before .before .before .before .loop .inv in
-    line-shorter _ (i .P) (c .before .before .before .before .loop .at) (i .valid) (i .front) _ _ _ (c .e .given .1) (c .before .before .line .ensures)
+add-count c = omega (arith, c .before .before .before .before .before .before .loop .inv .lines .paid)
 
 loop-less : tie.Need-loop-less Inv-loop μ-loop
-loop-less c = further (c .before .before)
+loop-less c = line-further (line-of (c .before .before .e .given .1) (c .before .before .before .before .line .ensures))
 
 loop-again : tie.Need-loop-again Inv-loop μ-loop
+unfolding reading.one-more
 loop-again c =
     let h = c .before .before .before .before .before .before in
     let i = h .loop .inv in
     let e = c .before .before .e .given in
-    let l = c .before .before .before .before .line .ensures in
-    let n : length (i .P ++ e .0 .0 ∷ []) ≡ length (i .P) + 1 = length-append (i .P) (e .0 .0 ∷ []) in
-    let f = further (c .before .before) in
     record {
-      P = i .P ++ e .0 .0 ∷ [];
-      front = one-more _ (i .P) (h .loop .at) (i .valid) (i .front) _ _ _ (e .1) l;
-      valid = one-more-valid _ (i .P) (h .loop .at) (i .valid) (i .front) _ _ _ (e .1) l;
-      counted = omega arith;
+      lines = reading.one-more (i .lines) (line-of (e .1) (c .before .before .before .before .line .ensures));
       kept =
           ⊎-elim
-          (λ w. rw (w .1) (kept-more (h .loop .entries) (h .loop .count) (i .P) (e .0 .0) (i .room) (i .counted) (i .kept) (w .0 .taken)))
-          (λ w. rw (w .1) (kept-same (h .loop .entries) (h .loop .count) (i .P) (e .0 .0) (i .room) (i .counted) (i .kept) (w .0 .left)))
+          (λ w. rw (w .1) (kept-more (h .loop .entries) (h .loop .count) (i .lines .read) (e .0 .0) (i .room) (i .lines .counted) (i .kept) (w .0 .taken)))
+          (λ w. rw (w .1) (kept-same (h .loop .entries) (h .loop .count) (i .lines .read) (e .0 .0) (i .room) (i .lines .counted) (i .kept) (w .0 .left)))
           (c .if1 .came);
       room = ⊎-elim (λ w. ap length (w .1) ∙ length-set (h .loop .entries) (h .loop .count) (entry (e .0 .0)) ∙ i .room) (λ w. ap length (w .1) ∙ i .room) (c .if1 .came);
-      paid = omega arith;
     }
 
 returns-2 : tie.Need-returns-2 Inv-loop μ-loop
 returns-2 c =
     let i = c .before .loop .inv in
-    record {
-      P = i .P;
-      spells = record { lines = i .front ∙ rw (drop-of-length-le _ (c .loop-test .left)) (append-nil _); valid = i .valid };
-      counted = i .counted;
-      kept = i .kept;
-      room = i .room;
-    }
+    record { P = i .lines .read; spells = reading.whole (i .lines) (c .loop-test .left); counted = i .lines .counted; kept = i .kept; room = i .room }
 
 pub read-lines-spec : {M : Type 1} → statement M
 read-lines-spec =

@@ -1,20 +1,22 @@
 -- `write` meets its contract. The invariant: the lines before place s are written. Assumes nothing.
 use Prim.Native.Nat.{ℕ, _+_, _-_, _≤_, _<_}
-use mathlib.Core.Path.{_≡_, refl, ap, sym, _∙_}
+use mathlib.Core.Path.{_≡_, refl, ap, _∙_}
 use mathlib.Core.List.{List, [], _∷_, _++_, map}
 use native.Mathlib.Omega.{arith}
 use borrow.Author.Needs.{needs}
 use lib.ListN.{length, take}
 use lib.Seq.{take-all, length-sets}
+use Rattle.lines.specs.Lines as lines
+use Rattle.lines.proofs.Texts.{text-more, text-take}
 use Rattle.language.specs.Spelling.{spell}
 use Rattle.statement_writer.specs.Writing.{Put}
 use Rattle.statement_writer.proofs.Puts.{put-then, room}
 use Rattle.language.specs.declared.Statement.{Statement}
+use Rattle.language.specs.declared.Statement.the-variants.{Skip}
 use Rattle.program.specs.declared.Entry.{Entry}
 use Rattle.program.specs.Program.{at, text, most}
 use Rattle.program.specs.Reading.{statementIn}
 use Rattle.program.proofs.Held.{held, length-held, at-held}
-use Rattle.program.proofs.Texts.{text-more, text-take}
 use Rattle.program.proofs.write.Statement.{statement}
 use Rattle.program.proofs.write.Tie as tie
 
@@ -37,11 +39,11 @@ module _ {o : List ℕ} {es : List Entry} {n : ℕ} {q : List ℕ} {k s : ℕ} (
   line-text =
       let l : n ≤ length es = omega arith in
       let k : s < length (listed es n) = rw (length-held es n l) h in
-      text-more (listed es n) s k ∙ rw (at-held es n s k)
+      text-more spell (listed es n) Skip s k ∙ rw (at-held es n s k)
 
   line-room : k + length line ≤ length q
   line-room =
-      let t = text-take (listed es n) (s + 1) in
+      let t = text-take spell (listed es n) (s + 1) in
       let f : 0 + length (text (take s (listed es n)) ++ line) ≤ length o = rw (← line-text) (omega arith) in
       room line (i .put) f
 
@@ -52,7 +54,7 @@ abbrev μ-loop : tie.MeasureT-loop
 μ-loop out₀ entries n at₀ s₀ out at s = n - s
 
 loop-holds : tie.Need-loop-holds Inv-loop μ-loop
-unfolding text
+unfolding lines.text
 loop-holds c =
     let p = c .before .before .pre in
     record { room = p .0 .room; few = p .0 .few; fits = p .1; within = omega arith; put = record { text = refl; after = refl } }

@@ -1,5 +1,4 @@
 -- `read` meets its contract. The invariant: the lines before the position are read, and their numbers kept. Assumes nothing.
-use mathlib.Core.Path.{refl}
 use Prim.Native.Nat.{_-_}
 use native.Mathlib.Omega.{arith}
 use lib.ListN.{length}

@@ -1,0 +1,1 @@
+// A text as lines: definitions in specs/, theorems in proofs/, no code.
