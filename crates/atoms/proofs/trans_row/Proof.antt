@@ -7,18 +7,25 @@ use Rattle.atoms.proofs.trans_row.Tie as tie
 
 keeping-requires : tie.Need-keeping-requires
 keeping-requires c κs =
-    let pre = c .before .before .before .before .before .before .before .before .before .before .pre in
-    ((rw (c .before .before .before .e .given .1) at (pre .0 .0), pre .0 .1), (c .before .before .before .before .before .before .below .kept .1 .0 ∙ c .before .before .before .before .before .before .before .before .blank-row .ensures .size, pre .1 .1))
+    let b = c .before .before .before .before .before .before in
+    let r = b .before .before in
+    let pre = r .before .before .pre in
+    ((rw (c .before .before .before .e .given .1) at (pre .0 .0), pre .0 .1), (b .below .kept .1 .0 ∙ r .blank-row .ensures .size, pre .1 .1))
 
 keeping-requires-2 : tie.Need-keeping-requires-2
 keeping-requires-2 c κs =
-    let pre = c .before .before .before .before .before .before .before .before .before .before .before .pre in
-    (((rw (c .before .before .before .before .e2 .given .1) at (pre .0 .0)) .0, pre .0 .1), (c .before .before .before .before .before .before .before .below .kept .1 .0 ∙ c .before .before .before .before .before .before .before .before .before .blank-row .ensures .size, c .before .before .blank-row2 .ensures .size))
+    let e = c .before .before .before .before in
+    let b = e .before .before .before in
+    let r = b .before .before in
+    let pre = r .before .before .pre in
+    (((rw (e .e2 .given .1) at (pre .0 .0)) .0, pre .0 .1), (b .below .kept .1 .0 ∙ r .blank-row .ensures .size, c .before .before .blank-row2 .ensures .size))
 
 keeping-requires-3 : tie.Need-keeping-requires-3
 keeping-requires-3 c κs =
-    let pre = c .before .before .before .before .before .before .before .before .before .before .before .before .before .before .before .pre in
-    (((rw (c .before .before .before .before .before .before .before .before .e2 .given .1) at (pre .0 .0)) .1, pre .0 .1), (c .before .before .before .keeping2 .kept .1 .1 .1 .0 ∙ c .before .before .before .before .before .before .blank-row2 .ensures .size, pre .1 .1))
+    let r = c .before .before .before .before .before .before in
+    let e = r .before .before in
+    let pre = e .before .before .before .before .before .before .before .pre in
+    (((rw (e .e2 .given .1) at (pre .0 .0)) .1, pre .0 .1), (c .before .before .before .keeping2 .kept .1 .1 .1 .0 ∙ r .blank-row2 .ensures .size, pre .1 .1))
 
 returns : tie.Need-returns
 returns c =

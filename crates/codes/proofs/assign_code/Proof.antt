@@ -1,3 +1,4 @@
+-- `codes::assign_code` meets its contract: the code of each part. Assumes nothing.
 use borrow.Author.Needs.{needs}
 use Rattle.codes.proofs.assign_code.Statement.{statement}
 use Rattle.codes.proofs.assign_code.Tie as tie

@@ -1,3 +1,4 @@
+-- `codes::in_expression` meets its contract: the variable is that of an operand. Assumes nothing.
 use mathlib.Core.Logic.{inl}
 use borrow.Author.Needs.{needs}
 use Rattle.base.proofs.Decides.{decided-true, decided-false, decides-either}
@@ -11,7 +12,9 @@ returns-2 : tie.Need-returns-2
 returns-2 c = rw (c .before .before .e .given .1) (c .in-operand .ensures)
 
 returns-3 : tie.Need-returns-3
-returns-3 c = rw (c .before .before .before .before .e2 .given .1) (decides-either _ (c .in-operand3 .result) (decided-false (c .before .before .in-operand2 .result) (c .before .if1 .left) (c .before .before .in-operand2 .ensures)) (c .in-operand3 .ensures))
+returns-3 c =
+    let e = c .before .before .before .before in
+    rw (e .e2 .given .1) (decides-either _ (c .in-operand3 .result) (decided-false (c .before .before .in-operand2 .result) (c .before .if1 .left) (c .before .before .in-operand2 .ensures)) (c .in-operand3 .ensures))
 
 pub in-expression-spec : {M : Type 1} → statement M
 in-expression-spec =

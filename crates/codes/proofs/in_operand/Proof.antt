@@ -1,3 +1,4 @@
+-- `codes::in_operand` meets its contract: a variable is itself alone. Assumes nothing.
 use borrow.Author.Needs.{needs}
 use Rattle.base.proofs.Decides.{decides-eqb}
 use Rattle.codes.proofs.in_operand.Statement.{statement}

@@ -1,3 +1,4 @@
+-- `codes::operand_code` meets its contract: twice the number, and one more for a constant. Assumes nothing.
 use mathlib.Core.Path.{refl}
 use borrow.Author.Needs.{needs}
 use Rattle.codes.proofs.operand_code.Statement.{statement}

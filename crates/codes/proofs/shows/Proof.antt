@@ -1,3 +1,4 @@
+-- `codes::shows` meets its contract: statement by statement. Assumes nothing.
 use borrow.Author.Needs.{needs}
 use Rattle.base.proofs.Decides.{decides-eqb}
 use Rattle.codes.proofs.shows.Statement.{statement}

@@ -1,3 +1,4 @@
+-- `codes::statement_code` meets its contract: statement by statement. Assumes nothing.
 use mathlib.Core.Path.{refl}
 use borrow.Author.Needs.{needs}
 use Rattle.codes.proofs.statement_code.Statement.{statement}

@@ -1,5 +1,6 @@
-use Rattle.codes.proofs.Codes.{assign-first}
+-- `codes::variable_of` meets its contract: statement by statement. Assumes nothing.
 use borrow.Author.Needs.{needs}
+use Rattle.codes.proofs.Codes.{assign-first}
 use Rattle.codes.proofs.variable_of.Statement.{statement}
 use Rattle.codes.proofs.variable_of.Tie as tie
 

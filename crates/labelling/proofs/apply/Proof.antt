@@ -9,39 +9,52 @@ use Rattle.labelling.proofs.apply.Tie as tie
 
 next-requires : tie.Need-next-requires
 next-requires c κs =
-    let g = c .before .before .before .before .before .before .before .before .before .before .pre .0 in
-    let r = c .before .before .before .before .before .before .before .before .before .before .pre .1 .0 in
+    let a = c .before .before .before .before .before .before .before .before .before .before in
+    let g = a .pre .0 in
+    let r = a .pre .1 .0 in
     ((g .steps-size, g .directions .few), (g .directions .forth, (omega (arith, r .of-p, r .room), r .room)))
 
 returns : tie.Need-returns
 returns c =
-    let a = c .before .before .before .before .before .before .before .before .before .before .before .before .before in
-    rw (c .before .before .before .before .enum-told .given .1) (next-label (a .args .all) _ _ (a .pre .0 .directions .graph) _ (a .pre .1 .1 .whole) (member (a .args .p .now)) _ (c .before .before .next .ensures))
+    let e = c .before .before .before .before in
+    let a = e .before .before .before .before .before .before .before .before .before in
+    rw (e .enum-told .given .1) (next-label (a .args .all) _ _ (a .pre .0 .directions .graph) _ (a .pre .1 .1 .whole) (member (a .args .p .now)) _ (c .before .before .next .ensures))
 
 returns-2 : tie.Need-returns-2
 returns-2 c =
-    let a = c .before .before .before .before .before .before .before .before .before .before .before .before .before .before .before .before .before in
-    rw (c .before .before .before .before .before .before .before .before .enum-told2 .given .1)
-    (finally-label (a .args .all) _ _ (a .pre .0 .directions .graph) _ (a .pre .1 .1 .whole) (member (a .args .p .now)) _ _ (c .before .before .before .before .before .before .intersection .ensures) (c .before .before .until .ensures))
+    let i = c .before .before .before .before .before .before in
+    let e = i .before .before in
+    let a = e .before .before .before .before .before .before .before .before .before in
+    rw (e .enum-told2 .given .1)
+    (finally-label (a .args .all) _ _ (a .pre .0 .directions .graph) _ (a .pre .1 .1 .whole) (member (a .args .p .now)) _ _ (i .intersection .ensures) (c .before .before .until .ensures))
 
 returns-3 : tie.Need-returns-3
 returns-3 c =
-    let a = c .before .before .before .before .before .before .before .before .before .before .before .before .before .before .before .before .before in
-    rw (c .before .before .before .before .before .before .before .before .enum-told3 .given .1)
-    (until-label (a .args .all) _ _ (a .pre .0 .directions .graph) _ (a .pre .1 .1 .whole) _ (member (a .args .q .now)) _ _ (c .before .before .before .before .before .before .intersection2 .ensures) (c .before .before .until2 .ensures))
+    let i = c .before .before .before .before .before .before in
+    let e = i .before .before in
+    let a = e .before .before .before .before .before .before .before .before .before in
+    rw (e .enum-told3 .given .1)
+    (until-label (a .args .all) _ _ (a .pre .0 .directions .graph) _ (a .pre .1 .1 .whole) _ (member (a .args .q .now)) _ _ (i .intersection2 .ensures) (c .before .before .until2 .ensures))
 
 returns-4 : tie.Need-returns-4
 returns-4 c =
-    let a = c .before .before .before .before .before .before .before .before .before .before .before .before .before .before .before .before .before .before .before .before .before in
-    rw (c .before .before .before .before .before .before .before .before .before .before .before .before .enum-told4 .given .1)
-    (globally-label (a .args .all) _ _ (a .pre .0 .directions .graph) _ (a .pre .1 .1 .whole) (member (a .args .p .now)) _ _ _ (c .before .before .before .before .before .before .before .before .before .before .difference .ensures) (c .before .before .before .before .before .before .until3 .ensures) (c .before .before .complement .ensures))
+    let u = c .before .before .before .before .before .before in
+    let d = u .before .before .before .before in
+    let e = d .before .before in
+    let a = e .before .before .before .before .before .before .before .before .before in
+    rw (e .enum-told4 .given .1)
+    (globally-label (a .args .all) _ _ (a .pre .0 .directions .graph) _ (a .pre .1 .1 .whole) (member (a .args .p .now)) _ _ _ (d .difference .ensures) (u .until3 .ensures) (c .before .before .complement .ensures))
 
 returns-5 : tie.Need-returns-5
 returns-5 c =
-    let a = c .before .before .before .before .before .before .before .before .before .before .before .before .before .before .before .before .before .before .before .before .before .before .before .before .before .before .before in
-    rw (c .before .before .before .before .before .before .before .before .before .before .before .before .before .before .before .before .before .before .enum-told5 .given .1)
+    let u = c .before .before .before .before .before .before in
+    let d = u .before .before .before .before .before in
+    let t = d .before .before .before .before .before in
+    let e = t .before .before in
+    let a = e .before .before .before .before .before .before .before .before .before in
+    rw (e .enum-told5 .given .1)
     (weak-label (a .args .all) _ _ (a .pre .0 .directions .graph) _ (a .pre .1 .1 .whole) (member (a .args .p .now)) (member (a .args .q .now)) _ _ _ _
-    (c .before .before .before .before .before .before .before .before .before .before .before .before .before .before .before .before .difference2 .ensures) (c .before .before .before .before .before .before .before .before .before .before .before .difference3 .ensures) (c .before .before .before .before .before .before .until4 .ensures) (c .before .before .complement2 .ensures))
+    (t .difference2 .ensures) (d .difference3 .ensures) (u .until4 .ensures) (c .before .before .complement2 .ensures))
 
 pub apply-spec : {M : Type 1} → statement M
 apply-spec =

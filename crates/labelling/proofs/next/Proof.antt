@@ -10,13 +10,17 @@ slice-aggregate-head : tie.Need-slice-aggregate-head
 slice-aggregate-head c = sym (head-size (c .before .before .before .before .args .steps .now) (c .before .before .before .before .pre .0 .0))
 
 slice-aggregate-preimage : tie.Need-slice-aggregate-preimage
-slice-aggregate-preimage c = sym (heads-size (c .before .before .before .before .before .before .before .args .steps .now) (c .before .before .before .before .before .before .before .pre .0 .0) _ (c .before .before .before .before .before .before .before .pre .0 .1))
+slice-aggregate-preimage c =
+    let a = c .before .before .before .before .before .before .before in
+    sym (heads-size (a .args .steps .now) (a .pre .0 .0) _ (a .pre .0 .1))
 
 preimage-requires : tie.Need-preimage-requires
 preimage-requires c κs = let a = c .before .before .before .before .before .before .before .before in rw (heads-size (a .args .steps .now) (a .pre .0 .0) _ (a .pre .0 .1)) (a .pre .1)
 
 returns : tie.Need-returns
-returns c = let a = c .before .before .before .before .before .before .before .before .before .before .before in rw (heads-size (a .args .steps .now) (a .pre .0 .0) _ (a .pre .0 .1)) at (c .before .before .preimage .ensures)
+returns c =
+    let a = c .before .before .before .before .before .before .before .before .before .before .before in
+    rw (heads-size (a .args .steps .now) (a .pre .0 .0) _ (a .pre .0 .1)) at (c .before .before .preimage .ensures)
 
 pub next-spec : {M : Type 1} → statement M
 next-spec =

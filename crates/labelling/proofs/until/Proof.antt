@@ -13,38 +13,56 @@ slice-aggregate-head : tie.Need-slice-aggregate-head
 slice-aggregate-head c = sym (head-size (c .before .before .before .before .before .args .steps .now) (c .before .before .before .before .before .pre .0 .steps-size))
 
 slice-aggregate-entry : tie.Need-slice-aggregate-entry
-slice-aggregate-entry c = sym (head-size (c .before .before .before .before .before .before .before .before .args .opposite .now) (c .before .before .before .before .before .before .before .before .pre .0 .opposite-size))
+slice-aggregate-entry c =
+    let a = c .before .before .before .before .before .before .before .before in
+    sym (head-size (a .args .opposite .now) (a .pre .0 .opposite-size))
 
 slice-aggregate-copy-2 : tie.Need-slice-aggregate-copy-2
-slice-aggregate-copy-2 c = sym (length-take-le _ _ (omega (arith, c .before .before .before .before .before .before .before .before .before .before .before .before .before .before .pre .0 .directions .few, c .before .before .before .blank .ensures .size)))
+slice-aggregate-copy-2 c =
+    let a = c .before .before .before .before .before .before .before .before .before .before .before .before .before .before in
+    sym (length-take-le _ _ (omega (arith, a .pre .0 .directions .few, c .before .before .before .blank .ensures .size)))
 
 copy-requires : tie.Need-copy-requires
-copy-requires c κs = sym (slice-aggregate-copy-2 c) ∙ sym (c .before .before .before .before .before .before .before .before .before .before .before .before .before .before .pre .0 .directions .head-size)
+copy-requires c κs =
+    let a = c .before .before .before .before .before .before .before .before .before .before .before .before .before .before in
+    sym (slice-aggregate-copy-2 c) ∙ sym (a .pre .0 .directions .head-size)
 
 array-borrow-prefix-rest-2 : tie.Need-array-borrow-prefix-rest-2
-array-borrow-prefix-rest-2 c = rw (length-front _ _ _ (c .before .before .before .before .copy .kept .1 .0)) (omega (arith, c .before .before .before .before .before .before .before .before .before .before .before .before .before .before .before .before .before .before .before .pre .0 .directions .few, c .before .before .before .before .before .before .before .before .blank .ensures .size))
+array-borrow-prefix-rest-2 c =
+    let k = c .before .before .before .before in
+    let b = k .before .before .before .before in
+    let a = b .before .before .before .before .before .before .before .before .before .before .before in
+    rw (length-front _ _ _ (k .copy .kept .1 .0)) (omega (arith, a .pre .0 .directions .few, b .blank .ensures .size))
 
 slice-aggregate-close-3 : tie.Need-slice-aggregate-close-3
 slice-aggregate-close-3 c = sym (length-take-le _ _ (array-borrow-prefix-rest-2 (c .before)))
 
 slice-aggregate-close-4 : tie.Need-slice-aggregate-close-4
-slice-aggregate-close-4 c = sym (length-take-le _ _ (omega (arith, c .before .before .before .before .before .before .before .before .before .before .before .before .before .before .before .before .before .before .before .before .before .pre .0 .directions .few, c .before .before .before .before .before .before .before .before .before .blank2 .ensures .size)))
+slice-aggregate-close-4 c =
+    let b = c .before .before .before .before .before .before .before .before .before in
+    let a = b .before .before .before .before .before .before .before .before .before .before .before .before in
+    sym (length-take-le _ _ (omega (arith, a .pre .0 .directions .few, b .blank2 .ensures .size)))
 
 close-requires : tie.Need-close-requires
 close-requires c κs =
-    let a = c .before .before .before .before .before .before .before .before .before .before .before .before .before .before .before .before .before .before .before .before .before in
+    let k = c .before .before .before .before .before .before in
+    let b = k .before .before .before .before in
+    let a = b .before .before .before .before .before .before .before .before .before .before .before in
     let d = a .pre .0 .directions in
     let few = d .few in
-    let copied = take-at (c .before .before .before .before .before .before .copy .last .1 .0) (drop (a .args .n) (c .before .before .before .before .before .before .before .before .before .before .blank .result)) (a .args .n) (c .before .before .before .before .before .before .copy .kept .1 .0 ∙ sym (slice-aggregate-copy-2 (c .before .before .before .before .before .before .before))) in (
+    let copied = take-at (k .copy .last .1 .0) (drop (a .args .n) (b .blank .result)) (a .args .n) (k .copy .kept .1 .0 ∙ sym (slice-aggregate-copy-2 (c .before .before .before .before .before .before .before))) in (
       rw (d .head-size) d,
       (
         rw (d .head-size) (record { p-room = a .pre .1 .0; set-room = a .pre .1 .1; stack-room = omega (arith, slice-aggregate-close-4 c); small = omega arith }),
-        copied ∙ c .before .before .before .before .before .before .copy .ensures,
+        copied ∙ k .copy .ensures,
       ),
     )
 
 returns : tie.Need-returns
-returns c = rw (c .before .before .before .before .before .before .before .before .before .before .before .before .before .before .before .before .before .before .before .before .before .before .before .before .before .before .pre .0 .directions .head-size) at (c .before .before .before .before .close .ensures)
+returns c =
+    let k = c .before .before .before .before in
+    let a = k .before .before .before .before .before .before .before .before .before .before .before .before .before .before .before .before .before .before .before .before .before .before in
+    rw (a .pre .0 .directions .head-size) at (k .close .ensures)
 
 pub until-spec : {M : Type 1} → statement M
 until-spec =

@@ -55,36 +55,46 @@ slice-read-wide c =
 
 visit-requires : tie.Need-visit-requires Inv-loop μ-loop
 visit-requires c κs =
-    let a = c .before .before .before .before .before .before .before .before .before .before .before .before .before .before .before .before .before .before .before .before .before .before in
-    let w = c .before .before .before .before .before .before .loop in
+    let t = c .before .before .before .before .before in
+    let l = t .before in
+    let w = l .loop in
+    let g = l .before .before .before in
+    let a = g .before .before .before .before .before .before .before .before .before .before .before .before .before in
     let z = a .pre .1 .0 in
-    let pos = c .before .before .before .before .before .loop-test .taken in
+    let pos = t .loop-test .taken in
     let e = c .before .before .before .wide .ensures in
     let top = w .inv .4 .stacked (w .h - 1) (omega arith) in (
       a .pre .0,
       (
-        record { p-room = z .p-room; set-room = omega (arith, z .set-room, w .inv .0); stack-room = omega (arith, z .stack-room, w .inv .2, c .before .before .before .before .before .before .before .before .before .gather .kept .1 .1 .0); small = z .small },
+        record { p-room = z .p-room; set-room = omega (arith, z .set-room, w .inv .0); stack-room = omega (arith, z .stack-room, w .inv .2, g .gather .kept .1 .1 .0); small = z .small },
         record { low = rw e (top .0); reached = rw e (top .1); seen = w .inv .3; work = work-take _ _ _ _ _ (a .pre .0 .opposite) _ _ _ _ pos e (w .inv .4) },
       ),
     )
 
 loop-less : tie.Need-loop-less Inv-loop μ-loop
 loop-less c =
-    let w = c .before .before .before .before .before .before .before .before .before .before .before .before .before .loop in
-    let v = c .before .before .before .before .before .before .visit in
-    let n = length (c .before .before .before .before .before .before .before .before .before .before .before .before .before .before .before .before .before .before .before .before .before .before .before .before .before .before .before .before .before .args .head .now) in
-    omega (arith, v .ensures .paid, c .before .before .before .before .before .before .before .before .before .before .before .before .loop-test .taken, count-le (member (w .set)) n, count-le (member (v .last .1 .1 .1 .1 .1 .1 .1 .1 .1 .0)) n)
+    let x = c .before .before .before .before .before .before in
+    let t = x .before .before .before .before .before .before in
+    let l = t .before in
+    let w = l .loop in
+    let a = l .before .before .before .before .before .before .before .before .before .before .before .before .before .before .before .before in
+    let v = x .visit in
+    let n = length (a .args .head .now) in
+    omega (arith, v .ensures .paid, t .loop-test .taken, count-le (member (w .set)) n, count-le (member (v .last .1 .1 .1 .1 .1 .1 .1 .1 .1 .0)) n)
 
 loop-again : tie.Need-loop-again Inv-loop μ-loop
 loop-again c =
-    let w = c .before .before .before .before .before .before .before .before .before .before .before .before .before .loop in
-    let v = c .before .before .before .before .before .before .visit in (
+    let x = c .before .before .before .before .before .before in
+    let l = x .before .before .before .before .before .before .before in
+    let w = l .loop in
+    let a = l .before .before .before .before .before .before .before .before .before .before .before .before .before .before .before .before in
+    let v = x .visit in (
       v .kept .1 .1 .1 .1 .1 .1 .1 .1 .1 .0 ∙ w .inv .0,
       v .kept .1 .1 .1 .1 .1 .1 .1 .1 .1 .1 .0 ∙ w .inv .1,
       v .kept .1 .1 .1 .1 .1 .1 .1 .1 .1 .1 .1 .0 ∙ w .inv .2,
       v .ensures .seen,
       v .ensures .work,
-      grew-more _ _ _ _ (c .before .before .before .before .before .before .before .before .before .before .before .before .before .before .before .before .before .before .before .before .before .before .before .before .before .before .before .before .before .pre .0 .graph) _ _ _ (w .inv .5) (v .ensures .grew),
+      grew-more _ _ _ _ (a .pre .0 .graph) _ _ _ (w .inv .5) (v .ensures .grew),
     )
 
 same-length : tie.Need-same-length Inv-loop μ-loop

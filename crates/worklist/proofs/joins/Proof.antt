@@ -16,7 +16,9 @@ returns c =
     (ready-in (a .args .head .now) _ _ _ _ _ _ (sym (c .before .contains .ensures) ∙ c .if1 .taken), a .pre .1 .1)
 
 slice-read-wide : tie.Need-slice-read-wide
-slice-read-wide c = omega (arith, c .before .before .before .before .before .before .before .before .before .before .before .before .pre .1 .0, c .before .before .before .before .before .before .before .before .before .before .before .before .pre .1 .1 .long)
+slice-read-wide c =
+    let a = c .before .before .before .before .before .before .before .before .before .before .before .before in
+    omega (arith, a .pre .1 .0, a .pre .1 .1 .long)
 
 skip-requires : tie.Need-skip-requires
 skip-requires c κs =
@@ -24,24 +26,33 @@ skip-requires c κs =
     (rw (c .wide .ensures) (rest-from _ _ _ _ _ (a .args .s) (a .pre .0) (a .pre .1 .1)), omega (arith, a .pre .1 .0))
 
 cast-rest : tie.Need-cast-rest
-cast-rest c = omega (arith, c .skip .ensures .low, c .before .wide .ensures, c .before .before .slice-known2 .given (c .before .before .before .before .before .before .before .before .before .before .before .before .before .before .args .s))
+cast-rest c =
+    let a = c .before .before .before .before .before .before .before .before .before .before .before .before .before .before in
+    omega (arith, c .skip .ensures .low, c .before .wide .ensures, c .before .before .slice-known2 .given (a .args .s))
 
 slice-write-rest : tie.Need-slice-write-rest
-slice-write-rest c = omega (arith, c .before .before .before .before .before .before .before .before .before .before .before .before .before .before .pre .1 .0, c .before .before .before .before .before .before .before .before .before .before .before .before .before .before .pre .1 .1 .long)
+slice-write-rest c =
+    let a = c .before .before .before .before .before .before .before .before .before .before .before .before .before .before in
+    omega (arith, a .pre .1 .0, a .pre .1 .1 .long)
 
 returns-2 : tie.Need-returns-2
 returns-2 c =
-    let a = c .before .before .before .before .before .before .before .before .before .before .before .before .before .before in
+    let i2 = c .before .before .before .before in
+    let p = i2 .before in
+    let i1 = p .before in
+    let s = i1 .before in
+    let a = s .before .before .before .before .before .before .before in
     let w : Skipped (a .args .link .now) (a .args .to .now) (member (a .args .set .now)) (getD (a .args .rest .now) (a .args .s) 0) (c .skip .result) = rw (c .before .wide .ensures) at (c .skip .ensures) in (
-      ready-all (a .args .head .now) _ _ _ _ _ _ (a .args .rest .now) _ (sym (c .before .before .before .before .before .before .before .contains .ensures) ∙ c .before .before .before .before .before .before .if1 .left) (sym (c .before .before .before .before .before .contains2 .ensures) ∙ c .before .before .before .before .if2 .taken)
+      ready-all (a .args .head .now) _ _ _ _ _ _ (a .args .rest .now) _ (sym (s .contains .ensures) ∙ i1 .if1 .left) (sym (p .contains2 .ensures) ∙ i2 .if2 .taken)
           (c .before .before .before .if3 .taken) (a .pre .0) (a .pre .1 .1) w,
       rest-skip _ _ _ _ _ _ _ (slice-write-rest c) (a .pre .1 .1) w,
     )
 
 returns-3 : tie.Need-returns-3
 returns-3 c =
-    let a = c .before .before .before .before .before .before .before .before .before .before .before in (
-      ready-some (a .args .head .now) _ _ _ _ _ _ (sym (c .before .before .before .before .contains .ensures) ∙ c .before .before .before .if1 .left) (sym (c .before .before .contains2 .ensures) ∙ c .before .if2 .taken) (c .if3 .left),
+    let s = c .before .before .before .before in
+    let a = s .before .before .before .before .before .before .before in (
+      ready-some (a .args .head .now) _ _ _ _ _ _ (sym (s .contains .ensures) ∙ c .before .before .before .if1 .left) (sym (c .before .before .contains2 .ensures) ∙ c .before .if2 .taken) (c .if3 .left),
       a .pre .1 .1,
     )
 

@@ -46,9 +46,13 @@ loop-less c =
 
 loop-again : tie.Need-loop-again Inv-loop μ-loop
 loop-again c =
-    let a = c .before .before .before .before .before .before .before .before .before .before .before in
-    passed-next _ _ _ _ _ _ _ (c .before .before .before .before .before .before .before .loop .inv) (c .before .before .before .before .before .before .loop-test .taken) _ (c .wide2 .ensures)
-    (λ e. clash (ap (member (a .args .set .now)) (sym (c .before .before .before .before .wide .ensures)) ∙ sym (c .before .before .before .contains .ensures) ∙ not-false _ (c .before .before .if1 .left)) e)
+    let x = c .before .before .before .before in
+    let t = x .before .before in
+    let l = t .before in
+    let w = l .loop in
+    let a = l .before .before .before .before in
+    passed-next _ _ _ _ _ _ _ (w .inv) (t .loop-test .taken) _ (c .wide2 .ensures)
+    (λ e. clash (ap (member (a .args .set .now)) (sym (x .wide .ensures)) ∙ sym (c .before .before .before .contains .ensures) ∙ not-false _ (c .before .before .if1 .left)) e)
 
 returns-2 : tie.Need-returns-2 Inv-loop μ-loop
 returns-2 c = skipped-all _ _ _ _ _ _ (c .before .loop .inv) (c .loop-test .left)
