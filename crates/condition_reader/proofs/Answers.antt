@@ -18,7 +18,7 @@ use Rattle.condition_reader.specs.Parsing.{parseCondition, Reads, TellsW
 use Rattle.condition_reader.proofs.Spelling.{condition-sound, whole-complete}
 use Rattle.condition_reader.proofs.Unique.{taken-unique, taken-refused}
 use Rattle.condition_reader.proofs.Readers.{tells-found, tells-not}
-use Rattle.condition.proofs.Parts.{words-length}
+use Rattle.condition.proofs.Words.{words-length}
 
 drop-replicate : (n m a : ℕ) → drop m (replicate n a) ≡ replicate (n - m) a
 drop-replicate n zero a = let e : n - 0 ≡ n = omega arith in rw e

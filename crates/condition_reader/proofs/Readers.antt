@@ -15,7 +15,8 @@ use Rattle.condition.specs.declared.Atom.{Atom}
 use Rattle.condition.specs.Condition.{Binary, Condition, atom, unary, binary, prefix, opening, middle, spellCondition, parts}
 use Rattle.condition.specs.Texts.{most-bytes, most-parts}
 use Rattle.condition.specs.Words.{unaryCode, binaryCode, word, words}
-use Rattle.condition.proofs.Parts.{prefix-longer, parts-few, words-length}
+use Rattle.condition.proofs.Parts.{prefix-longer, parts-few}
+use Rattle.condition.proofs.Words.{words-length}
 use Rattle.atom_reader.specs.Parsing.{parseAtom}
 use Rattle.operator_reader.specs.declared.Bracket.{Bracket}
 use Rattle.operator_reader.specs.declared.Bracket.the-variants.{Round, Some, All}

@@ -18,7 +18,8 @@ use Rattle.condition.specs.Words.{unaryCode, binaryCode, word, words, Held}
 use Rattle.atom_reader.specs.Parsing.{parseAtom}
 use Rattle.atom_reader.proofs.Spelling.{atom-complete}
 use Rattle.condition_reader.proofs.Spelling.{unary-text, binary-text}
-use Rattle.condition.proofs.Parts.{parts-few, words-length}
+use Rattle.condition.proofs.Parts.{parts-few}
+use Rattle.condition.proofs.Words.{words-length}
 
 abbrev pub part : List Condition → ℕ → Condition
 part ps k = getD ps k (atom True)

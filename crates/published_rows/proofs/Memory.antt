@@ -40,16 +40,23 @@ key-tells (Rpl n x (Constant k)) (Rpl n′ x′ (Variable y)) v w h = absurd (om
 key-tells (Rpl n x (Constant k)) (Rpl n′ x′ (Constant l)) v w h = ap₂ (λ (a b : ℕ). copiedBefore a (Constant b)) (omega arith) (omega arith)
 
 -- where no key is set nothing is remembered
-pub remembers-none : {P : List Statement} {keys : List ℕ} {rows : List (List ℕ)} → Zeros slots keys → ZeroRows slots part-words rows → Remembers P keys rows
+pub remembers-none :
+    {P : List Statement} {keys : List ℕ} {rows : List (List ℕ)} → Zeros slots keys → ZeroRows slots part-words rows → Remembers P keys rows
 remembers-none k r = record { many-keys = k .size; many-rows = r .many; right = λ i l m v e. absurd (key-some m (sym e ∙ k .zero i)) }
 
 -- one row more
-pub remembers-more : {P : List Statement} {keys : List ℕ} {rows : List (List ℕ)} → Remembers P keys rows → (m : Mark) → ValidMark m → (k : ℕ) → k ≡ keyOf m
+pub remembers-more :
+    {P : List Statement} {keys : List ℕ} {rows : List (List ℕ)} → Remembers P keys rows → (m : Mark) → ValidMark m → (k : ℕ) → k ≡ keyOf m
     → (s : ℕ) → s < slots → (row : List ℕ) → RowFor P m row → Remembers P (set keys s k) (set rows s row)
 remembers-more {P = P} {keys = keys} {rows = rows} g m v k is s l row r =
-    record { many-keys = length-set keys s k ∙ g .many-keys; many-rows = length-set rows s row ∙ g .many-rows; right = λ i h o w e. at i h o w e (eqb i s) refl }
+    record {
+      many-keys = length-set keys s k ∙ g .many-keys;
+      many-rows = length-set rows s row ∙ g .many-rows;
+      right = λ i h o w e. at i h o w e (eqb i s) refl;
+    }
   where
-    at : (i : ℕ) → i < slots → (o : Mark) → ValidMark o → getD (set keys s k) i 0 ≡ keyOf o → (b : Bool) → eqb i s ≡ b → RowFor P o (getD (set rows s row) i [])
+    at : (i : ℕ) → i < slots → (o : Mark) → ValidMark o → getD (set keys s k) i 0 ≡ keyOf o → (b : Bool) → eqb i s ≡ b
+        → RowFor P o (getD (set rows s row) i [])
     at i h o w e true t =
         let q : i ≡ s = eqb-true i s t in
         let a : k ≡ keyOf o = sym (getD-set-same keys s k 0 (omega (arith, g .many-keys))) ∙ rw q at e in

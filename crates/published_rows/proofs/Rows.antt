@@ -24,7 +24,7 @@ use Rattle.marks.specs.Marks.{ValidMark}
 use Rattle.marks.specs.declared.Mark.{Mark}
 use Rattle.lockstep.specs.Rules.{published}
 use Rattle.published.proofs.Published.{published-parts, published-taken}
-use Rattle.published_rows.specs.Rows.{SmallTaken, RowOf, RowFor}
+use Rattle.published_rows.specs.Rows.{published-words, SmallTaken, RowOf, RowFor}
 
 -- the text of a published condition is taken as it
 pub published-small : (m : Mark) → ValidMark m → (t : List ℕ) → t ≡ spellCondition (published m) → SmallTaken t
@@ -32,7 +32,8 @@ published-small m v t e =
     let n = published-parts m in
     record { c = published m; taken = subst (λ (s : List ℕ). Taken s (published m)) (sym e) (published-taken m v); small = omega arith }
 
-pub published-labelled : (m : Mark) → ValidMark m → (t : List ℕ) → t ≡ spellCondition (published m) → {P : List Statement} {r : List ℕ} → RowOf P t r → RowFor P m r
+pub published-labelled :
+    (m : Mark) → ValidMark m → (t : List ℕ) → t ≡ spellCondition (published m) → {P : List Statement} {r : List ℕ} → RowOf P t r → RowFor P m r
 unfolding published-small
 published-labelled m v t e r = (r .labelled (published m) (published-small m v t e .taken), r .room)
 
@@ -53,17 +54,19 @@ module _ {t : List ℕ} (small : SmallTaken t) where
   not-refused a ws h r e = clash (length (parts (small .c))) r (sym (read-back t (small .c) (small .taken) a ws h .0) ∙ e)
 
   module _ {m : ℕ} {ws : List ℕ} (h : HeldOf t (small .c) m ws) where
-    pub held-room : part-words * m ≤ 40
+    pub held-room : part-words * m ≤ published-words
     held-room = let n = h .held .counted in let l = small .small in omega arith
 
-    pub last-room : (new : List ℕ) → 40 ≤ length new → part-words * (m - 1) + part-words ≤ length new
+    last-room : (new : List ℕ) → published-words ≤ length new → part-words * (m - 1) + part-words ≤ length new
     last-room new l = let r = held-room in let s = held-some h in omega arith
 
-    pub whole-row : {P : List Statement} {old new : List ℕ} → 40 ≤ length new → TableOf P (small .c) old new → RowOf P t (row new (m - 1))
+    pub whole-row : {P : List Statement} {old new : List ℕ} → published-words ≤ length new → TableOf P (small .c) old new → RowOf P t (row new (m - 1))
     whole-row {P = P} {new = new} l table =
         let r = last-room new l in
         let k : length (drop (part-words * (m - 1)) new) ≡ length new - part-words * (m - 1) = length-drop (part-words * (m - 1)) new in
         record {
           room = length-take-le part-words (drop (part-words * (m - 1)) new) (omega arith);
-          labelled = λ d g. subst (λ (e : Condition). Labelled (length P) (member (row new (m - 1))) (Sat P e)) (condition-unique t (small .c) d (small .taken .spells) (g .spells)) (whole-labelled h table);
+          labelled = λ d g.
+              subst (λ (e : Condition). Labelled (length P) (member (row new (m - 1))) (Sat P e))
+              (condition-unique t (small .c) d (small .taken .spells) (g .spells)) (whole-labelled h table);
         }

@@ -77,7 +77,8 @@ judged-none row s f = record { begins = begins-first s; named = named-none f; ju
 pub never-misspelled : {t : List ℕ} {ms : List Mark} {j at : ℕ} → Begins t ms j at → at < length t → {r : MarkRead} → r ≡ markRead.Misspelled → MarkLineRead t at r → ⊥
 never-misspelled b h is l = line-found b is l (text-line b h)
 
-pub line-below : {t : List ℕ} {ms : List Mark} {j at : ℕ} → Begins t ms j at → marks.Taken t ms → {r : MarkRead} {m : Mark} {k : ℕ} → r ≡ markRead.Found m k → MarkLineRead t at r → j < marks.most
+pub line-below : {t : List ℕ} {ms : List Mark} {j at : ℕ} → Begins t ms j at → marks.Taken t ms → {r : MarkRead} {m : Mark} {k : ℕ}
+    → r ≡ markRead.Found m k → MarkLineRead t at r → j < marks.most
 line-below b t is l = let h = line-inside b is l in let f = t .few in omega arith
 
 module _ {P : List Statement} {t : List ℕ} {ms : List Mark} {old new row : List ℕ} {j at : ℕ} (s : JudgedSoFar P t ms old new row j at) where
@@ -91,12 +92,18 @@ module _ {P : List Statement} {t : List ℕ} {ms : List Mark} {old new row : Lis
     pub judged-more : (v : Verdict) (b : ℕ) → b ≡ number v → ((earlier : List Mark) → NamedIn (length P) row earlier → Judged P earlier m v) → {row′ : List ℕ}
         → (Stands v ↔ Inside (length P) (names m) → Notes (length P) m row row′) → j < length new → JudgedSoFar P t ms old (set new j b) row′ (j + 1) k
     judged-more v b e f g h =
+        let here = f (take j ms) (s .named) in
+        let noted = g (judged-stands P (take j ms) m v here) (take j ms) (s .named) in
         record {
           begins = line-next (s .begins) is l;
-          named = record { exact = λ i u. let q = g (judged-stands P (take j ms) m v (f (take j ms) (s .named))) (take j ms) (s .named) .exact i u in (λ a. rw next-take (named-last (take j ms) m (i + 1) .1 (q .0 a)), λ a. q .1 (named-last (take j ms) m (i + 1) .0 (rw next-take at a))) };
+          named = record {
+            exact = λ i u.
+                let last = named-last (take j ms) m (i + 1) in
+                (λ a. rw next-take (last .1 (noted .exact i u .0 a)), λ a. noted .exact i u .1 (last .0 (rw next-take at a)));
+          };
           judged = below-more (λ i. (w : Verdict) × Judged P (take i ms) (markAt ms i) w × (getD (set new j b) i 0 ≡ number w)) j
               (λ i u. let q = s .judged i u in (q .0, q .1, getD-set-other new j i b 0 (λ z. omega arith) ∙ q .2))
-              (v, rw mark-is at (f (take j ms) (s .named)), getD-set-same new j b 0 h ∙ e);
+              (v, rw mark-is at here, getD-set-same new j b 0 h ∙ e);
           past = λ i u. getD-set-other new j i b 0 (λ z. omega arith) ∙ s .past i (omega arith);
         }
 

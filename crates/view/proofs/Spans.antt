@@ -16,7 +16,8 @@ use Rattle.condition.specs.Texts.{most-bytes, Taken}
 use Rattle.condition.specs.Words.{Held, unaryCode, binaryCode, word, words}
 use Rattle.atom_reader.specs.Parsing.{parseAtom}
 use Rattle.atom_reader.proofs.Spelling.{atom-complete}
-use Rattle.condition.proofs.Parts.{parts-few, words-length}
+use Rattle.condition.proofs.Parts.{parts-few}
+use Rattle.condition.proofs.Words.{words-length}
 use Rattle.condition_reader.proofs.Words.{part, operatorCode, parts-last, held-describes}
 use Rattle.view.specs.Writing.{PartEnds}
 

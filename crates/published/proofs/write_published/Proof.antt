@@ -3,10 +3,14 @@ use Rattle.published.proofs.write_published.Statement.{statement}
 use Rattle.published.proofs.write_published.Tie as tie
 
 write-unneeded-requires : tie.Need-write-unneeded-requires
-write-unneeded-requires c κs = let v = rw (c .before .before .m .given .1) at (c .before .before .before .before .before .pre .0) in (v .1, c .before .before .before .before .before .pre .1)
+write-unneeded-requires c κs =
+    let start = c .before .before .before .before .before in
+    let v = rw (c .before .before .m .given .1) at (start .pre .0) in (v .1, start .pre .1)
 
 write-copied-requires : tie.Need-write-copied-requires
-write-copied-requires c κs = let v = rw (c .before .before .m2 .given .1) at (c .before .before .before .before .before .pre .0) in (v .1, v .2, c .before .before .before .before .before .pre .1)
+write-copied-requires c κs =
+    let start = c .before .before .before .before .before in
+    let v = rw (c .before .before .m2 .given .1) at (start .pre .0) in (v .1, v .2, start .pre .1)
 
 returns : tie.Need-returns
 returns c = rw (c .before .before .before .before .before .m .given .1) (c .before .before .write-unneeded .ensures)

@@ -1,24 +1,37 @@
+use Prim.Native.Nat.{_≤_}
 use native.Mathlib.Omega.{arith}
+use lib.ListN.{length}
+use Rattle.language.specs.Spelling.{spellVariable}
 use Rattle.statement_writer.proofs.Puts.{put-then}
 use Rattle.published.proofs.Published.{unneeded-text, variable-most}
 use borrow.Author.Needs.{needs}
 use Rattle.published.proofs.write_unneeded.Statement.{statement}
 use Rattle.published.proofs.write_unneeded.Tie as tie
 
+-- the variable is short
+short : (s : tie.Start) → length (spellVariable (s .args .x)) ≤ 3
+short s = variable-most (s .args .x) (s .pre .0)
+
 variable-requires : tie.Need-variable-requires
-variable-requires c κs = omega (arith, variable-most _ (c .before .before .before .before .before .before .before .pre .0))
+variable-requires c κs = omega (arith, short (c .before .before .before .before .before .before .before))
 
 word-requires-2 : tie.Need-word-requires-2
-word-requires-2 c κs = omega (arith, variable-most _ (c .before .before .before .before .before .before .before .before .before .before .before .before .pre .0))
+word-requires-2 c κs = omega (arith, short (c .before .before .before .before .before .before .before .before .before .before .before .before))
 
 variable-requires-2 : tie.Need-variable-requires-2
-variable-requires-2 c κs = omega (arith, variable-most _ (c .before .before .before .before .before .before .before .before .before .before .before .before .before .before .before .before .pre .0))
+variable-requires-2 c κs = omega (arith, short (c .before .before .before .before .before .before .before .before .before .before .before .before .before .before .before .before))
 
 word-requires-3 : tie.Need-word-requires-3
-word-requires-3 c κs = omega (arith, variable-most _ (c .before .before .before .before .before .before .before .before .before .before .before .before .before .before .before .before .before .before .before .before .before .pre .0))
+word-requires-3 c κs = omega (arith, short (c .before .before .before .before .before .before .before .before .before .before .before .before .before .before .before .before .before .before .before .before .before))
 
 returns : tie.Need-returns
-returns c = rw unneeded-text (put-then (c .before .before .before .before .before .before .before .before .before .before .before .before .before .before .before .before .before .before .before .before .word .ensures) (put-then (c .before .before .before .before .before .before .before .before .before .before .before .before .before .before .before .before .variable .ensures) (put-then (c .before .before .before .before .before .before .before .before .before .before .before .word2 .ensures) (put-then (c .before .before .before .before .before .before .before .variable2 .ensures) (c .before .before .word3 .ensures)))))
+returns c =
+    let variable2 = c .before .before .before .before .before .before .before in
+    let word2 = variable2 .before .before .before .before in
+    let variable = word2 .before .before .before .before .before in
+    let word = variable .before .before .before .before in
+    rw unneeded-text
+    (put-then (word .word .ensures) (put-then (variable .variable .ensures) (put-then (word2 .word2 .ensures) (put-then (variable2 .variable2 .ensures) (c .before .before .word3 .ensures)))))
 
 pub write-unneeded-spec : {M : Type 1} → statement M
 write-unneeded-spec =

@@ -5,13 +5,18 @@ use Rattle.rewriting.proofs.fits.Statement.{statement}
 use Rattle.rewriting.proofs.fits.Tie as tie
 
 returns : tie.Need-returns
-returns c = rw (c .before .before .before .m2 .given .1) (λ h. decided-false (c .before .shows .result) (not-true _ (c .if1 .taken)) (c .before .shows .ensures) (h .0))
+returns c =
+    let shows = c .before .shows in
+    rw (c .before .before .before .m2 .given .1) (λ h. decided-false (shows .result) (not-true _ (c .if1 .taken)) (shows .ensures) (h .0))
 
 returns-2 : tie.Need-returns-2
 returns-2 c = rw (c .before .before .m .given .1) (c .same-statement .ensures)
 
 returns-3 : tie.Need-returns-3
-returns-3 c = rw (c .before .before .before .before .m2 .given .1) (decides-same (c .takes .result) (λ h. (decided-true (c .before .before .shows .result) (not-false _ (c .before .if1 .left)) (c .before .before .shows .ensures), h)) (λ h. h .1) (c .takes .ensures))
+returns-3 c =
+    let shows = c .before .before .shows in
+    let shown = decided-true (shows .result) (not-false _ (c .before .if1 .left)) (shows .ensures) in
+    rw (c .before .before .before .before .m2 .given .1) (decides-same (c .takes .result) (λ h. (shown, h)) (λ h. h .1) (c .takes .ensures))
 
 pub fits-spec : {M : Type 1} → statement M
 fits-spec =

@@ -1,47 +1,79 @@
 use mathlib.Core.List.{List}
 use mathlib.Core.Path.{_≡_, refl, _∙_}
-use Prim.Native.Nat.{_-_}
+use Prim.Native.Nat.{_-_, _<_}
 use native.Mathlib.Omega.{arith}
 use borrow.Author.Needs.{needs}
 use lib.ListN.{length, length-set}
 use Rattle.published_rows.proofs.Memory.{remembers-none}
 use Rattle.verdicts.proofs.Marks.{statement-at}
 use Rattle.verdicts.proofs.Lists.{JudgedSoFar, judged-none, never-misspelled, line-below, judged-more, judged-all}
-use Rattle.published_rows.specs.Memory.{Remembering}
+use Rattle.published_rows.specs.Memory.{Remembers, Remembering}
 use Rattle.marks.proofs.Walk.{line-of, line-further}
 use Rattle.marks.specs.declared.Mark.{Mark}
-use Rattle.marks.specs.Reading.{Taken}
+use Rattle.marks.specs.Reading.{most, Taken}
 use Rattle.program.specs.Reading.{statements}
 use Rattle.verdicts.proofs.judge.Statement.{statement}
 use Rattle.verdicts.proofs.judge.Tie as tie
 
 abbrev Inv-loop : tie.InvT-loop
 Inv-loop marks facts flow verdicts₀ p n named₀ keys₀ rows₀ j₀ at₀ verdicts named keys rows j at =
-    (length verdicts ≡ length verdicts₀) × (length named ≡ 4) × ((ms : List Mark) → Taken marks ms → JudgedSoFar (statements p) marks ms verdicts₀ verdicts named j at) × Remembering n facts flow keys rows
+    (length verdicts ≡ length verdicts₀) × (length named ≡ 4)
+    × ((ms : List Mark) → Taken marks ms → JudgedSoFar (statements p) marks ms verdicts₀ verdicts named j at)
+    × Remembering n facts flow keys rows
 
 abbrev μ-loop : tie.MeasureT-loop
 μ-loop marks facts flow verdicts₀ p n named₀ keys₀ rows₀ j₀ at₀ verdicts named keys rows j at = length marks - at
 
 loop-holds : tie.Need-loop-holds Inv-loop μ-loop
-loop-holds c = (refl, omega (arith, c .before .before .before .clear .kept .0, c .before .before .before .before .before .blank-row .ensures .size), (λ ms t. judged-none _ (t .spells) (c .before .before .before .clear .ensures)), λ P k. remembers-none (c .before .blank-keys .ensures) (c .blank-memory .ensures))
+loop-holds c =
+    let clear = c .before .before .before .clear in (
+      refl,
+      omega (arith, clear .kept .0, c .before .before .before .before .before .blank-row .ensures .size),
+      (λ ms t. judged-none _ (t .spells) (clear .ensures)),
+      λ P k. remembers-none (c .before .blank-keys .ensures) (c .blank-memory .ensures),
+    )
 
 returns : tie.Need-returns Inv-loop μ-loop
-returns c = λ ms t. absurd (never-misspelled (c .before .before .before .before .loop .inv .2 ms t .begins) (c .before .before .before .loop-test .taken) (c .enum-told .given .1) (c .before .before .line .ensures))
+returns c =
+    let loop = c .before .before .before .before .loop in
+    λ ms t. absurd (never-misspelled (loop .inv .2 ms t .begins) (c .before .before .before .loop-test .taken) (c .enum-told .given .1) (c .before .before .line .ensures))
+
+-- ---- a mark is read
+
+abbrev Marked : Type 0
+Marked = tie.After-m Inv-loop μ-loop
+
+-- its line is one of at most 256
+below : (c : Marked) → c .before .before .before .before .loop .j < most
+below c =
+    let list = c .before .before .before .before .before .before .before .before .before .before .before .before .before .before .pre .1 .0 in
+    line-below (c .before .before .before .before .loop .inv .2 (list .ms) (list .taken) .begins) (list .taken) (c .m .given .1) (c .before .before .line .ensures)
+
+-- the rows that are remembered so far
+remembered : (c : Marked) → Remembers (statements (c .before .before .before .before .before .before .before .before .before .before .before .before .before .before .args .t2)) (c .before .before .before .before .loop .keys) (c .before .before .before .before .loop .rows)
+remembered c = c .before .before .before .before .loop .inv .3 _ (c .before .before .before .before .before .before .before .before .before .before .before .before .before .before .pre .0 .1)
 
 slice-aggregate-verdict-of-2 : tie.Need-slice-aggregate-verdict-of-2 Inv-loop μ-loop
-slice-aggregate-verdict-of-2 c = let l = c .before .before .before .before .before .before .before .before .before .loop .inv .3 _ (c .before .before .before .before .before .before .before .before .before .before .before .before .before .before .before .before .before .before .before .pre .0 .1) .many-keys in omega arith
+slice-aggregate-verdict-of-2 c = omega (arith, remembered (c .before .before .before .before .before) .many-keys)
 
 slice-aggregate-verdict-of-3 : tie.Need-slice-aggregate-verdict-of-3 Inv-loop μ-loop
-slice-aggregate-verdict-of-3 c = let l = c .before .before .before .before .before .before .before .before .before .before .loop .inv .3 _ (c .before .before .before .before .before .before .before .before .before .before .before .before .before .before .before .before .before .before .before .before .pre .0 .1) .many-rows in omega arith
+slice-aggregate-verdict-of-3 c = omega (arith, remembered (c .before .before .before .before .before .before) .many-rows)
 
 verdict-of-requires : tie.Need-verdict-of-requires Inv-loop μ-loop
-verdict-of-requires c κs = (record { P = statements (c .before .before .before .before .before .before .before .before .before .before .before .before .before .before .before .before .before .before .before .before .args .t2); known = c .before .before .before .before .before .before .before .before .before .before .before .before .before .before .before .before .before .before .before .before .pre .0 .1 }, ((line-of _ _ (c .before .before .before .before .before .before .m .given .1) (c .before .before .before .before .before .before .before .before .line .ensures) .valid, c .before .before .before .before .before .before .before .before .before .before .loop .inv .1), c .before .before .before .before .before .before .before .before .before .before .loop .inv .3))
+verdict-of-requires c κs =
+    let start = c .before .before .before .before .before .before .before .before .before .before .before .before .before .before .before .before .before .before .before .before in
+    let i = c .before .before .before .before .before .before .before .before .before .before .loop .inv in (
+      record { P = statements (start .args .t2); known = start .pre .0 .1 },
+      ((line-of _ _ (c .before .before .before .before .before .before .m .given .1) (c .before .before .before .before .before .before .before .before .line .ensures) .valid, i .1), i .3),
+    )
 
 slice-write-verdicts : tie.Need-slice-write-verdicts Inv-loop μ-loop
-slice-write-verdicts c = let t = c .before .before .before .before .before .before .before .before .before .before .before .before .before .before .before .before .before .before .before .before .before .before .before .before .pre .1 .0 in omega (arith, c .before .before .before .before .before .before .before .before .before .before .before .before .before .before .loop .inv .0, c .before .before .before .before .before .before .before .before .before .before .before .before .before .before .before .before .before .before .before .before .before .before .before .before .pre .1 .1, line-below (c .before .before .before .before .before .before .before .before .before .before .before .before .before .before .loop .inv .2 (t .ms) (t .taken) .begins) (t .taken) (c .before .before .before .before .before .before .before .before .before .before .m .given .1) (c .before .before .before .before .before .before .before .before .before .before .before .before .line .ensures))
+slice-write-verdicts c =
+    let marked = c .before .before .before .before .before .before .before .before .before .before in
+    omega (arith, marked .before .before .before .before .loop .inv .0, marked .before .before .before .before .before .before .before .before .before .before .before .before .before .before .pre .1 .1, below marked)
 
 add-j : tie.Need-add-j Inv-loop μ-loop
-add-j c = let t = c .before .before .before .before .before .before .before .before .before .before .before .before .before .before .before .before .before .before .before .before .before .before .before .before .before .before .before .pre .1 .0 in omega (arith, line-below (c .before .before .before .before .before .before .before .before .before .before .before .before .before .before .before .before .before .loop .inv .2 (t .ms) (t .taken) .begins) (t .taken) (c .before .before .before .before .before .before .before .before .before .before .before .before .before .m .given .1) (c .before .before .before .before .before .before .before .before .before .before .before .before .before .before .before .line .ensures))
+add-j c = omega (arith, below (c .before .before .before .before .before .before .before .before .before .before .before .before .before))
 
 loop-less : tie.Need-loop-less Inv-loop μ-loop
 loop-less c = line-further _ _ (c .before .before .before .before .before .before .before .before .before .before .before .before .before .m .given .1) (c .before .before .before .before .before .before .before .before .before .before .before .before .before .before .before .line .ensures)
@@ -50,12 +82,15 @@ loop-again : tie.Need-loop-again Inv-loop μ-loop
 loop-again c =
     let l = c .before .before .before .before .before .before .before .before .before .before .before .before .before .before .before .before .before .loop in
     let v = c .before .before .before .before .before .before .verdict-of in
-    let k = c .before .before .before .before .before .before .before .before .before .before .before .before .before .before .before .before .before .before .before .before .before .before .before .before .before .before .before .pre .0 in (
-      length-set (l .verdicts) (l .j) (c .before .before .before .number-of .result) ∙ l .inv .0,
+    let b = c .before .before .before .number-of in
+    let marked = c .before .before .before .before .before .before .before .before .before .before .before .before .before in
+    let k = marked .before .before .before .before .before .before .before .before .before .before .before .before .before .before .pre .0 in (
+      length-set (l .verdicts) (l .j) (b .result) ∙ l .inv .0,
       omega (arith, c .before .note .kept, l .inv .1),
       (λ ms t.
-          judged-more (l .inv .2 ms t) (c .before .before .before .before .before .before .before .before .before .before .before .before .before .m .given .1) (c .before .before .before .before .before .before .before .before .before .before .before .before .before .before .before .line .ensures) (v .result) _ (c .before .before .before .number-of .ensures)
-          (λ earlier g. v .ensures .0 _ (k .1) earlier (statement-at _ (k .0) (c .before .before .before .before .before .before .before .before .before .before .before .before .before .m .given .0 .0) _ (c .before .before .before .before .before .before .before .before .before .before .before .place-of .ensures .1)) g) (λ s. c .before .note .ensures _ (k .1 .few) s) (slice-write-verdicts (c .before .before .before))),
+          judged-more (l .inv .2 ms t) (marked .m .given .1) (marked .before .before .line .ensures) (v .result) _ (b .ensures)
+          (λ earlier g. v .ensures .0 _ (k .1) earlier (statement-at _ (k .0) (marked .m .given .0 .0) _ (c .before .before .before .before .before .before .before .before .before .before .before .place-of .ensures .1)) g)
+          (λ s. c .before .note .ensures _ (k .1 .few) s) (slice-write-verdicts (c .before .before .before))),
       v .ensures .1,
     )
 
