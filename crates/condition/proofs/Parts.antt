@@ -1,13 +1,13 @@
 -- A condition's parts: how many there are, and how long their texts. Assumes nothing.
 use mathlib.Core.Path.{_≡_, refl}
-use mathlib.Core.List.{[], _∷_}
-use Prim.Native.Nat.{ℕ, _+_, _≤_, _<_}
+use mathlib.Core.List.{List, [], _∷_, _++_, append-assoc}
+use Prim.Native.Nat.{ℕ, _+_, _-_, _≤_, _<_}
 use native.Mathlib.Omega.{arith}
-use lib.ListN.{length, length-append}
+use lib.ListN.{length, getD, length-append}
+use lib.Seq.{getD-append-seam}
 use Rattle.condition.specs.declared.Atom.{Atom}
 use Rattle.condition.specs.declared.Atom.the-variants.{True, False, Entry, Exit, Node, Stmt, Def, Use, Trans}
 use Rattle.condition.specs.Condition.{Unary, negation, Binary, conjunction, disjunction, Condition, atom, unary, binary, prefix, opening, middle, closing, spellAtom, spellCondition, parts}
-use Rattle.condition.specs.Words.{words}
 
 pub atom-longer : (a : Atom) → 0 < length (spellAtom a)
 unfolding spellAtom
@@ -30,22 +30,40 @@ opening-longer conjunction = omega arith
 opening-longer disjunction = omega arith
 opening-longer (Binary.path k d o) = omega arith
 
+-- an operator's text is as long as its pieces
+pub unary-length : (o : Unary) (p : Condition) → length (spellCondition (unary o p)) ≡ length (prefix o) + length (spellCondition p)
+unfolding spellCondition
+unary-length o p = length-append (prefix o) (spellCondition p)
+
+pub binary-length : (o : Binary) (p q : Condition)
+    → length (spellCondition (binary o p q)) ≡ length (opening o) + (length (spellCondition p) + (length (middle o) + (length (spellCondition q) + length (closing o))))
+unfolding spellCondition
+binary-length o p q = simp length-append
+
 -- each part has a byte of its own
 pub parts-few : (c : Condition) → (0 < length (parts c)) × (length (parts c) ≤ length (spellCondition c))
 unfolding parts spellCondition
 parts-few (atom a) = omega (arith, atom-longer a)
-parts-few (unary o p) =
-    omega (arith, parts-few p, prefix-longer o, length-append (parts p) (unary o p ∷ []), length-append (prefix o) (spellCondition p))
+parts-few (unary o p) = omega (arith, parts-few p, prefix-longer o, length-append (parts p) (unary o p ∷ []), unary-length o p)
 parts-few (binary o p q) =
-    let l : length (spellCondition (binary o p q)) ≡ length (opening o) + (length (spellCondition p) + (length (middle o) + (length (spellCondition q) + length (closing o)))) = simp length-append in
     let m : length (parts (binary o p q)) ≡ length (parts p) + (length (parts q) + 1) = simp length-append in
-    omega (arith, parts-few p, parts-few q, opening-longer o)
+    omega (arith, parts-few p, parts-few q, opening-longer o, binary-length o p q)
 
--- each part has its word
-pub words-length : (c : Condition) (n at : ℕ) → length (words c n at) ≡ length (parts c)
-unfolding words parts
-words-length (atom a) n at = refl
-words-length (unary o p) n at = simp (length-append, words-length p n (at + length (prefix o)))
-words-length (binary o p q) n at =
-    let first : ℕ = at + length (opening o) in
-    simp (length-append, words-length p n first, words-length q (n + length (parts p)) (first + length (spellCondition p) + length (middle o)))
+-- part k of the parts ps
+abbrev pub part : List Condition → ℕ → Condition
+part ps k = getD ps k (atom True)
+
+-- the whole condition is its own last part
+pub parts-last : (c : Condition) → part (parts c) (length (parts c) - 1) ≡ c
+unfolding parts
+parts-last (atom a) = refl
+parts-last (unary o p) = ends (parts p) (unary o p)
+  where
+    ends : (ps : List Condition) (c : Condition) → part (ps ++ c ∷ []) (length (ps ++ c ∷ []) - 1) ≡ c
+    ends ps c = let e : length (ps ++ c ∷ []) - 1 ≡ length ps = rw length-append (omega arith) in rw e (getD-append-seam ps c [] (atom True))
+parts-last (binary o p q) = ends (parts p) (parts q) (binary o p q)
+  where
+    ends : (ps qs : List Condition) (c : Condition) → part (ps ++ (qs ++ c ∷ [])) (length (ps ++ (qs ++ c ∷ [])) - 1) ≡ c
+    ends ps qs c =
+        let e : length (ps ++ (qs ++ c ∷ [])) - 1 ≡ length (ps ++ qs) = simp length-append (omega arith) in
+        rw (e, ← append-assoc ps qs (c ∷ [])) (getD-append-seam (ps ++ qs) c [] (atom True))

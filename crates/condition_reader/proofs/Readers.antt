@@ -9,15 +9,17 @@ use native.Mathlib.Nat.{le-refl}
 use lib.ListN.{length, drop, set, getD, length-append, length-drop}
 use lib.Seq.{sets, length-sets}
 use Rattle.tokens.specs.Parsing.{Parsed, found, misspelled, parseWord}
+use Rattle.tokens.proofs.Parse.{skip-sound}
 use Rattle.tokens.proofs.Steps.{at-end, at-byte}
 use Rattle.statement_writer.proofs.Puts.{sets-append}
 use Rattle.condition.specs.declared.Atom.{Atom}
-use Rattle.condition.specs.Condition.{Binary, Condition, atom, unary, binary, prefix, opening, middle, spellCondition, parts}
+use Rattle.condition.specs.Condition.{Binary, Condition, atom, unary, binary, prefix, opening, middle, closing, spellAtom, spellCondition, parts}
 use Rattle.condition.specs.Texts.{most-bytes, most-parts}
 use Rattle.condition.specs.Words.{unaryCode, binaryCode, word, words}
-use Rattle.condition.proofs.Parts.{prefix-longer, parts-few}
+use Rattle.condition.proofs.Parts.{atom-longer, prefix-longer, unary-length, binary-length, parts-few}
 use Rattle.condition.proofs.Words.{words-length}
 use Rattle.atom_reader.specs.Parsing.{parseAtom}
+use Rattle.atom_reader.proofs.Spelling.{atom-sound}
 use Rattle.operator_reader.specs.declared.Bracket.{Bracket}
 use Rattle.operator_reader.specs.declared.Bracket.the-variants.{Round, Some, All}
 use Rattle.operator_reader.specs.Parsing.{coded, openingOf, closingOf, parsePrefix, parseOpening, parseMiddle}
@@ -36,8 +38,8 @@ module _ (s w : List ℕ) (a b : ℕ) (e : drop a s ≡ w ++ drop b s) where
   pub beyond : 0 < length w → (a + length w ≤ b) × (a + length w ≤ length s)
   beyond h = omega (arith, between)
 
-  pub position : b < length s → b ≡ a + length w
-  position h = omega (arith, between)
+  pub position : 0 < length w → b ≤ length s → b ≡ a + length w
+  position h l = omega (arith, between)
 
 -- what is found, from the answer; the last argument goes on
 pub tells-found : {C : Type 0} (p : Parsed Condition) (s : List ℕ) (at : ℕ) (o : List ℕ) (n : ℕ) (q : List ℕ) (k m : ℕ) → Tells p s at o n q (Found k m)
@@ -76,9 +78,12 @@ same-room s at o n q k m i =
 
 module _ (s : List ℕ) (at : ℕ) (o : List ℕ) (n : ℕ) where
   -- an atom
-  pub leaf-found : (k : ℕ) (a : Atom) (q : List ℕ) → parseAtom (drop at s) ≡ found a (drop k s) → q ≡ set o n (word 0 0 at) → Tells (parseLeaf (drop at s)) s at o n q (Found k (n + 1))
-  unfolding parseLeaf words parts
-  leaf-found k a q e f = found-tells (parseLeaf (drop at s)) s at o n q k (n + 1) (atom a) (rw e) (record { text = f; counted = refl })
+  pub leaf-found : (k : ℕ) (a : Atom) (q : List ℕ) → parseAtom (drop at s) ≡ found a (drop k s) → k ≤ length s → q ≡ set o n (word 0 0 at k)
+      → Tells (parseLeaf (drop at s)) s at o n q (Found k (n + 1))
+  unfolding parseLeaf words parts spellCondition
+  leaf-found k a q e l f =
+      let z : k ≡ at + length (spellAtom a) = position s (spellAtom a) at k (atom-sound (drop at s) a (drop k s) e .0) (atom-longer a) l in
+      found-tells (parseLeaf (drop at s)) s at o n q k (n + 1) (atom a) (rw e) (record { text = f ∙ ap (λ (x : ℕ). set o n (word 0 0 at x)) z; counted = refl })
 
   pub leaf-not : (q : List ℕ) → parseAtom (drop at s) ≡ misspelled → Tells (parseLeaf (drop at s)) s at o n q Misspelled
   unfolding parseLeaf
@@ -110,22 +115,23 @@ module _ (s : List ℕ) (at : ℕ) (o : List ℕ) (n : ℕ) where
         let g = prefix-beyond in
         not-tells (parseUnary (parseCondition f) (drop at s)) s at o n q (rw (j, tells-not (parseCondition f (drop k s)) s k o n q (i f (omega arith))))
 
-    pub unary-found : (q q₁ : List ℕ) (next m : ℕ) → Reads s k o n q (Found next m) → q₁ ≡ set q m (word code 0 at)
+    pub unary-found : (q q₁ : List ℕ) (next m : ℕ) → Reads s k o n q (Found next m) → next ≤ length s → q₁ ≡ set q m (word code 0 at next)
         → ReadsBy (λ p. parseUnary p (drop at s)) s at o n q₁ (Found next (m + 1))
     unfolding parseUnary words parts
-    unary-found q q₁ next m i t f h =
+    unary-found q q₁ next m i r t f h =
         coded-inv unaryCode (parsePrefix (drop at s)) code (drop k s) e λ p j x.
         let g = prefix-beyond in
         tells-found (parseCondition f (drop k s)) s k o n q next m (i f (omega arith)) λ c y z.
-        let b = beyond s (spellCondition c) k next (condition-sound f (drop k s) c (drop next s) y .0) in
+        let e₁ = condition-sound f (drop k s) c (drop next s) y .0 in
         let l = parts-few c in
-        let d = b (omega arith) in
-        let w : k ≡ at + length (prefix p) = position s (prefix p) at k (prefix-sound (drop at s) p (drop k s) j) (omega arith) in
+        let d = beyond s (spellCondition c) k next e₁ (omega arith) in
+        let w : k ≡ at + length (prefix p) = position s (prefix p) at k (prefix-sound (drop at s) p (drop k s) j) (prefix-longer p) (omega arith) in
+        let w₁ : next ≡ at + length (spellCondition (unary p c)) = position s (spellCondition c) k next e₁ (omega arith) r ∙ omega (arith, unary-length p c) in
         let v = words-length c n k in
         let u : m ≡ n + length (words c n k) = z .counted ∙ rw v in
         found-tells (parseUnary (parseCondition f) (drop at s)) s at o n q₁ next (m + 1) (unary p c) (rw (j, y))
         (record {
-          text = t ∙ rw (z .text, u, ← x, ← w) (sets-append (words c n k) (word (unaryCode p) 0 at ∷ []) o n);
+          text = t ∙ rw (z .text, u, ← x, ← w, ← w₁) (sets-append (words c n k) (word (unaryCode p) 0 at next ∷ []) o n);
           counted = rw (length-append, z .counted) (omega arith);
         })
 
@@ -133,6 +139,11 @@ opening-of-longer : (b : Bracket) → 0 < length (openingOf b)
 opening-of-longer Round = omega arith
 opening-of-longer Some = omega arith
 opening-of-longer All = omega arith
+
+closing-of-longer : (b : Bracket) → 0 < length (closingOf b)
+closing-of-longer Round = omega arith
+closing-of-longer Some = omega arith
+closing-of-longer All = omega arith
 
 -- the words of two conditions and of their operator, one after the other
 sets-three : (a b : List ℕ) (x : ℕ) (o : List ℕ) (n : ℕ) → set (sets (sets o n a) (n + length a) b) (n + length a + length b) x ≡ sets o n (a ++ (b ++ x ∷ []))
@@ -218,10 +229,10 @@ module _ (s : List ℕ) (at first : ℕ) (b : Bracket) (o : List ℕ) (n : ℕ) 
             tells-found (parseCondition f (drop second s)) s second q m q₁ k₁ m₁ (j f (omega arith)) λ c₁ y₁ _.
             not-tells (parseBinary b (parseCondition f) (drop first s)) s at o n q₁ (rw (y, z, y₁, x))
 
-        pub binary-found : (q₂ : List ℕ) (next : ℕ) → parseWord (closingOf b) (drop k₁ s) ≡ found tt (drop next s) → q₂ ≡ set q₁ m₁ (word code (m - 1) at)
+        pub binary-found : (q₂ : List ℕ) (next : ℕ) → parseWord (closingOf b) (drop k₁ s) ≡ found tt (drop next s) → next ≤ length s → q₂ ≡ set q₁ m₁ (word code (m - 1) at next)
             → ReadsBy (λ p. parseBinary b p (drop first s)) s at o n q₂ (Found next (m₁ + 1))
         unfolding parseBinary words parts
-        binary-found q₂ next x t f h =
+        binary-found q₂ next x r t f h =
             let g = first-beyond in
             let d = middle-beyond in
             let w = bounds s first o n q k m i in
@@ -235,26 +246,31 @@ module _ (s : List ℕ) (at first : ℕ) (b : Bracket) (o : List ℕ) (n : ℕ) 
             let d₀ = beyond s (spellCondition c) first k e₁ (omega arith) in
             let n₁ = parts-few c₁ in
             let d₁ = beyond s (spellCondition c₁) second k₁ e₂ (omega arith) in
-            let u₁ : second ≡ k + length (middle p) = position s (middle p) k second (l .0) (omega arith) in
-            let u₂ : k ≡ first + length (spellCondition c) = position s (spellCondition c) first k e₁ (omega arith) in
-            let u₃ : first ≡ at + length (opening p) = position s (openingOf b) at first from (omega arith) ∙ rw (l .1 .opens) in
+            let e₃ = skip-sound (closingOf b) (drop k₁ s) x in
+            let d₂ = beyond s (closingOf b) k₁ next e₃ (closing-of-longer b) in
+            let u₁ : second ≡ k + length (middle p) = position s (middle p) k second (l .0) (omega (arith, ap length (l .1 .joins))) (omega arith) in
+            let u₂ : k ≡ first + length (spellCondition c) = position s (spellCondition c) first k e₁ (omega arith) (omega arith) in
+            let u₃ : first ≡ at + length (opening p) = position s (openingOf b) at first from (opening-of-longer b) (omega arith) ∙ rw (l .1 .opens) in
             let u₄ : second ≡ at + length (opening p) + length (spellCondition c) + length (middle p) = u₁ ∙ rw (u₂, u₃) in
+            let u₅ : k₁ ≡ second + length (spellCondition c₁) = position s (spellCondition c₁) second k₁ e₂ (omega arith) (omega arith) in
+            let u₆ : next ≡ k₁ + length (closing p) = position s (closingOf b) k₁ next e₃ (closing-of-longer b) r ∙ rw (l .1 .closes) in
+            let u₇ : next ≡ at + length (spellCondition (binary p c c₁)) = omega (arith, binary-length p c c₁) in
             let v₂ : m ≡ n + length (words c n first) = v .counted ∙ rw (words-length c n first) in
             let v₃ : m₁ ≡ m + length (words c₁ m second) = v₁ .counted ∙ rw (words-length c₁ m second) in
             found-tells (parseBinary b (parseCondition f) (drop first s)) s at o n q₂ next (m₁ + 1) (binary p c c₁) (rw (y, z, y₁, x))
             (record {
-              text = text c c₁ p v v₁ a u₃ u₄ v₂ v₃;
+              text = text c c₁ p v v₁ a u₃ u₄ u₇ v₂ v₃;
               counted = rw (length-append, length-append, v₁ .counted, v .counted) (omega arith);
             })
           where
             text : (c c₁ : Condition) (p : Binary) → Stored c first o n q m → Stored c₁ second q m q₁ m₁ → binaryCode p ≡ code → first ≡ at + length (opening p)
-                → second ≡ at + length (opening p) + length (spellCondition c) + length (middle p) → m ≡ n + length (words c n first) → m₁ ≡ m + length (words c₁ m second)
-                → q₂ ≡ sets o n (words (binary p c c₁) n at)
-            text c c₁ p v v₁ a u₃ u₄ v₂ v₃ =
+                → second ≡ at + length (opening p) + length (spellCondition c) + length (middle p) → next ≡ at + length (spellCondition (binary p c c₁))
+                → m ≡ n + length (words c n first) → m₁ ≡ m + length (words c₁ m second) → q₂ ≡ sets o n (words (binary p c c₁) n at)
+            text c c₁ p v v₁ a u₃ u₄ u₇ v₂ v₃ =
                 t
-                ∙ rw (v₁ .text, v₃, v .text, ← a, ← u₄, ← u₃, ← v .counted)
-                (ap (λ (z : ℕ). set (sets (sets o n (words c n first)) z (words c₁ m second)) (z + length (words c₁ m second)) (word (binaryCode p) (m - 1) at)) v₂
-                ∙ sets-three (words c n first) (words c₁ m second) (word (binaryCode p) (m - 1) at) o n)
+                ∙ rw (v₁ .text, v₃, v .text, ← a, ← u₄, ← u₃, ← u₇, ← v .counted)
+                (ap (λ (z : ℕ). set (sets (sets o n (words c n first)) z (words c₁ m second)) (z + length (words c₁ m second)) (word (binaryCode p) (m - 1) at next)) v₂
+                ∙ sets-three (words c n first) (words c₁ m second) (word (binaryCode p) (m - 1) at next) o n)
 
 -- nothing is left to read
 pub none-left : (s : List ℕ) (at : ℕ) (o : List ℕ) (n : ℕ) (q : List ℕ) → length s ≤ at → Reads s at o n q Misspelled

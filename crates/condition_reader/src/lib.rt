@@ -9,8 +9,11 @@ ghost use Rattle.operator_reader.specs.Parsing.{openingOf};
 ghost use Rattle.condition_reader.specs.Reading.{number, ConditionRead as WholeRead};
 ghost use Rattle.condition_reader.specs.Parsing.{parseLeaf, parseUnary, parseBinary, parseBracketed, conditionEnd, Tells, Reads, ReadsBy, TellsWhole, Ready};
 use atom_reader::AtomRead;
+use condition::END;
+use condition::LEFT;
 use condition::MOST_BYTES;
 use condition::MOST_PARTS;
+use condition::START;
 use operator_reader::Bracket;
 use operator_reader::BracketRead;
 use operator_reader::OperatorRead;
@@ -52,13 +55,13 @@ enum ConditionRead {
 }
 
 // One more part as a word, where there is room.
-fn push(out: &mut [u64; MOST_PARTS], n: usize, code: u8, left: usize, start: usize)
-    requires { ⌜ (left ≤ most-bytes) × (start ≤ most-bytes) ⌝ }
+fn push(out: &mut [u64; MOST_PARTS], n: usize, code: u8, left: usize, start: usize, end: usize)
+    requires { ⌜ (left ≤ most-bytes) × (start ≤ most-bytes) × (end ≤ most-bytes) ⌝ }
     requires { ⌜ length (now out) ≡ most-parts ⌝ }
-    ensures { λ _. ⌜ now (out .exit) ≡ set (now (out .entry)) n (word code left start) ⌝ }
+    ensures { λ _. ⌜ now (out .exit) ≡ set (now (out .entry)) n (word code left start end) ⌝ }
 {
     if n < MOST_PARTS {
-        out[n] = code as u64 + 256 * (left as u64) + 65536 * 256 * (start as u64);
+        out[n] = code as u64 + LEFT * (left as u64) + START * (start as u64) + END * (end as u64);
     }
 }
 
@@ -72,7 +75,7 @@ fn leaf(s: &[u8], at: usize, out: &mut [u64; MOST_PARTS], n: usize) -> Condition
     let AtomRead::Found(_, k) = atom_reader::atom(s, at) else {
         return ConditionRead::Misspelled;
     };
-    push(out, n, 0, 0, at);
+    push(out, n, 0, 0, at, k);
     ConditionRead::Found(k, n + 1)
 }
 
@@ -119,7 +122,7 @@ fn unary(s: &[u8], at: usize, out: &mut [u64; MOST_PARTS], n: usize) -> Conditio
     let ConditionRead::Found(next, m) = condition(s, k, out, n) else {
         return ConditionRead::Misspelled;
     };
-    push(out, m, code, 0, at);
+    push(out, m, code, 0, at, next);
     ConditionRead::Found(next, m + 1)
 }
 
@@ -150,7 +153,7 @@ fn binary(
     let WordRead::Found(next) = operator_reader::closing(s, k1, bracket) else {
         return ConditionRead::Misspelled;
     };
-    push(out, m1, code, m - 1, at);
+    push(out, m1, code, m - 1, at, next);
     ConditionRead::Found(next, m1 + 1)
 }
 

@@ -3,18 +3,19 @@ use mathlib.Core.Path.{_≡_, sym}
 use mathlib.Core.Bool.{true, false}
 use mathlib.Core.List.{List}
 use mathlib.Core.Logic.{_↔_, Iff·trans, ⊎-elim, inl, inr}
-use Prim.Native.Nat.{ℕ, _-_, _/_, _%_, _≤_, _<_}
+use Prim.Native.Nat.{ℕ, _-_, _<_}
 use native.Mathlib.Omega.{arith}
 use lib.ListN.{length}
 use borrow.Author.Tests.{lt-ltb, le-ltb}
 use Rattle.language.specs.declared.Statement.{Statement}
-use Rattle.ctl.specs.Paths.{E, A, quant, forward, backward}
+use Rattle.ctl.specs.Paths.{quant}
 use Rattle.ctl.proofs.Paths.{paths-same}
 use Rattle.labelling.proofs.Labels.{said-iff}
 use Rattle.flow.specs.Flow.{steps}
 use Rattle.flow.specs.FlowOf.{Flow, FlowOf}
-use Rattle.condition.specs.Condition.{next, finally, globally, until, weak, Unary, negation, Binary, conjunction, disjunction, Condition, atom, unary, binary}
-use Rattle.condition.specs.Words.{unaryCode, binaryCode}
+use Rattle.condition.specs.Condition.{Condition, atom, unary, binary}
+use Rattle.condition.specs.Words.{codeIn, leftIn}
+use Rattle.condition.proofs.Words.{unary-code, binary-code}
 use Rattle.truth.specs.Truth.{Sat}
 use Rattle.table.specs.Table.{partAt}
 use Rattle.table.specs.Rules.{Operation, one, two, codeOf, ruleOf, SatRule, flowSteps}
@@ -36,49 +37,22 @@ module _ (P : List Statement) (f : Flow) (flows : FlowOf P f) (X Y X′ Y′ : �
       Iff·trans (said-iff (flows .forward .graph) o (quant all) X Y X′ Y′ x y s l) (paths-same (flows .forward .graph) _ (flows .exact-forward) (quant all) _ s l)
   rule-sat rule.Nothing s l = (λ h. h, λ h. h)
 
-pub unary-above : (o : Unary) → (1 ≤ unaryCode o) × (unaryCode o < 14)
-unary-above negation = (omega arith, omega arith)
-unary-above (Unary.path E forward next) = (omega arith, omega arith)
-unary-above (Unary.path A forward next) = (omega arith, omega arith)
-unary-above (Unary.path E forward finally) = (omega arith, omega arith)
-unary-above (Unary.path A forward finally) = (omega arith, omega arith)
-unary-above (Unary.path E forward globally) = (omega arith, omega arith)
-unary-above (Unary.path A forward globally) = (omega arith, omega arith)
-unary-above (Unary.path E backward next) = (omega arith, omega arith)
-unary-above (Unary.path A backward next) = (omega arith, omega arith)
-unary-above (Unary.path E backward finally) = (omega arith, omega arith)
-unary-above (Unary.path A backward finally) = (omega arith, omega arith)
-unary-above (Unary.path E backward globally) = (omega arith, omega arith)
-unary-above (Unary.path A backward globally) = (omega arith, omega arith)
-
-pub binary-above : (o : Binary) → 14 ≤ binaryCode o
-binary-above conjunction = omega arith
-binary-above disjunction = omega arith
-binary-above (Binary.path E forward until) = omega arith
-binary-above (Binary.path A forward until) = omega arith
-binary-above (Binary.path E forward weak) = omega arith
-binary-above (Binary.path A forward weak) = omega arith
-binary-above (Binary.path E backward until) = omega arith
-binary-above (Binary.path A backward until) = omega arith
-binary-above (Binary.path E backward weak) = omega arith
-binary-above (Binary.path A backward weak) = omega arith
-
 iff-of : {X Y : Type 0} → X ≡ Y → X ↔ Y
 iff-of e = rw e (λ h. h, λ h. h)
 
 -- the operator of a part that is no atom, and its operands' parts
 pub record Operands (P : List Statement) (c : Condition) (k w : ℕ) : Type 0 where
   pub operation : Operation
-  pub coded : codeOf operation ≡ w % 256
+  pub coded : codeOf operation ≡ codeIn w
   pub inside : leftOf w k < k
   pub sat : (s : ℕ) → SatRule (steps P) (ruleOf operation) (Sat P (partAt c (leftOf w k))) (Sat P (partAt c (k - 1))) s ↔ Sat P (partAt c k) s
 
-pub operands : (P : List Statement) (t : List ℕ) (c : Condition) (k w : ℕ) (q : Condition) → partAt c k ≡ q → Tells t c k w q → (w % 256 ≡ 0 → ⊥) → Operands P c k w
+pub operands : (P : List Statement) (t : List ℕ) (c : Condition) (k w : ℕ) (q : Condition) → partAt c k ≡ q → Tells t c k w q → (codeIn w ≡ 0 → ⊥) → Operands P c k w
 unfolding Sat
 operands P t c k w (atom a) e h n = absurd (n (h .0))
 operands P t c k w (unary o p) e h n =
-    let b = unary-above o in
-    let l : leftOf w k ≡ k - 1 = rw (lt-ltb (w % 256) 14 (omega arith)) in
+    let b = unary-code o in
+    let l : leftOf w k ≡ k - 1 = rw (lt-ltb (codeIn w) 14 (omega arith)) in
     record {
       operation = one o;
       coded = sym (h .0);
@@ -86,8 +60,8 @@ operands P t c k w (unary o p) e h n =
       sat = λ s. rw (l, e, h .2) (iff-of (unary-rule P o (Sat P p) s));
     }
 operands P t c k w (binary o p q) e h n =
-    let b = binary-above o in
-    let l : leftOf w k ≡ w / 256 % 65536 = rw (le-ltb (w % 256) 14 (omega arith)) in
+    let b = binary-code o in
+    let l : leftOf w k ≡ leftIn w = rw (le-ltb (codeIn w) 14 (omega arith)) in
     record {
       operation = two o;
       coded = sym (h .0);

@@ -3,7 +3,7 @@ use mathlib.Core.Path.{_≡_, refl, sym, subst}
 use mathlib.Core.Bool.{false}
 use mathlib.Core.List.{List}
 use mathlib.Core.Logic.{_↔_, Iff·trans}
-use Prim.Native.Nat.{ℕ, _-_, _/_, _%_, _≤_, _<_}
+use Prim.Native.Nat.{ℕ, _-_, _≤_, _<_}
 use native.Mathlib.Omega.{arith}
 use lib.ListN.{length, take, drop, length-drop}
 use lib.Seq.{length-take-le, take-all}
@@ -15,6 +15,8 @@ use Rattle.graph.specs.Graphs.{entries, DirectionsAt}
 use Rattle.flow.specs.FlowOf.{flow-entries, flowAt}
 use Rattle.atoms.specs.Facts.{FactsOf}
 use Rattle.condition.specs.Condition.{Condition, atom, unary, binary}
+use Rattle.condition.specs.Words.{codeIn, startIn}
+use Rattle.condition.proofs.Words.{unary-code, binary-code}
 use Rattle.atom_reader.specs.Parsing.{parseAtom}
 use Rattle.truth.specs.Truth.{Holds, Sat}
 use Rattle.condition.specs.declared.Atom.{Atom}
@@ -22,7 +24,7 @@ use Rattle.table.specs.Table.{row, partAt, Written}
 use Rattle.table.specs.Rules.{Operation, codeOf, ruleOf, SatRule, flowSteps, BothWays}
 use Rattle.table.specs.Known.{Known}
 use Rattle.table.specs.Fill.{leftOf, Tells, PartReady}
-use Rattle.table.proofs.Operands.{rule-sat, Operands, operands, unary-above, binary-above}
+use Rattle.table.proofs.Operands.{rule-sat, Operands, operands}
 
 written-map : {old new : List ℕ} {k n : ℕ} (X Y : ℕ → Type 0) → ((s : ℕ) → s < n → X s ↔ Y s) → Written old new k n X → Written old new k n Y
 written-map X Y f w =
@@ -36,7 +38,7 @@ module _ {P : List Statement} {n : ℕ} {facts : List (List ℕ)} {flow t : List
   size = sym (r .known .size)
 
   -- a part with an operator's code
-  module _ (code : w % 256 ≡ 0 → ⊥) where
+  module _ (code : codeIn w ≡ 0 → ⊥) where
     abbrev ops : Operands P c k w
     ops = operands P t c k w (partAt c k) refl (r .tells) code
 
@@ -50,7 +52,7 @@ module _ {P : List Statement} {n : ℕ} {facts : List (List ℕ)} {flow t : List
     before-clear s l = let i = ops .inside in r .rows (k - 1) (omega arith) .beyond s l
 
     pub operator-written : (new : List ℕ) (left : ℕ) → left ≡ leftOf w k
-        → ((x : Operation) → codeOf x ≡ w % 256 → Written old new k n (SatRule (flowSteps n (flowAt flow)) (ruleOf x) (So (member (row old left))) (So (member (row old (k - 1))))))
+        → ((x : Operation) → codeOf x ≡ codeIn w → Written old new k n (SatRule (flowSteps n (flowAt flow)) (ruleOf x) (So (member (row old left))) (So (member (row old (k - 1))))))
         → Written old new k (length P) (Sat P (partAt c k))
     operator-written new left is h =
         let i = ops .inside in
@@ -65,16 +67,16 @@ module _ {P : List Statement} {n : ℕ} {facts : List (List ℕ)} {flow t : List
         g
 
   -- a part with an atom's
-  pub atom-written : (new : List ℕ) → w % 256 ≡ 0
-      → ((Q : List Statement) (a : Atom) (rest : List ℕ) → length Q ≡ n → FactsOf Q facts → parseAtom (drop (w / 16777216) t) ≡ found a rest → Written old new k n (Holds Q a))
+  pub atom-written : (new : List ℕ) → codeIn w ≡ 0
+      → ((Q : List Statement) (a : Atom) (rest : List ℕ) → length Q ≡ n → FactsOf Q facts → parseAtom (drop (startIn w) t) ≡ found a rest → Written old new k n (Holds Q a))
       → Written old new k (length P) (Sat P (partAt c k))
   unfolding Sat
   atom-written new code h = go (partAt c k) refl (r .tells)
     where
       go : (q : Condition) → partAt c k ≡ q → Tells t c k w q → Written old new k (length P) (Sat P (partAt c k))
       go (atom a) e d = rw e (subst (λ (m : ℕ). Written old new k m (Holds P a)) size (h P a (d .1) (r .known .size) (r .known .found) (d .2)))
-      go (unary o p) e d = let b = unary-above o in absurd (omega arith)
-      go (binary o p q) e d = let b = binary-above o in absurd (omega arith)
+      go (unary o p) e d = let b = unary-code o in absurd (omega arith)
+      go (binary o p q) e d = let b = binary-code o in absurd (omega arith)
 
 pub both-ways : {P : List Statement} {n : ℕ} {facts : List (List ℕ)} {flow : List ℕ} → Known P n facts flow → BothWays n flow
 both-ways x = rw (← x .size) (record { size = x .flow-size; ahead = x .flows .forward; behind = x .flows .backward })

@@ -1,7 +1,7 @@
 -- The table, part after part. Assumes nothing.
 use mathlib.Core.Path.{_≡_, sym, _∙_, subst}
 use mathlib.Core.List.{List}
-use Prim.Native.Nat.{ℕ, _+_, _-_, _*_, _/_, _%_, _≤_, _<_}
+use Prim.Native.Nat.{ℕ, _+_, _-_, _*_, _≤_, _<_}
 use native.Mathlib.Omega.{arith}
 use borrow.Author.Count.{below-more}
 use lib.ListN.{length, getD, drop}
@@ -9,10 +9,12 @@ use lib.Seq.{ext-getD, getD-take, getD-drop}
 use Rattle.language.specs.declared.Statement.{Statement}
 use Rattle.bits.specs.Row.{member}
 use Rattle.labelling.specs.Labels.{Labelled}
-use Rattle.condition.specs.Condition.{Condition, atom, unary, binary, parts}
+use Rattle.condition.specs.Condition.{Condition, atom, unary, binary, spellCondition, parts}
+use Rattle.condition.specs.Words.{codeIn, leftIn}
 use Rattle.condition.specs.Texts.{most-parts}
 use Rattle.truth.specs.Truth.{Sat}
-use Rattle.condition_reader.proofs.Words.{operatorCode, Operands, held-describes}
+use Rattle.condition.proofs.Words.{operatorCode, Stands, stands-from, Operands, held-describes}
+use Rattle.atom_reader.proofs.Spelling.{atom-complete}
 use Rattle.table.specs.Table.{part-words, row, partAt, Kept, Written}
 use Rattle.table.specs.Known.{Known, SomeKnown}
 use Rattle.table.specs.Fill.{Tells, RowsRight, PartReady, HeldOf, SomeHeld, TableOf}
@@ -20,13 +22,14 @@ use Rattle.table.proofs.Lent.{row-length}
 
 -- what the reader's words tell
 pub word-tells : {t : List ℕ} {c : Condition} {m : ℕ} {ws : List ℕ} → HeldOf t c m ws → (k : ℕ) → k < m → Tells t c k (getD ws k 0) (partAt c k)
-word-tells {t = t} {c = c} {m = m} {ws = ws} h k l = let d = held-describes t c m ws (h .taken) (h .held) k l in go (partAt c k) (d .code) (d .operands)
+unfolding spellCondition
+word-tells {t = t} {c = c} {ws = ws} h k l = let d = held-describes (h .taken) (h .held) k l in go (partAt c k) (d .code) (d .stands) (d .operands)
   where
-    go : (q : Condition) → getD ws k 0 % 256 ≡ operatorCode q → Operands t (parts c) 0 k (getD ws k 0) q → Tells t c k (getD ws k 0) q
-    go (atom a) e o = (e, o .0, o .1)
-    go (unary u p) e o = (e, o .later, o .operand)
-    go (binary b p q) e o =
-        let n : getD ws k 0 / 256 % 65536 ≡ o .left = o .named ∙ omega arith in
+    go : (q : Condition) → codeIn (getD ws k 0) ≡ operatorCode q → Stands t (getD ws k 0) q → Operands (parts c) 0 k (getD ws k 0) q → Tells t c k (getD ws k 0) q
+    go (atom a) e d o = (e, d .rest, rw (stands-from d) (atom-complete a (d .rest) (d .valid)))
+    go (unary u p) e d o = (e, o .later, o .operand)
+    go (binary b p q) e d o =
+        let n : leftIn (getD ws k 0) ≡ o .left = o .named ∙ omega arith in
         (e, rw n (o .earlier), rw n (o .first), o .second)
 
 -- a row before the words that were written is kept

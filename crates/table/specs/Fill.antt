@@ -3,7 +3,7 @@
 use mathlib.Core.Path.{_≡_}
 use mathlib.Core.List.{List}
 use mathlib.Core.Bool.{Bool, true, false}
-use Prim.Native.Nat.{ℕ, _+_, _-_, _*_, _/_, _%_, _≤_, _<_}
+use Prim.Native.Nat.{ℕ, _+_, _-_, _*_, _≤_, _<_}
 use lib.Dec.{ltb}
 use lib.ListN.{length, getD, drop}
 use Rattle.base.specs.Pick.{pick}
@@ -12,7 +12,7 @@ use Rattle.tokens.specs.Parsing.{found}
 use Rattle.bits.specs.Row.{member}
 use Rattle.labelling.specs.Labels.{Labelled}
 use Rattle.condition.specs.Condition.{Condition, atom, unary, binary, parts}
-use Rattle.condition.specs.Words.{unaryCode, binaryCode, Held}
+use Rattle.condition.specs.Words.{unaryCode, binaryCode, codeIn, leftIn, startIn, Held}
 use Rattle.condition.specs.Texts.{Taken}
 use Rattle.atom_reader.specs.Parsing.{parseAtom}
 use Rattle.truth.specs.Truth.{Sat}
@@ -21,13 +21,13 @@ use Rattle.table.specs.Known.{Known}
 
 -- the left operand's part, by the word w of part k: of a unary operator it is the part before
 abbrev pub leftOf : ℕ → ℕ → ℕ
-leftOf w k = pick (ltb (w % 256) 14) (k - 1) (w / 256 % 65536)
+leftOf w k = pick (ltb (codeIn w) 14) (k - 1) (leftIn w)
 
 -- what the word w tells of part k of the condition c with the text t
 abbrev pub Tells : List ℕ → Condition → ℕ → ℕ → Condition → Type 0
-Tells t c k w (atom a) = (w % 256 ≡ 0) × (rest : List ℕ) × (parseAtom (drop (w / 16777216) t) ≡ found a rest)
-Tells t c k w (unary o p) = (w % 256 ≡ unaryCode o) × (0 < k) × (partAt c (k - 1) ≡ p)
-Tells t c k w (binary o p q) = (w % 256 ≡ binaryCode o) × (w / 256 % 65536 < k) × (partAt c (w / 256 % 65536) ≡ p) × (partAt c (k - 1) ≡ q)
+Tells t c k w (atom a) = (codeIn w ≡ 0) × (rest : List ℕ) × (parseAtom (drop (startIn w) t) ≡ found a rest)
+Tells t c k w (unary o p) = (codeIn w ≡ unaryCode o) × (0 < k) × (partAt c (k - 1) ≡ p)
+Tells t c k w (binary o p q) = (codeIn w ≡ binaryCode o) × (leftIn w < k) × (partAt c (leftIn w) ≡ p) × (partAt c (k - 1) ≡ q)
 
 -- the rows of the parts before k are right
 abbrev pub RowsRight : List Statement → Condition → List ℕ → ℕ → Type 0

@@ -22,7 +22,10 @@ ghost use Rattle.labelling.specs.Labels.{Labelled, Rows};
 ghost use Rattle.truth.specs.Truth.{Holds, Sat};
 ghost use Rattle.table.specs.Rules.{Operation, codeOf, ruleOf, SatRule, flowSteps, BothWays};
 use atom_reader::AtomRead;
+use condition::FIELD;
+use condition::LEFT;
 use condition::MOST_PARTS;
+use condition::START;
 use labelling::Operator;
 
 // The words of a part: one bit for each statement.
@@ -169,10 +172,10 @@ fn left_of(w: u64, k: usize) -> usize
     requires { ⌜ 0 < k ⌝ }
     ensures { λ r. ⌜ r ≡ leftOf w k ⌝ }
 {
-    if w % 256 < 14 {
+    if w % LEFT < 14 {
         k - 1
     } else {
-        (w / 256 % 65536) as usize
+        (w / LEFT % FIELD) as usize
     }
 }
 
@@ -189,9 +192,9 @@ fn fill_part(
     requires { ⌜ SomeReady n (now facts) (now flow) (now text) w (now table) k ⌝ }
     ensures { λ _. ⌜ ((P : List StatementOf) (c : Condition) → PartReady P n (now (facts .entry)) (now (flow .entry)) (now (text .entry)) c w (now (table .entry)) k → Written (now (table .entry)) (now (table .exit)) k (length P) (Sat P (partAt c k))) ⌝ }
 {
-    let code = w % 256;
+    let code = w % LEFT;
     if code == 0 {
-        let start = (w / 16777216) as usize;
+        let start = (w / START % FIELD) as usize;
         fill_atom(text, start, n, facts, table, k);
     } else {
         let left = left_of(w, k);

@@ -1,6 +1,4 @@
 pub mod Texts
-pub mod Spans
-pub mod Ends
 pub mod Parts
 pub mod Together
 pub mod Room

@@ -20,14 +20,14 @@ use Rattle.table.specs.Summary.{Counts}
 use Rattle.desk.proofs.Lengths.{wide-length, padded-length}
 use Rattle.view.specs.View.{margin, partLine, partLines, headRow, tens, units, mark, row, rows, viewText, view-room}
 use Rattle.view.proofs.Texts.{upto-most, columns-length, part-length, head-length, row-length, last-length}
-use Rattle.view.proofs.Spans.{span-short}
+use Rattle.condition.proofs.Words.{stands-short, held-describes}
 
 part-most : {u : List ℕ} {c : Condition} {n : ℕ} {ws : List ℕ} → Taken u c → Held c n ws → (k : ℕ) → k < n
     → length (partLine k (spellCondition (partAt c k))) ≤ most-bytes + 5
 part-most {c = c} a d k h =
     let e = d .counted in
     let f = a .few in
-    omega (arith, part-length k (spellCondition (partAt c k)), wide-length 2 (k + 1), digits-length 1 (k + 1) (omega arith), span-short a d k h)
+    omega (arith, part-length k (spellCondition (partAt c k)), wide-length 2 (k + 1), digits-length 1 (k + 1) (omega arith), stands-short (held-describes a d k h .stands), a .short)
 
 near : (N : ℕ) (s : Statement) → N ≤ most → Targets N s → Near s
 near N (Read x) h t = tt

@@ -4,8 +4,7 @@ use mathlib.Core.Bool.{Bool}
 use mathlib.Core.Logic.{_⊎_}
 use mathlib.Core.List.{List}
 use Prim.Native.Nat.{ℕ, _+_, _-_, _*_, _≤_, _<_}
-use lib.ListN.{length, drop}
-use Rattle.tokens.specs.Parsing.{found}
+use lib.ListN.{length}
 use Rattle.statement_writer.specs.Writing.{Put}
 use Rattle.language.specs.declared.Statement.{Statement}
 use Rattle.program.specs.Program.{Taken, most}
@@ -14,10 +13,8 @@ use Rattle.program.specs.declared.Program.{Program}
 use Rattle.program.specs.declared.Refusal.{Refusal}
 use Rattle.bits.specs.Row.{member}
 use Rattle.condition.specs.Condition.{Condition}
-use Rattle.atom_reader.specs.Parsing.{parseAtom}
 use Rattle.condition.specs.Texts as condition
 use Rattle.condition.specs.Words as condition-words
-use Rattle.condition.specs.declared.Atom.{Atom}
 use Rattle.tabulate.specs.Tabulate.{table-words}
 use Rattle.blame.specs.Blame.{Blames}
 use Rattle.desk.specs.Refusals.{refusalText}
@@ -63,16 +60,6 @@ pub record RowFits (table : List ℕ) (n s : ℕ) (i : Statement) (at room : ℕ
   pub tabled : Tabled table n
   pub placed : s < most
   pub fits : at + length (rowText (truthIn table) n s i) ≤ room
-
--- where the atom at `start` of the text s ends
-abbrev pub AtomEnds : List ℕ → ℕ → ℕ → Type 0
-AtomEnds s start r = (a : Atom) (rest : List ℕ) → parseAtom (drop start s) ≡ found a rest → r ≡ length s - length rest
-
--- where a part ends, by its operator's code, the part before it ending at `end`
-pub record PartEnds (s : List ℕ) (code start end r : ℕ) : Type 0 where
-  pub atom : code ≡ 0 → AtomEnds s start r
-  pub unary : 0 < code → code < 14 → r ≡ end
-  pub binary : 14 ≤ code → r ≡ end + 1
 
 -- the text u is that of a condition of n parts, with the words ws, whose lines have room from `at` on
 pub record PartsFit (u ws : List ℕ) (n at room : ℕ) : Type 0 where

@@ -10,13 +10,15 @@ ghost use Rattle.condition.specs.Texts.{Taken, most-parts, most-bytes};
 ghost use Rattle.tabulate.specs.Tabulate.{table-words};
 ghost use Rattle.desk.specs.Refusals.{refusal-room};
 ghost use Rattle.view.specs.View.{pick, partLine, partLines, columns, headRow, row as rowText, rows, lastLine, viewText, Views};
-ghost use Rattle.view.specs.Writing.{truthIn, byteIn, Placed, Tabled, ColumnsFit, HeadFits, RowFits, RowsFit, AtomEnds, PartEnds, PartsFit, ViewFits, RefusalPut};
+ghost use Rattle.view.specs.Writing.{truthIn, byteIn, Placed, Tabled, ColumnsFit, HeadFits, RowFits, RowsFit, PartsFit, ViewFits, RefusalPut};
 
 pub mod page;
 
-use atom_reader::AtomRead;
+use condition::END;
+use condition::FIELD;
 use condition::MOST_BYTES;
 use condition::MOST_PARTS;
+use condition::START;
 use language::Statement;
 use program::Program;
 use tabulate::TABLE_WORDS;
@@ -28,8 +30,6 @@ const MARGIN: usize = 37;
 pub const VIEW_ROOM: usize = MOST_PARTS * (MOST_BYTES + 5)
     + (program::MOST + 2) * (MARGIN + MOST_PARTS + 3)
     + 33;
-// The codes of operators with two operands begin here.
-const FIRST_BINARY: u64 = 14;
 
 // Written: the number of bytes of the view. Refused: the same of a refusal's text. NoRoom: under VIEW_ROOM bytes are lent.
 pub enum Viewed {
@@ -138,44 +138,16 @@ fn write_part(out: &mut [u8], at: usize, k: usize, text: &[u8]) -> usize
     statement_writer::byte(out, k3, 10)
 }
 
-// Where the atom at the position ends.
-fn atom_end(text: &[u8], start: usize) -> usize
-    ensures { λ r. ⌜ AtomEnds (now (text .entry)) start r ⌝ }
-{
-    let AtomRead::Found(_, k) = atom_reader::atom(text, start) else {
-        return 0;
-    };
-    if k < text.len() {
-        return k;
-    }
-    text.len()
-}
-
-// Where a part ends, by its operator's code: its last operand is the part before it, which ends at `end`.
-fn part_end(text: &[u8], code: u64, start: usize, end: usize) -> usize
-    requires { ⌜ end ≤ most-bytes ⌝ }
-    ensures { λ r. ⌜ PartEnds (now (text .entry)) code start end r ⌝ }
-{
-    if code == 0 {
-        return atom_end(text, start);
-    }
-    if code < FIRST_BINARY {
-        return end;
-    }
-    end + 1
-}
-
 fn write_parts(out: &mut [u8], at: usize, text: &[u8], words: [u64; MOST_PARTS], n: usize) -> usize
     requires { ⌜ PartsFit (now text) words n at (length (now out)) ⌝ }
     ensures { λ r. ⌜ ((c : Condition) → Taken (now (text .entry)) c → Put (now (out .entry)) at (partLines c) (now (out .exit)) r) ⌝ }
 {
     let mut to = at;
-    let mut end: usize = 0;
     let mut k: usize = 0;
     while k < n {
         let w = words[k];
-        let start = (w / 16777216) as usize;
-        end = part_end(text, w % 256, start, end);
+        let start = (w / START % FIELD) as usize;
+        let end = (w / END) as usize;
         to = write_part(out, to, k, &text[start..end]);
         k += 1;
     }

@@ -13,7 +13,7 @@ use Rattle.operator_reader.specs.Parsing.{parsedOperator, parsedBracket}
 use Rattle.condition_reader.specs.Parsing.{conditionEnd, parseLeaf, parseBracketed}
 use Rattle.operator_reader.proofs.Spelling.{opening-sound}
 use Rattle.condition_reader.proofs.Readers as laws
-use Prim.Native.Nat.{ℕ, _+_, _-_, _*_, _<_}
+use Prim.Native.Nat.{ℕ, _+_, _-_, _*_, _≤_, _<_}
 use borrow.Fn.Kinds.{In}
 use borrow.Fn.PlainCycle.{Measures, is, falls, and}
 use Rattle.condition_reader.proofs.binary.Reads as binary
@@ -228,8 +228,10 @@ pub +binary+bracketed+condition+unary-spec : {M : Type 1} → statement M
     (λ c. both-read t (c .before) .some)
     (λ c κs.
     let r = both-read t (c .before) in
-    let p = c .before .before .before .before .before .before .before .before .before .before .before .before .before .before .before .before .before .before .before .before .pre .1 in
-    ((r .left, omega (arith, p .1 .0, p .0 .short)), r .room))
+    let read = c .before .before in
+    let closed = read .before .before in
+    let p = closed .before .before .before .before .before .before .before .before .before .before .before .before .before .before .before .before .pre .1 in
+    ((r .left, omega (arith, p .1 .0, p .0 .short), omega (arith, closed .closing .ensures .1, ap wordEnd (read .next .given .1), p .0 .short)), r .room))
     (λ c. omega (arith, both-read t (c .before .before) .fits))
     (λ c.
     let read = c .before .before .before in
@@ -252,10 +254,11 @@ pub +binary+bracketed+condition+unary-spec : {M : Type 1} → statement M
     let a = start .args in
     let s = a .s .now in
     let p = start .pre .1 in
-    let e = sym (m .middle .ensures .0) ∙ ap (parsedOperator s) (x .1) in (
+    let e = sym (m .middle .ensures .0) ∙ ap (parsedOperator s) (x .1) in
+    let w : next .0 .0 ≤ length s = omega (arith, closed .closing .ensures .1, ap wordEnd (next .1)) in (
       laws.binary-found s (a .at) (a .first) (a .bracket) (a .out .now) (a .n) (p .1 .1) (k .0 .0) (k .0 .1 .0) q i (x .0 .0) (x .0 .1 .0) e
-          (l .0 .0) (l .0 .1 .0) q₁ j (c .push .last .0) (next .0 .0) (sym (closed .closing .ensures .0) ∙ ap (parsedWord s) (next .1)) (c .push .ensures),
-      omega (arith, closed .closing .ensures .1, ap wordEnd (next .1)),
+          (l .0 .0) (l .0 .1 .0) q₁ j (c .push .last .0) (next .0 .0) (sym (closed .closing .ensures .0) ∙ ap (parsedWord s) (next .1)) w (c .push .ensures),
+      w,
     )))
     (λ t. bracketed-lts.spec (
       opening-reads.Asked,
@@ -400,7 +403,10 @@ pub +binary+bracketed+condition+unary-spec : {M : Type 1} → statement M
     let s = a .s .now in
     let p = start .pre in
     let e = sym (opened .prefix .ensures .0) ∙ ap (parsedOperator s) (x .1) in
-    ((omega arith, omega (arith, p .1 .1, p .1 .0 .short)), laws.same-room s (x .0 .1 .0) (a .out .now) (a .n) q (k .0 .0) (k .0 .1 .0) i ∙ p .1 .0 .room))
+    let w = called .condition .ensures .1 in (
+      (omega arith, omega (arith, p .1 .1, p .1 .0 .short), omega (arith, w, ap conditionEnd (k .1), p .1 .0 .short)),
+      laws.same-room s (x .0 .1 .0) (a .out .now) (a .n) q (k .0 .0) (k .0 .1 .0) i ∙ p .1 .0 .room,
+    ))
     (λ c.
     let found = c .before .before .before in
     let k = found .next .given in
@@ -429,7 +435,8 @@ pub +binary+bracketed+condition+unary-spec : {M : Type 1} → statement M
     let a = start .args in
     let s = a .s .now in
     let p = start .pre in
-    let e = sym (opened .prefix .ensures .0) ∙ ap (parsedOperator s) (x .1) in (
-      laws.unary-found s (a .at) (a .out .now) (a .n) (x .0 .0) (x .0 .1 .0) e q (c .push .last .0) (k .0 .0) (k .0 .1 .0) i (c .push .ensures),
-      omega (arith, called .condition .ensures .1, ap conditionEnd (k .1)),
+    let e = sym (opened .prefix .ensures .0) ∙ ap (parsedOperator s) (x .1) in
+    let w : k .0 .0 ≤ length s = omega (arith, called .condition .ensures .1, ap conditionEnd (k .1)) in (
+      laws.unary-found s (a .at) (a .out .now) (a .n) (x .0 .0) (x .0 .1 .0) e q (c .push .last .0) (k .0 .0) (k .0 .1 .0) i w (c .push .ensures),
+      w,
     ))

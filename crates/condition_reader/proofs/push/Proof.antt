@@ -10,12 +10,13 @@ use Rattle.condition_reader.proofs.push.Tie as tie
 returns-2 : tie.Need-returns-2
 returns-2 c =
     let a = c .before .args in
-    sym (set-out (a .out .now) (a .n) (word (a .code) (a .left) (a .start)) (omega (arith, c .before .pre .1)))
+    sym (set-out (a .out .now) (a .n) (word (a .code) (a .left) (a .start) (a .end)) (omega (arith, c .before .pre .1)))
 
 pub push-spec : {M : Type 1} → statement M
 push-spec =
     tie.close
     (tie.spec
+    (λ c. search needs)
     (λ c. search needs)
     (λ c. search needs)
     (λ c. search needs)
