@@ -4,5 +4,4 @@ pub mod Together
 pub mod Room
 pub mod Views
 pub mod Refusals
-pub mod Escapes
 pub mod Unique

@@ -5,7 +5,7 @@ use Prim.Native.Nat.{ℕ, _+_, _-_, _≤_, _<_}
 use native.Mathlib.Omega.{arith}
 use lib.ListN.{length, take, drop, getD}
 use Rattle.statement_writer.specs.Writing.{Put}
-use Rattle.condition.specs.Condition.{Condition, spellCondition, parts}
+use Rattle.condition.specs.Condition.{Condition, spellCondition}
 use Rattle.condition.specs.Texts.{most-parts, Taken}
 use Rattle.condition.specs.Words.{startIn, endIn, Held}
 use Rattle.condition.proofs.Words.{Stands, stands-text, held-describes}

@@ -6,14 +6,11 @@ ghost use Prim.Native.Nat.{_≤_, _<_, _+_, _/_};
 ghost use Rattle.statement_writer.specs.Writing.{Put};
 ghost use Rattle.program.specs.Reading.{statements};
 ghost use Rattle.condition.specs.Condition.{Condition};
-ghost use Rattle.condition.specs.Texts.{Taken, most-parts, most-bytes};
+ghost use Rattle.condition.specs.Texts.{Taken, most-parts};
 ghost use Rattle.tabulate.specs.Tabulate.{table-words};
 ghost use Rattle.desk.specs.Refusals.{refusal-room};
 ghost use Rattle.view.specs.View.{pick, partLine, partLines, columns, headRow, row as rowText, rows, lastLine, viewText, Views};
 ghost use Rattle.view.specs.Writing.{truthIn, byteIn, Placed, Tabled, ColumnsFit, HeadFits, RowFits, RowsFit, PartsFit, ViewFits, RefusalPut};
-
-pub mod page;
-
 use condition::END;
 use condition::FIELD;
 use condition::MOST_BYTES;

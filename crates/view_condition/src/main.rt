@@ -1,7 +1,7 @@
 // Shows at which statements of a program the parts of a condition are true, as `view` says. The arguments name the files of the program
 // and of the condition, `given` and `condition` where they are left out; a byte 10 at the condition's end is dropped. With `--html` before
 // them the same text is printed within a page.
-mod page;
+mod frame;
 
 ghost use lib.ListN.{length};
 ghost use Prim.Native.Nat.{_≤_};
@@ -11,10 +11,10 @@ use files::RESULT;
 use files::UNREAD;
 use files::UNWRITTEN;
 use libc::STDERR_FILENO;
+use page::PAGE_ROOM;
 use tokens::WordRead;
 use view::VIEW_ROOM;
 use view::Viewed;
-use view::page::PAGE_ROOM;
 
 // The length of the text without a byte 10 at its end.
 fn without_end(text: &[u8]) -> usize
@@ -42,7 +42,7 @@ fn print(program: &[u8], condition: &[u8]) -> u8 {
 
 // The text within the page.
 fn print_around(text: &[u8], status: u8) -> u8 {
-    if page::print_head() && files::write(text) && page::print_tail() {
+    if frame::print_head() && files::write(text) && frame::print_tail() {
         return status;
     }
     UNWRITTEN
@@ -51,7 +51,7 @@ fn print_around(text: &[u8], status: u8) -> u8 {
 fn print_page(program: &[u8], condition: &[u8]) -> u8 {
     let end = without_end(condition);
     let mut out = [0u8; PAGE_ROOM];
-    match view::page::page(program, &condition[..end], &mut out) {
+    match page::page(program, &condition[..end], &mut out) {
         Viewed::Written(n) => print_around(&out[..n], RESULT),
         Viewed::Refused(n) => print_around(&out[..n], REFUSAL),
         Viewed::NoRoom => UNWRITTEN,

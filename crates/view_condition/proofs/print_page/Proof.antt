@@ -1,7 +1,7 @@
 -- `print_page` meets its contract: what is written lies within the bytes lent to `page`. Assumes nothing.
 use mathlib.Core.Path.{sym}
 use lib.Seq.{length-take-le}
-use Rattle.view.proofs.Escapes.{view-within, refusal-within}
+use Rattle.page.proofs.Escapes.{view-within, refusal-within}
 use borrow.Author.Needs.{needs}
 use Rattle.view_condition.proofs.print_page.Statement.{statement}
 use Rattle.view_condition.proofs.print_page.Tie as tie

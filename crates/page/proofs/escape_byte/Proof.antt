@@ -1,9 +1,9 @@
 -- `escape_byte` meets its contract: each arm writes what its byte is escaped to. Assumes nothing.
 use borrow.Author.Needs.{needs}
 use borrow.Author.Tests.{ne-eqb}
-use Rattle.view.specs.Page.{escapeByte}
-use Rattle.view.proofs.page.escape_byte.Statement.{statement}
-use Rattle.view.proofs.page.escape_byte.Tie as tie
+use Rattle.page.specs.Page.{escapeByte}
+use Rattle.page.proofs.escape_byte.Statement.{statement}
+use Rattle.page.proofs.escape_byte.Tie as tie
 
 word-requires : tie.Need-word-requires
 unfolding escapeByte

@@ -5,11 +5,11 @@ use native.Mathlib.Omega.{arith}
 use lib.ListN.{length, getD}
 use borrow.Author.Needs.{needs}
 use Rattle.statement_writer.specs.Writing.{Put}
 use Rattle.view.specs.View.{upTo}
-use Rattle.view.specs.Page.{escapeByte, escape}
+use Rattle.page.specs.Page.{escapeByte, escape}
 use Rattle.view.proofs.Texts.{put-length, upto-none, upto-room, upto-more, upto-all}
-use Rattle.view.proofs.page.escape.Statement.{statement}
-use Rattle.view.proofs.page.escape.Tie as tie
+use Rattle.page.proofs.escape.Statement.{statement}
+use Rattle.page.proofs.escape.Tie as tie
 
 abbrev byteOf : List ℕ → ℕ → List ℕ
 byteOf s i = escapeByte (getD s i 0)

@@ -3,10 +3,10 @@ ghost use mathlib.Core.Path.{_≡_};
 ghost use lib.ListN.{length};
 ghost use Prim.Native.Nat.{_≤_, _+_};
 ghost use Rattle.statement_writer.specs.Writing.{Put};
 ghost use Rattle.view.specs.View.{view-room};
-ghost use Rattle.view.specs.Page.{escapeByte, escape as escaped, Pages};
-use crate::VIEW_ROOM;
-use crate::Viewed;
+ghost use Rattle.page.specs.Page.{escapeByte, escape as escaped, Pages};
+use view::VIEW_ROOM;
+use view::Viewed;
 
 // Every page's text has room in this many bytes.
 pub const PAGE_ROOM: usize = VIEW_ROOM * 5;
@@ -50,7 +50,7 @@ pub fn page(program: &[u8], condition: &[u8], out: &mut [u8]) -> Viewed
         return Viewed::NoRoom;
     }
     let mut plain = plain_buffer();
-    match crate::view(program, condition, &mut plain) {
+    match view::view(program, condition, &mut plain) {
         Viewed::Written(n) => Viewed::Written(escape(out, &plain[..n])),
         Viewed::Refused(n) => Viewed::Refused(escape(out, &plain[..n])),
         Viewed::NoRoom => Viewed::NoRoom,

@@ -1,14 +1,14 @@
 -- `page` meets its contract: the view, escaped. Assumes nothing.
-use Rattle.view.proofs.Escapes.{never, page-fits, page-printed}
+use Rattle.page.proofs.Escapes.{never, page-fits, page-printed}
 use Rattle.view.proofs.Views.{as-view, as-refusal, printed-within}
 use Rattle.view.specs.View.{PrintsView, PrintsRefusal, Printed}
 use lib.Seq.{length-take-le}
 use mathlib.Core.Path.{sym}
 use mathlib.Core.List.{List}
 use Prim.Native.Nat.{ℕ}
 use borrow.Author.Needs.{needs}
-use Rattle.view.proofs.page.page.Statement.{statement}
-use Rattle.view.proofs.page.page.Tie as tie
+use Rattle.page.proofs.page.Statement.{statement}
+use Rattle.page.proofs.page.Tie as tie
 
 -- such an output of n bytes, which the viewer left in the plain bytes
 abbrev Left : (List ℕ → List ℕ → List ℕ → Type 0) → tie.After-view → ℕ → Type 0

@@ -9,11 +9,11 @@ use lib.ListN.{length, take, getD}
 use Rattle.base.specs.Pick.{pick}
 use Rattle.statement_writer.specs.Writing.{Put}
 use Rattle.statement_writer.proofs.Puts.{put-front, put-within}
 use Rattle.view.specs.View.{PrintsView, PrintsRefusal, view-room, Printed, Views}
-use Rattle.view.specs.Page.{escapeByte, escape, page-room, PagePrinted, Pages}
+use Rattle.page.specs.Page.{escapeByte, escape, page-room, PagePrinted, Pages}
 use Rattle.view.specs.declared.Viewed.{Viewed}
 use Rattle.view.specs.declared.Viewed.the-variants.{Written, Refused, NoRoom}
 use Rattle.view.proofs.Texts.{upto-most}
 
 pick-most : (b : Bool) (xs ys : List ℕ) (m : ℕ) → length xs ≤ m → length ys ≤ m → length (pick b xs ys) ≤ m
 pick-most true xs ys m h k = h
