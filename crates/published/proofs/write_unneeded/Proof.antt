@@ -22,7 +22,9 @@ variable-requires-2 : tie.Need-variable-requires-2
 variable-requires-2 c κs = omega (arith, short (c .before .before .before .before .before .before .before .before .before .before .before .before .before .before .before .before))
 
 word-requires-3 : tie.Need-word-requires-3
-word-requires-3 c κs = omega (arith, short (c .before .before .before .before .before .before .before .before .before .before .before .before .before .before .before .before .before .before .before .before .before))
+word-requires-3 c κs =
+    let start = c .before .before .before .before .before .before .before .before .before .before .before .before .before .before .before .before .before .before .before .before .before in
+    omega (arith, short start)
 
 returns : tie.Need-returns
 returns c =

@@ -30,7 +30,8 @@ row-of-requires c κs =
 returns : tie.Need-returns
 returns c =
     let start = c .before .before .before .before .before .before .before in
-    λ P k. published-labelled (start .args .m) (start .pre .1) _ (put-front (c .before .before .before .write-published .ensures) (room (c .before .before .before .before .before))) (c .row-of .ensures P k)
+    let text = put-front (c .before .before .before .write-published .ensures) (room (c .before .before .before .before .before)) in
+    λ P k. published-labelled (start .args .m) (start .pre .1) _ text (c .row-of .ensures P k)
 
 pub published-row-spec : {M : Type 1} → statement M
 published-row-spec =

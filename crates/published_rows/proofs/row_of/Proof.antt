@@ -9,9 +9,12 @@ use Rattle.published_rows.proofs.row_of.Tie as tie
 returns : tie.Need-returns
 returns c = absurd (not-refused (c .before .before .before .before .before .before .pre .1) _ _ (c .before .before .before .read .ensures) _ (c .before .enum-told .given .1))
 
+abbrev start : tie.After-answer → tie.Start
+start c = c .before .before .before .before .before
+
 -- the words that were read hold the condition
-held : (c : tie.After-answer) → HeldOf (c .before .before .before .before .before .args .text .now) (c .before .before .before .before .before .pre .1 .c) (c .answer .given .0 .0) (c .before .before .read .result .words)
-held c = read-held (c .before .before .before .before .before .pre .1) _ _ (c .before .before .read .ensures) _ (c .answer .given .1)
+held : (c : tie.After-answer) → HeldOf (start c .args .text .now) (start c .pre .1 .c) (c .answer .given .0 .0) (c .before .before .read .result .words)
+held c = read-held (start c .pre .1) _ _ (c .before .before .read .ensures) _ (c .answer .given .1)
 
 fill-requires : tie.Need-fill-requires
 fill-requires c κs =

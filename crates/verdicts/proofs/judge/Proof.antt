@@ -43,15 +43,21 @@ returns c =
 abbrev Marked : Type 0
 Marked = tie.After-m Inv-loop μ-loop
 
+abbrev start : Marked → tie.Start Inv-loop μ-loop
+start c = c .before .before .before .before .before .before .before .before .before .before .before .before .before .before
+
+abbrev loop : Marked → tie.At-loop Inv-loop μ-loop
+loop c = c .before .before .before .before
+
 -- its line is one of at most 256
-below : (c : Marked) → c .before .before .before .before .loop .j < most
+below : (c : Marked) → loop c .loop .j < most
 below c =
-    let list = c .before .before .before .before .before .before .before .before .before .before .before .before .before .before .pre .1 .0 in
-    line-below (c .before .before .before .before .loop .inv .2 (list .ms) (list .taken) .begins) (list .taken) (c .m .given .1) (c .before .before .line .ensures)
+    let list = start c .pre .1 .0 in
+    line-below (loop c .loop .inv .2 (list .ms) (list .taken) .begins) (list .taken) (c .m .given .1) (c .before .before .line .ensures)
 
 -- the rows that are remembered so far
-remembered : (c : Marked) → Remembers (statements (c .before .before .before .before .before .before .before .before .before .before .before .before .before .before .args .t2)) (c .before .before .before .before .loop .keys) (c .before .before .before .before .loop .rows)
-remembered c = c .before .before .before .before .loop .inv .3 _ (c .before .before .before .before .before .before .before .before .before .before .before .before .before .before .pre .0 .1)
+remembered : (c : Marked) → Remembers (statements (start c .args .t2)) (loop c .loop .keys) (loop c .loop .rows)
+remembered c = loop c .loop .inv .3 _ (start c .pre .0 .1)
 
 slice-aggregate-verdict-of-2 : tie.Need-slice-aggregate-verdict-of-2 Inv-loop μ-loop
 slice-aggregate-verdict-of-2 c = omega (arith, remembered (c .before .before .before .before .before) .many-keys)
@@ -61,35 +67,38 @@ slice-aggregate-verdict-of-3 c = omega (arith, remembered (c .before .before .be
 
 verdict-of-requires : tie.Need-verdict-of-requires Inv-loop μ-loop
 verdict-of-requires c κs =
-    let start = c .before .before .before .before .before .before .before .before .before .before .before .before .before .before .before .before .before .before .before .before in
-    let i = c .before .before .before .before .before .before .before .before .before .before .loop .inv in (
-      record { P = statements (start .args .t2); known = start .pre .0 .1 },
-      ((line-of _ _ (c .before .before .before .before .before .before .m .given .1) (c .before .before .before .before .before .before .before .before .line .ensures) .valid, i .1), i .3),
+    let marked = c .before .before .before .before .before .before in
+    let i = loop marked .loop .inv in (
+      record { P = statements (start marked .args .t2); known = start marked .pre .0 .1 },
+      ((line-of _ _ (marked .m .given .1) (marked .before .before .line .ensures) .valid, i .1), i .3),
     )
 
 slice-write-verdicts : tie.Need-slice-write-verdicts Inv-loop μ-loop
 slice-write-verdicts c =
     let marked = c .before .before .before .before .before .before .before .before .before .before in
-    omega (arith, marked .before .before .before .before .loop .inv .0, marked .before .before .before .before .before .before .before .before .before .before .before .before .before .before .pre .1 .1, below marked)
+    omega (arith, loop marked .loop .inv .0, start marked .pre .1 .1, below marked)
 
 add-j : tie.Need-add-j Inv-loop μ-loop
 add-j c = omega (arith, below (c .before .before .before .before .before .before .before .before .before .before .before .before .before))
 
 loop-less : tie.Need-loop-less Inv-loop μ-loop
-loop-less c = line-further _ _ (c .before .before .before .before .before .before .before .before .before .before .before .before .before .m .given .1) (c .before .before .before .before .before .before .before .before .before .before .before .before .before .before .before .line .ensures)
+loop-less c =
+    let marked = c .before .before .before .before .before .before .before .before .before .before .before .before .before in
+    line-further _ _ (marked .m .given .1) (marked .before .before .line .ensures)
 
 loop-again : tie.Need-loop-again Inv-loop μ-loop
 loop-again c =
-    let l = c .before .before .before .before .before .before .before .before .before .before .before .before .before .before .before .before .before .loop in
+    let marked = c .before .before .before .before .before .before .before .before .before .before .before .before .before in
+    let l = loop marked .loop in
+    let place = c .before .before .before .before .before .before .before .before .before .before .before .place-of in
     let v = c .before .before .before .before .before .before .verdict-of in
     let b = c .before .before .before .number-of in
-    let marked = c .before .before .before .before .before .before .before .before .before .before .before .before .before in
-    let k = marked .before .before .before .before .before .before .before .before .before .before .before .before .before .before .pre .0 in (
+    let k = start marked .pre .0 in (
       length-set (l .verdicts) (l .j) (b .result) ∙ l .inv .0,
       omega (arith, c .before .note .kept, l .inv .1),
       (λ ms t.
           judged-more (l .inv .2 ms t) (marked .m .given .1) (marked .before .before .line .ensures) (v .result) _ (b .ensures)
-          (λ earlier g. v .ensures .0 _ (k .1) earlier (statement-at _ (k .0) (marked .m .given .0 .0) _ (c .before .before .before .before .before .before .before .before .before .before .before .place-of .ensures .1)) g)
+          (λ earlier g. v .ensures .0 _ (k .1) earlier (statement-at _ (k .0) (marked .m .given .0 .0) _ (place .ensures .1)) g)
           (λ s. c .before .note .ensures _ (k .1 .few) s) (slice-write-verdicts (c .before .before .before))),
       v .ensures .1,
     )

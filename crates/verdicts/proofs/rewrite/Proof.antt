@@ -34,30 +34,38 @@ returns c =
 abbrev Marked : Type 0
 Marked = tie.After-m Inv-loop μ-loop
 
--- its line is one of at most 256
-below : (c : Marked) → c .before .before .before .before .loop .j < marks.most
-below c =
-    let list = c .before .before .before .before .before .before .before .before .pre .1 in
-    line-below (c .before .before .before .before .loop .inv .1 (list .ms) (list .taken) .begins) (list .taken) (c .m .given .1) (c .before .before .line .ensures)
+abbrev start : Marked → tie.Start Inv-loop μ-loop
+start c = c .before .before .before .before .before .before .before .before
 
-few : (c : Marked) → c .before .before .before .before .loop .accepted ≤ c .before .before .before .before .loop .j
-few c = let list = c .before .before .before .before .before .before .before .before .pre .1 in accepted-few (c .before .before .before .before .loop .inv .1 (list .ms) (list .taken))
+abbrev loop : Marked → tie.At-loop Inv-loop μ-loop
+loop c = c .before .before .before .before
+
+-- its line is one of at most 256
+below : (c : Marked) → loop c .loop .j < marks.most
+below c =
+    let list = start c .pre .1 in
+    line-below (loop c .loop .inv .1 (list .ms) (list .taken) .begins) (list .taken) (c .m .given .1) (c .before .before .line .ensures)
+
+few : (c : Marked) → loop c .loop .accepted ≤ loop c .loop .j
+few c = let list = start c .pre .1 in accepted-few (loop c .loop .inv .1 (list .ms) (list .taken))
 
 -- the given program has room in the entries
-room : (c : Marked) → length (statements (c .before .before .before .before .before .before .before .before .args .t2)) ≤ most
-room c = held-few (c .before .before .before .before .before .before .before .before .pre .0)
+room : (c : Marked) → length (statements (start c .args .t2)) ≤ most
+room c = held-few (start c .pre .0)
 
-room-on : (c : Marked) → length (statements (c .before .before .before .before .before .before .before .before .args .t2)) ≤ length (c .before .before .before .before .loop .entries)
-room-on c = omega (arith, room c, c .before .before .before .before .loop .inv .0)
+room-on : (c : Marked) → length (statements (start c .args .t2)) ≤ length (loop c .loop .entries)
+room-on c = omega (arith, room c, loop c .loop .inv .0)
 
 -- where it is accepted, its statement is one of the program's
-inside : (c : tie.Then1 Inv-loop μ-loop) → InsideOf (statements (c .before .before .before .before .before .before .before .before .before .before .before .args .t2)) (c .before .before .before .m .given .0 .0)
+inside : (c : tie.Then1 Inv-loop μ-loop) → InsideOf (statements (start (c .before .before .before) .args .t2)) (c .before .before .before .m .given .0 .0)
 inside c =
-    let list = c .before .before .before .before .before .before .before .before .before .before .before .pre .1 in
-    accepted-inside (c .before .before .before .before .before .before .before .loop .inv .1 (list .ms) (list .taken)) (c .before .before .before .m .given .1) (c .before .before .before .before .before .line .ensures) _ (list .judged) (room-on (c .before .before .before)) (c .if1 .taken)
+    let marked = c .before .before .before in
+    let list = start marked .pre .1 in
+    accepted-inside (loop marked .loop .inv .1 (list .ms) (list .taken)) (marked .m .given .1) (marked .before .before .line .ensures) _ (list .judged)
+    (room-on marked) (c .if1 .taken)
 
 shared-slice-read-if1 : tie.Need-shared-slice-read-if1 Inv-loop μ-loop
-shared-slice-read-if1 c = omega (arith, c .before .before .before .before .before .before .before .before .before .before .pre .1 .room, below (c .before .before))
+shared-slice-read-if1 c = omega (arith, start (c .before .before) .pre .1 .room, below (c .before .before))
 
 sub-place : tie.Need-sub-place Inv-loop μ-loop
 sub-place c = omega (arith, c .statement-of .ensures, inside (c .before))
@@ -79,10 +87,10 @@ loop-less c = line-further _ _ (c .before .before .before .before .before .befor
 
 loop-again : tie.Need-loop-again Inv-loop μ-loop
 loop-again c =
-    let loop = c .before .before .before .before .before .before .before .before .before .before .loop in
-    let marked = c .before .before .before .before .before .before in (
-      length-set (loop .entries) _ _ ∙ loop .inv .0,
-      λ ms t. made-more (loop .inv .1 ms t) (marked .m .given .1) (marked .before .before .line .ensures) _ (verdicts-same (c .before .before .before .before .before .before .before .before .before .before .before .before .before .before .pre .1) t)
+    let marked = c .before .before .before .before .before .before in
+    let l = loop marked .loop in (
+      length-set (l .entries) _ _ ∙ l .inv .0,
+      λ ms t. made-more (l .inv .1 ms t) (marked .m .given .1) (marked .before .before .line .ensures) _ (verdicts-same (start marked .pre .1) t)
           (room-on marked) (c .before .before .before .if1 .taken) _ (c .before .before .statement-of .ensures) _ (c .makes .ensures),
     )
 

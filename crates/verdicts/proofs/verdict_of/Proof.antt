@@ -22,22 +22,24 @@ use Rattle.verdicts.proofs.verdict_of.Tie as tie
 abbrev Of : tie.Start → List Statement → Type 0
 Of s P = Known P (s .args .n) (s .args .facts .now) (s .args .flow .now)
 
+abbrev start : tie.Else1 → tie.Start
+start c = c .before .before .before .before .before .before .before
+
 -- the statement that the mark names is one of P
-inside : (c : tie.Else1) {P : List Statement} → Of (c .before .before .before .before .before .before .before) P
-    → Inside (length P) (names (c .before .before .before .before .before .before .before .args .m)) × Inside most (names (c .before .before .before .before .before .before .before .args .m))
+inside : (c : tie.Else1) {P : List Statement} → Of (start c) P → Inside (length P) (names (start c .args .m)) × Inside most (names (start c .args .m))
 inside c k =
     let test = c .before .before .is-inside in
-    inside-of k (c .before .before .before .before .before .before .before .args .m) (decided-true (test .result) (not-false _ (c .if1 .left)) (test .ensures))
+    inside-of k (start c .args .m) (decided-true (test .result) (not-false _ (c .if1 .left)) (test .ensures))
 
-placed : (c : tie.Else1) {P : List Statement} → Of (c .before .before .before .before .before .before .before) P → c .before .before .before .place-of .result ≡ place (c .before .before .before .before .before .before .before .args .m)
+placed : (c : tie.Else1) {P : List Statement} → Of (start c) P → c .before .before .before .place-of .result ≡ place (start c .args .m)
 placed c k = c .before .before .before .place-of .ensures .1 (inside c k .1)
 
 -- no earlier line names it
-unnamed : (c : tie.Else2) {P : List Statement} → Of (c .before .before .before .before .before .before .before .before) P → member (c .before .before .before .before .before .before .before .before .args .named .now) (place (c .before .before .before .before .before .before .before .before .args .m)) ≡ false
+unnamed : (c : tie.Else2) {P : List Statement} → Of (start (c .before)) P → member (start (c .before) .args .named .now) (place (start (c .before) .args .m)) ≡ false
 unnamed c k = rw (← placed (c .before) k) (sym (c .before .before .contains .ensures) ∙ c .if2 .left)
 
 -- the mark fits
-fits : (c : tie.Else3) → Fits (c .before .before .before .before .before .before .before .before .before .before .args .m) (c .before .before .before .before .before .before .before .before .before .before .args .i)
+fits : (c : tie.Else3) → Fits (start (c .before .before .before) .args .m) (start (c .before .before .before) .args .i)
 fits c = decided-true (c .before .fits2 .result) (not-false _ (c .if3 .left)) (c .before .fits2 .ensures)
 
 is-inside-requires : tie.Need-is-inside-requires
@@ -45,47 +47,51 @@ is-inside-requires c κs = let k = c .before .before .before .before .pre .0 .kn
 
 returns : tie.Need-returns
 returns c =
-    let start = c .before .before .before .before .before .before .before in
+    let args = c .before .before .before .before .before .before .before .args in
     let test = c .before .before .is-inside in (
-      λ P k. judged-lacking P (start .args .m) (start .args .i) _ (λ i. decided-false (test .result) (not-true _ (c .if1 .taken)) (test .ensures) (rw (k .size) at i)),
-      start .pre .1 .1,
+      λ P k. judged-lacking P (args .m) (args .i) _ (λ i. decided-false (test .result) (not-true _ (c .if1 .taken)) (test .ensures) (rw (k .size) at i)),
+      c .before .before .before .before .before .before .before .pre .1 .1,
     )
 
 returns-2 : tie.Need-returns-2
 returns-2 c =
-    let start = c .before .before .before .before .before .before .before .before in (
-      λ P k. judged-repeated P (start .args .m) (start .args .i) _ (inside (c .before) k .0) (rw (← placed (c .before) k) (sym (c .before .before .contains .ensures) ∙ c .if2 .taken)),
-      start .pre .1 .1,
+    let given = start (c .before) in (
+      λ P k. judged-repeated P (given .args .m) (given .args .i) _ (inside (c .before) k .0)
+          (rw (← placed (c .before) k) (sym (c .before .before .contains .ensures) ∙ c .if2 .taken)),
+      given .pre .1 .1,
     )
 
 returns-3 : tie.Need-returns-3
 returns-3 c =
-    let start = c .before .before .before .before .before .before .before .before .before .before in (
-      λ P k. judged-unfit P (start .args .m) (start .args .i) _ (inside (c .before .before .before) k .0) (unnamed (c .before .before) k)
+    let given = start (c .before .before .before) in (
+      λ P k. judged-unfit P (given .args .m) (given .args .i) _ (inside (c .before .before .before) k .0) (unnamed (c .before .before) k)
           (decided-false (c .before .fits2 .result) (not-true _ (c .if3 .taken)) (c .before .fits2 .ensures)),
-      start .pre .1 .1,
+      given .pre .1 .1,
     )
 
 contains-requires-2 : tie.Need-contains-requires-2
 contains-requires-2 c κs =
     let k = c .before .before .before .before .before .before .before .before .before .before .before .before .before .before .before .before .before .pre .0 in
-    omega (arith, c .before .before .before .before .before .before .before .before .before .before .before .before .before .place-of .ensures .0, c .before .before .before .before .remembered-row .ensures .0 (k .P) (k .known) .1)
+    let row = c .before .before .before .before .remembered-row in
+    omega (arith, c .before .before .before .before .before .before .before .before .before .before .before .before .before .place-of .ensures .0, row .ensures .0 (k .P) (k .known) .1)
 
 returns-4 : tie.Need-returns-4
 returns-4 c =
-    let start = c .before .before .before .before .before .before .before .before .before .before .before .before .before .before .before .before .before .before .before in
+    let fit = c .before .before .before .before .before .before .before .before .before in
+    let tested = fit .before .before .before in
     let r = c .before .before .before .before .before .before .remembered-row .ensures in (
-      λ P k. judged-unmet P (start .args .m) (start .args .i) _ (inside (c .before .before .before .before .before .before .before .before .before .before .before .before) k .0) (unnamed (c .before .before .before .before .before .before .before .before .before .before .before) k) (fits (c .before .before .before .before .before .before .before .before .before)) (r .0 P k .0)
-          (rw (← placed (c .before .before .before .before .before .before .before .before .before .before .before .before) k) (sym (c .before .contains2 .ensures) ∙ not-true _ (c .if4 .taken))),
+      λ P k. judged-unmet P (start tested .args .m) (start tested .args .i) _ (inside tested k .0) (unnamed (fit .before .before) k) (fits fit) (r .0 P k .0)
+          (rw (← placed tested k) (sym (c .before .contains2 .ensures) ∙ not-true _ (c .if4 .taken))),
       r .1,
     )
 
 returns-5 : tie.Need-returns-5
 returns-5 c =
-    let start = c .before .before .before .before .before .before .before .before .before .before .before .before .before .before .before .before .before .before .before in
+    let fit = c .before .before .before .before .before .before .before .before .before in
+    let tested = fit .before .before .before in
     let r = c .before .before .before .before .before .before .remembered-row .ensures in (
-      λ P k. judged-accepted P (start .args .m) (start .args .i) _ (inside (c .before .before .before .before .before .before .before .before .before .before .before .before) k .0) (unnamed (c .before .before .before .before .before .before .before .before .before .before .before) k) (fits (c .before .before .before .before .before .before .before .before .before)) (r .0 P k .0)
-          (rw (← placed (c .before .before .before .before .before .before .before .before .before .before .before .before) k) (sym (c .before .contains2 .ensures) ∙ not-false _ (c .if4 .left))),
+      λ P k. judged-accepted P (start tested .args .m) (start tested .args .i) _ (inside tested k .0) (unnamed (fit .before .before) k) (fits fit) (r .0 P k .0)
+          (rw (← placed tested k) (sym (c .before .contains2 .ensures) ∙ not-false _ (c .if4 .left))),
       r .1,
     )
 
