@@ -48,7 +48,7 @@ each-is [] h = tt
 each-is (c ∷ l) h = (case-is c (h .0), each-is l (h .1))
 
 pub cases-hold : Each Is cases
-unfolding bytes lines P-program right after printed
+unfolding lines P-program right after printed
 cases-hold =
     each-is cases
     (refl, (refl, (refl, (refl, (refl, (refl, (refl, (refl, (λ a b c d r. refl, (λ a b c d r. refl, (λ a b c d r. (refl, refl), (refl, tt))))))))))))

@@ -22,7 +22,6 @@ use Rattle.report.specs.Report.{PrintsReport}
 
 -- "each line ended by byte 10"
 unfoldable pub lines : List String → List ℕ
-unfolding bytes
 lines [] = []
 lines (s ∷ l) = bytes s ++ 10 ∷ lines l
 

@@ -1,4 +1,2 @@
 pub mod Lines
 pub mod Stepping
-pub mod Heading
-pub mod Closing

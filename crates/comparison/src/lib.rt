@@ -13,9 +13,6 @@ use machine::Next;
 use machine::VALUES;
 use program::Program;
 
-pub mod closing;
-pub mod heading;
-
 // Columns of a statement's text.
 const TEXT_COLUMNS: usize = 30;
 // A variable and its two values have room in this many bytes, and a line in this many.

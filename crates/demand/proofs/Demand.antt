@@ -15,45 +15,28 @@ use Rattle.program.specs.Reading as program
 use Rattle.program.proofs.RoundTrip.{taken-unique, program-taken}
 use Rattle.machine.specs.Answer.{Answers}
 use Rattle.machine.specs.declared.Answer.{Answer}
-use Rattle.machine.specs.declared.Answer.the-variants as machine
 use Rattle.marks.specs.Reading as marks
 use Rattle.marks.specs.declared.Mark.{Mark}
 use Rattle.rewriting.specs.Verdicts.{Verdicts, Rewritten}
-use Rattle.lockstep.specs.Lockstep.{Changed, Alike}
+use Rattle.lockstep.specs.Lockstep.{Changed}
 use Rattle.lockstep.proofs.Lockstep.{together}
 use Rattle.lockstep.proofs.Changed.{changed-wellformed}
 use Rattle.lockstep.proofs.Answers.{answers-alike}
 use Rattle.rewriting.proofs.Accepted.{accepted-judged, judged-accepted}
 use Rattle.rewriting.proofs.Rewritten.{rewritten-changed}
-use Rattle.run.specs.Run.{most-steps, RunFinished, RunAnswers}
+use Rattle.run.specs.Run.{most-steps, RunAnswers}
 use Rattle.demand.specs.Demand.{RunsAlike, Demand3}
 use Rattle.run.specs.declared.RunAnswer.{RunAnswer}
-use Rattle.run.specs.declared.RunAnswer.the-variants.{Refused, Ended, Spent}
-
--- ---- what a call of `run` answers where it isn't refused
-
-abbrev called : Answer → RunAnswer
-called (machine.Ended v k) = Ended v k
-called (machine.Spent n) = Spent n
-
-calls-alike : (a b : Answer) → Alike a b → RunsAlike (called a) (called b)
-calls-alike (machine.Ended v k) (machine.Ended w l) h = h
-calls-alike (machine.Ended v k) (machine.Spent m) h = h
-calls-alike (machine.Spent n) (machine.Ended w l) h = h
-calls-alike (machine.Spent n) (machine.Spent m) h = h
+use Rattle.run.specs.declared.RunAnswer.the-variants.{Refused, Finished}
 
 module _ {t : List ℕ} {P : List Statement} (taken : Taken t P) (start : List ℕ) (input budget : ℕ) (allowed : budget ≤ most-steps) where
-  -- the program that answers is the one that the text is taken as
-  finished-answers : (a : Answer) (ws : List ℕ) → RunFinished t start input budget a ws → Answers P start input budget a ws
-  finished-answers a ws f = subst (λ (Q : List Statement). Answers Q start input budget a ws) (taken-unique (f .taken) taken) (f .answers)
-
-  -- a text that is taken gets none of 2 to 5, and an allowed budget not 15
-  called-answers : (r : RunAnswer) (ws : List ℕ) → RunAnswers t start input budget r ws → (a : Answer) × (r ≡ called a) × Answers P start input budget a ws
+  -- a text that is taken gets none of 2 to 5, and an allowed budget not 15; the program that answers is the one that the text is taken as
+  called-answers : (r : RunAnswer) (ws : List ℕ) → RunAnswers t start input budget r ws → (a : Answer) × (r ≡ Finished a) × Answers P start input budget a ws
   called-answers (Refused n) ws (inl (over, is), kept) = absurd (omega (arith, over, allowed))
   called-answers (Refused n) ws (inr (within, f, refused, is), kept) =
       absurd (program-taken (taken .program) f (subst (λ (s : List ℕ). program.Refused s f) (taken .lines) refused))
-  called-answers (Ended v k) ws f = (machine.Ended v k, refl, finished-answers (machine.Ended v k) ws f)
-  called-answers (Spent n) ws f = (machine.Spent n, refl, finished-answers (machine.Spent n) ws f)
+  called-answers (Finished a) ws f =
+      (a, refl, subst (λ (Q : List Statement). Answers Q start input budget a ws) (taken-unique (f .taken) taken) (f .answers))
 
 pub demand-3 :
     {t u : List ℕ} {P : List Statement} {ms : List Mark} → Taken t P → marks.Taken u ms
@@ -83,4 +66,4 @@ demand-3 {t} {u} {P} {ms} given listed vs judged Q r = record {
     alike start l input budget allowed a b ws us p q =
         let x = called-answers given start input budget allowed a ws p in
         let y = called-answers taken start input budget allowed b us q in
-        rw (x .1, y .1) (calls-alike (x .0) (y .0) (answers-alike (given .program) changed start l input budget (x .0) (y .0) ws us (x .2) (y .2)))
+        rw (x .1, y .1) (answers-alike (given .program) changed start l input budget (x .0) (y .0) ws us (x .2) (y .2))

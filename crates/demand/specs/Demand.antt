@@ -15,20 +15,16 @@ use Rattle.marks.specs.declared.Mark.{Mark}
 use Rattle.marks.specs.Marks.{markAt}
 use Rattle.rewriting.specs.Verdicts.{Judged, Rewritten}
 use Rattle.rewriting.specs.declared.Verdict.the-variants.{Accepted}
-use Rattle.lockstep.specs.Lockstep.{Together}
+use Rattle.lockstep.specs.Lockstep.{Together, Alike}
 use Rattle.run.specs.Run.{most-steps, RunAnswers}
 use Rattle.run.specs.declared.RunAnswer.{RunAnswer}
-use Rattle.run.specs.declared.RunAnswer.the-variants.{Refused, Ended, Spent}
+use Rattle.run.specs.declared.RunAnswer.the-variants.{Refused, Finished}
 
--- "the two runs answer the same value and the same steps, or 'spent' at the same statement; the 32 values told with 'spent' may differ"
+-- neither call of `run` is refused, and what the two runs answer is alike
 abbrev pub RunsAlike : RunAnswer → RunAnswer → Type 0
 RunsAlike (Refused n) b = ⊥
-RunsAlike (Ended v k) (Refused n) = ⊥
-RunsAlike (Ended v k) (Ended w l) = (v ≡ w) × (k ≡ l)
-RunsAlike (Ended v k) (Spent n) = ⊥
-RunsAlike (Spent n) (Refused m) = ⊥
-RunsAlike (Spent n) (Ended w l) = ⊥
-RunsAlike (Spent n) (Spent m) = n ≡ m
+RunsAlike (Finished a) (Refused n) = ⊥
+RunsAlike (Finished a) (Finished b) = Alike a b
 
 -- t is the given program's text, u that of the marks, vs are the verdict bytes and w is the new text
 pub record Demand3 (t u vs w : List ℕ) : Type 0 where

@@ -3,7 +3,7 @@ use mathlib.Core.Path.{_≡_, ap}
 use mathlib.Core.List.{List}
 use Prim.Native.Nat.{ℕ, _≤_}
 use native.Mathlib.Omega.{arith}
-use lib.ListN.{length, getD}
+use lib.ListN.{length}
 use Rattle.statement_writer.specs.Writing.{Put}
 use Rattle.language.specs.declared.Statement.{Statement}
 use Rattle.statement_writer.proofs.Puts.{put-front}
@@ -16,7 +16,7 @@ use Rattle.verdicts.specs.Judging.{VerdictsOf, SomeJudged, RewritingOf}
 use Rattle.verdicts.specs.declared.Rewriting.{Rewriting}
 use Rattle.demand.specs.Demand.{Demand3}
 use Rattle.demand.proofs.Demand.{demand-3}
-use Rattle.judge.specs.Judge.{text-bytes, Room, Lent, JudgeFinished}
+use Rattle.judge.specs.Judge.{text-bytes, Room, JudgeFinished}
 
 module _ {t u : List ℕ} {P : List Statement} {ms : List Mark} (p : Taken t P) (m : marks.Taken u ms) {old vs : List ℕ} (j : VerdictsOf P ms old vs) where
   pub some-judged : marks.most ≤ length old → SomeJudged P u vs

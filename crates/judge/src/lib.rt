@@ -1,5 +1,7 @@
 // A call: judges a list of marks on a program, and makes the accepted ones. It takes any bytes, and has no `requires`.
-ghost use Rattle.judge.specs.Judge.{JudgeAnswers};
+ghost use mathlib.Core.Path.{_≡_};
+ghost use lib.ListN.{length};
+ghost use Rattle.judge.specs.Judge.{verdict-bytes, JudgeAnswers};
 use calls::ROOM_NUMBER;
 
 // The verdict bytes and the new text have at least this many bytes.
@@ -11,6 +13,13 @@ pub const TEXT_BYTES: usize = 8192;
 pub enum JudgeAnswer {
     Refused(u8),
     Finished(u32, u32, u32),
+}
+
+// Verdict bytes to lend.
+pub fn verdict_buffer() -> [u8; VERDICT_BYTES]
+    ensures { λ r. ⌜ length r ≡ verdict-bytes ⌝ }
+{
+    [0; VERDICT_BYTES]
 }
 
 // Judges each mark of the list on the program, and puts the program with the accepted ones made at the front of the new text.

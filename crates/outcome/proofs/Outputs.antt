@@ -3,11 +3,12 @@ use mathlib.Core.Path.{_≡_, refl}
 use mathlib.Core.Logic.{inl, inr}
 use mathlib.Core.List.{List}
 use Prim.Native.Nat.{ℕ, _≤_}
-use lib.IntN.{ℤ}
+use native.Mathlib.Omega.{arith}
 use lib.ListN.{length}
 use Rattle.statement_writer.specs.Writing.{Put}
+use Rattle.statement_writer.proofs.Puts.{put-within}
 use Rattle.blame.specs.Blame.{Blamed}
-use Rattle.machine.specs.declared.Answer.the-variants.{Ended, Spent}
+use Rattle.machine.specs.declared.Answer.{Answer}
 use Rattle.run.specs.Run.{RunRefused, RunAnswers}
 use Rattle.run.specs.declared.RunAnswer.{RunAnswer}
 use Rattle.run.specs.declared.RunAnswer.the-variants as run
@@ -15,30 +16,27 @@ use Rattle.desk.specs.Refusals.{refusalText}
 use Rattle.start.specs.Start.{StartRead}
 use Rattle.start.specs.declared.Answer as start
 use Rattle.start.specs.declared.Answer.the-variants.{Taken}
-use Rattle.statement_writer.proofs.Puts.{put-within}
-use Rattle.outcome.specs.Outcome.{endedText, spentText, answerText, startText, Printed, Prints, RunPrints}
+use Rattle.start_refusal.specs.StartRefusal.{startText}
+use Rattle.outcome.specs.Outcome.{answerText, Printed, Prints, RunPrints}
 use Rattle.outcome.specs.declared.Told.{Told}
 use Rattle.outcome.specs.declared.Told.the-variants.{Written, Refused, NoRoom}
 
 -- an answer that is told
-module _ {t : List ℕ} (vs : List ℕ) (input : ℕ) {budget : ℕ} {a : RunAnswer} {o q : List ℕ} {n : ℕ} (left : List ℕ) where
-  pub refusal-printed : (k line : ℕ) → RunAnswers t vs input budget a left → a ≡ run.Refused k → Blamed t k line
+module _ {t : List ℕ} (vs : List ℕ) (input : ℕ) {budget : ℕ} {r : RunAnswer} {o q : List ℕ} {n : ℕ} (left : List ℕ) (h : RunAnswers t vs input budget r left) where
+  pub refusal-printed : (k line : ℕ) → r ≡ run.Refused k → Blamed t k line
       → length (refusalText k line) ≤ length o → Put o 0 (refusalText k line) q n → RunPrints t vs input budget o q (Refused n)
-  refusal-printed k line h is about fits put =
-      let r : RunRefused t budget k × (left ≡ vs) = rw is at h in
-      record { w = refusalText k line; told = record { n = k; line = line; refused = r .0; blamed = about; tells = refl }; fits = fits; put = put }
+  refusal-printed k line is about fits put =
+      let f : RunRefused t budget k × (left ≡ vs) = rw is at h in
+      record { w = refusalText k line; told = record { n = k; line = line; refused = f .0; blamed = about; tells = refl }; fits = fits; put = put }
 
-  pub ended-printed : (v : ℤ) (k : ℕ) → RunAnswers t vs input budget a left → a ≡ run.Ended v k
-      → length (endedText v k) ≤ length o → Put o 0 (endedText v k) q n → RunPrints t vs input budget o q (Written n)
-  unfolding answerText
-  ended-printed v k h is fits put =
-      record { w = endedText v k; told = record { answer = Ended v k; left = left; finished = rw is at h; tells = refl }; fits = fits; put = put }
-
-  pub spent-printed : (k : ℕ) → RunAnswers t vs input budget a left → a ≡ run.Spent k
-      → length (spentText k left) ≤ length o → Put o 0 (spentText k left) q n → RunPrints t vs input budget o q (Written n)
-  unfolding answerText
-  spent-printed k h is fits put =
-      record { w = spentText k left; told = record { answer = Spent k; left = left; finished = rw is at h; tells = refl }; fits = fits; put = put }
+  pub answer-printed : (a : Answer) → r ≡ run.Finished a → Put o 0 (answerText a left) q n → n ≤ length o → RunPrints t vs input budget o q (Written n)
+  answer-printed a is put fits =
+      record {
+        w = answerText a left;
+        told = record { answer = a; left = left; finished = rw is at h; tells = refl };
+        fits = omega (arith, put .after);
+        put = put;
+      }
 
 module _ (t u o q : List ℕ) {a : start.Answer} (input budget : ℕ) (vs : List ℕ) (read : StartRead u a input budget vs) where
   pub run-output : (r : Told) → a ≡ Taken → RunPrints t vs input budget o q r → Prints t u o q r
@@ -47,12 +45,12 @@ module _ (t u o q : List ℕ) {a : start.Answer} (input budget : ℕ) (vs : List
   run-output (Refused n) is p = record { w = p .w; told = inr (input, budget, vs, rw is at read, p .told); fits = p .fits; put = p .put }
   run-output NoRoom is p = absurd p
 
-  pub start-output : {n : ℕ} (b : start.Answer) → a ≡ b → (b ≡ Taken → ⊥) → length (startText b) ≤ length o → Put o 0 (startText b) q n → Prints t u o q (Refused n)
-  start-output b is wrong fits put =
+  pub start-output : {n : ℕ} → (a ≡ Taken → ⊥) → Put o 0 (startText a) q n → n ≤ length o → Prints t u o q (Refused n)
+  start-output wrong put fits =
       record {
-        w = startText b;
-        told = inl (record { answer = b; input = input; budget = budget; values = vs; read = rw is at read; wrong = wrong; tells = refl });
-        fits = fits;
+        w = startText a;
+        told = inl (record { answer = a; input = input; budget = budget; values = vs; read = read; wrong = wrong; tells = refl });
+        fits = omega (arith, put .after);
         put = put;
       }
 

@@ -20,7 +20,8 @@ use Rattle.start.specs.Start.{StartRead}
 use Rattle.start.specs.declared.Answer.{Answer}
 use Rattle.start.specs.declared.Answer.the-variants as start
 use Rattle.start.proofs.Unique.{answer-unique, start-unique}
-use Rattle.outcome.specs.Outcome.{answerText, RunResult, RunRefusal, startText, Runs, Result, Refusal, Output}
+use Rattle.start_refusal.specs.StartRefusal.{startText}
+use Rattle.outcome.specs.Outcome.{answerText, RunResult, RunRefusal, Runs, Result, Refusal, Output}
 
 module _ {t u : List ℕ} {P : List Statement} {vs : List ℕ} {input budget : ℕ} (a : Runs t u P vs input budget) where
   pub runs-unique : {Q : List Statement} {ws : List ℕ} {j n : ℕ} → Runs t u Q ws j n → (P ≡ Q) × (vs ≡ ws) × (input ≡ j) × (budget ≡ n)

@@ -3,11 +3,8 @@ use mathlib.Core.Path.{_≡_}
 use mathlib.Core.Logic.{_⊎_}
 use mathlib.Core.List.{List, [], _∷_, _++_}
 use Prim.Native.Nat.{ℕ, zero, suc, _+_, _*_, _≤_, _<_}
-use lib.Dec.{eqb}
-use lib.IntN.{ℤ}
 use lib.ListN.{length, getD}
 use Rattle.language.specs.Spelling.{variables, digits}
-use Rattle.base.specs.Pick.{pick}
 use Rattle.statement_writer.specs.Writing.{Put}
 use Rattle.language.specs.declared.Statement.{Statement}
 use Rattle.program.specs.Program as program
@@ -20,28 +17,30 @@ use Rattle.base.specs.Bytes.{bytes}
 use Rattle.desk.specs.Refusals.{refusalText}
 use Rattle.start.specs.Start.{StartTaken, StartRead}
 use Rattle.start.specs.declared.Answer as start
-use Rattle.start.specs.declared.Answer.the-variants.{Taken, Few, Many, Line}
+use Rattle.start.specs.declared.Answer.the-variants.{Taken}
+use Rattle.start_refusal.specs.StartRefusal.{startText}
 use Rattle.trace.specs.Trace.{valueText}
 use Rattle.outcome.specs.declared.Told.{Told}
 use Rattle.outcome.specs.declared.Told.the-variants.{Written, Refused, NoRoom}
 
--- `ended 9 steps 12`
-unfoldable pub endedText : ℤ → ℕ → List ℕ
-endedText v k = bytes "ended " ++ (signedDigits v ++ (bytes " steps " ++ (digits k ++ 10 ∷ [])))
+-- what a run answers, a line: `ended 9 steps 12` or `spent at 4`
+unfoldable pub answerLine : Answer → List ℕ
+answerLine (Ended v k) = bytes "ended " ++ (signedDigits v ++ (bytes " steps " ++ (digits k ++ 10 ∷ [])))
+answerLine (Spent n) = bytes "spent at " ++ (digits n ++ 10 ∷ [])
 
 -- a line `i0 = 2` for each of the first n variables
 unfoldable pub valueLines : ℕ → List ℕ → List ℕ
 valueLines zero vs = []
 valueLines (suc n) vs = valueLines n vs ++ (valueText n (getD vs n 0) ++ 10 ∷ [])
 
--- `spent at 4`, and the values there
-unfoldable pub spentText : ℕ → List ℕ → List ℕ
-spentText n vs = bytes "spent at " ++ (digits n ++ 10 ∷ valueLines variables vs)
+-- the values are told with 'spent'
+unfoldable pub answerValues : Answer → List ℕ → List ℕ
+answerValues (Ended v k) ws = []
+answerValues (Spent n) ws = valueLines variables ws
 
 -- how a run that isn't refused went, with the values ws beside the answer
 unfoldable pub answerText : Answer → List ℕ → List ℕ
-answerText (Ended v k) ws = endedText v k
-answerText (Spent n) ws = spentText n ws
+answerText a ws = answerLine a ++ answerValues a ws
 
 -- the run of the program text t answers so, and w tells it
 pub record RunResult (t vs : List ℕ) (input budget : ℕ) (w : List ℕ) : Type 0 where
@@ -57,20 +56,6 @@ pub record RunRefusal (t : List ℕ) (budget : ℕ) (w : List ℕ) : Type 0 wher
   pub refused : RunRefused t budget n
   pub blamed : Blamed t n line
   pub tells : w ≡ refusalText n line
-
--- what line n of a start has to be: line 2 is the budget
-unfoldable pub lineRange : ℕ → List ℕ
-lineRange n = pick (eqb n 2) (bytes " isn't a whole number from 0 to 2147483647") (bytes " isn't a whole number from -2147483648 to 2147483647")
-
--- what is wrong with a start, in words
-unfoldable pub startWords : start.Answer → List ℕ
-startWords Taken = []
-startWords Few = bytes "under 2 lines"
-startWords Many = bytes "over 34 lines"
-startWords (Line n) = bytes "line " ++ (digits n ++ lineRange n)
-
-unfoldable pub startText : start.Answer → List ℕ
-startText a = bytes "refused start" ++ 10 ∷ (bytes "the start: " ++ (startWords a ++ 10 ∷ []))
 
 -- the start text u is wrong, and w says what is
 pub record StartRefusal (u w : List ℕ) : Type 0 where
@@ -104,12 +89,18 @@ pub record Runs (t u : List ℕ) (P : List Statement) (vs : List ℕ) (input bud
   pub allowed : budget ≤ most-steps
   pub taken : program.Taken t P
 
--- room for every output: a line as long as `spent at 4294967295`, and 32 as long as `i31 = -2147483648`
+-- room for a line as long as `i31 = -2147483648`, `ended -2147483648 steps 4294967295` and `spent at 4294967295`, and for every output
 abbrev pub value-room : ℕ
 value-room = 18
 
+abbrev pub answer-room : ℕ
+answer-room = 35
+
+abbrev pub spent-room : ℕ
+spent-room = 20
+
 abbrev pub outcome-room : ℕ
-outcome-room = 20 + variables * value-room
+outcome-room = spent-room + variables * value-room
 
 -- a text of which the claim holds stands at the front of the lent bytes o, all others are kept, and n is its length
 pub record Printed (Claim : List ℕ → Type 0) (o q : List ℕ) (n : ℕ) : Type 0 where

@@ -8,12 +8,11 @@ ghost use Rattle.marks.specs.Reading.{Taken};
 ghost use Rattle.marks.specs.declared.Mark.{Mark};
 ghost use Rattle.report.specs.Report.{refusedLine, countsLine, verdictLine, verdictLines, Reports};
 ghost use Rattle.report.specs.Words.{wordsLine, Words};
-ghost use Rattle.judge.specs.Judge.{verdict-bytes, text-bytes};
+ghost use Rattle.judge.specs.Judge.{text-bytes};
 ghost use Rattle.report.specs.Writing.{VerdictsFit, ReportFits};
 use desk::refusals::REFUSAL_ROOM;
 use judge::JudgeAnswer;
 use judge::TEXT_BYTES;
-use judge::VERDICT_BYTES;
 use marks::read::MarkRead;
 
 // Every output has room in this many bytes.
@@ -44,7 +43,7 @@ fn write_refused(out: &mut [u8], n: u8) -> usize
 }
 
 // Puts the line with the number of marks and of accepted ones at the front of the lent bytes, and answers its length.
-fn write_counts(out: &mut [u8], count: u32, accepted: u32) -> usize
+pub fn write_counts(out: &mut [u8], count: u32, accepted: u32) -> usize
     requires { ⌜ length (countsLine count accepted) ≤ length (now out) ⌝ }
     ensures { λ r. ⌜ Put (now (out .entry)) 0 (countsLine count accepted) (now (out .exit)) r ⌝ }
 {
@@ -102,12 +101,6 @@ fn write_report(
     statement_writer::word(out, k2, text)
 }
 
-fn verdict_buffer() -> [u8; VERDICT_BYTES]
-    ensures { λ r. ⌜ length r ≡ verdict-bytes ⌝ }
-{
-    [0; VERDICT_BYTES]
-}
-
 fn text_buffer() -> [u8; TEXT_BYTES]
     ensures { λ r. ⌜ length r ≡ text-bytes ⌝ }
 {
@@ -121,7 +114,7 @@ pub fn report(given: &[u8], marks: &[u8], out: &mut [u8]) -> Reported
     if out.len() < REPORT_ROOM {
         return Reported::NoRoom;
     }
-    let mut verdicts = verdict_buffer();
+    let mut verdicts = judge::verdict_buffer();
     let mut text = text_buffer();
     let answer = judge::judge(given, marks, &mut verdicts, &mut text);
     match answer {
@@ -150,7 +143,7 @@ pub fn words(given: &[u8], marks: &[u8], out: &mut [u8]) -> Worded
     if out.len() < REFUSAL_ROOM {
         return Worded::NoRoom;
     }
-    let mut verdicts = verdict_buffer();
+    let mut verdicts = judge::verdict_buffer();
     let mut text = text_buffer();
     let answer = judge::judge(given, marks, &mut verdicts, &mut text);
     match answer {

@@ -3,13 +3,15 @@ use mathlib.Core.Path.{_≡_}
 use mathlib.Core.List.{List}
 use Prim.Native.Nat.{ℕ}
 use lib.IntN.{ℤ}
+use Rattle.machine.specs.declared.Answer.{Answer}
+use Rattle.machine.specs.declared.Answer.the-variants.{Ended, Spent}
 use Rattle.run.specs.Run.{RunAnswers}
 use Rattle.judge.specs.Judge.{Lent, JudgeAnswers}
 use Rattle.judge.specs.declared.JudgeAnswer.{JudgeAnswer}
 use Rattle.judge.specs.declared.JudgeAnswer.the-variants as judge
 use Rattle.tabulate.specs.Tabulate.{TabulateAnswers}
 use Rattle.run.specs.declared.RunAnswer.{RunAnswer}
-use Rattle.run.specs.declared.RunAnswer.the-variants.{Refused, Ended, Spent}
+use Rattle.run.specs.declared.RunAnswer.the-variants.{Refused, Finished}
 use Rattle.tabulate.specs.declared.TabulateAnswer.{TabulateAnswer}
 use Rattle.tabulate.specs.declared.TabulateAnswer.the-variants as tabulate
 
@@ -21,13 +23,15 @@ pub record RunPlaces : Type 0 where
   pub statement : ℕ
   pub left : List ℕ
 
--- 0 is a result, any other number the refusal; what the answer doesn't set is kept, and a refusal keeps all
+-- what a run's answer sets, with the values ws beside it; the rest is kept
+abbrev pub placed : Answer → List ℕ → RunPlaces → RunPlaces
+placed (Ended v k) ws o = record { ended = 1; value = v; steps = k; statement = o .statement; left = o .left }
+placed (Spent n) ws o = record { ended = 0; value = o .value; steps = o .steps; statement = n; left = ws }
+
+-- 0 is a result, any other number the refusal, which keeps all
 abbrev pub RunReturned : RunAnswer → List ℕ → ℕ → RunPlaces → RunPlaces → Type 0
 RunReturned (Refused n) ws r o q = (r ≡ n) × (q ≡ o)
-RunReturned (Ended v k) ws r o q =
-    (r ≡ 0) × (q ≡ record { ended = 1; value = v; steps = k; statement = o .statement; left = o .left })
-RunReturned (Spent n) ws r o q =
-    (r ≡ 0) × (q ≡ record { ended = 0; value = o .value; steps = o .steps; statement = n; left = ws })
+RunReturned (Finished a) ws r o q = (r ≡ 0) × (q ≡ placed a ws o)
 
 -- the number and the places are those of the one answer of `run`
 pub record RunExported (t vs : List ℕ) (input budget r : ℕ) (o q : RunPlaces) : Type 0 where

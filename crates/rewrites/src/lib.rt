@@ -1,6 +1,7 @@
 // The calls for C and Rust hosts: include/rewrites.h declares them.
 ghost use Rattle.rewrites.specs.Exports.{RunExported, TabulateExported, JudgeExported};
 use judge::JudgeAnswer;
+use machine::Answer;
 use machine::VALUES;
 use run::RunAnswer;
 use tabulate::TabulateAnswer;
@@ -25,17 +26,21 @@ pub extern "C" fn rewrites_run(
     let answer = ran.answer;
     match answer {
         RunAnswer::Refused(number) => number,
-        RunAnswer::Ended(v, k) => {
-            *ended = 1;
-            *value = v;
-            *steps = k;
-            0
-        }
-        RunAnswer::Spent(n) => {
-            *ended = 0;
-            *statement = n;
-            *left = after;
-            0
+        RunAnswer::Finished(finished) => {
+            match finished {
+                Answer::Ended(v, k) => {
+                    *ended = 1;
+                    *value = v;
+                    *steps = k;
+                    0
+                }
+                Answer::Spent(n) => {
+                    *ended = 0;
+                    *statement = n;
+                    *left = after;
+                    0
+                }
+            }
         }
     }
 }

@@ -10,7 +10,6 @@ use Rattle.program.proofs.RoundTrip.{taken-unique}
 use Rattle.program.proofs.Unique.{refused-unique, taken-refused}
 use Rattle.machine.specs.Answer.{Answers}
 use Rattle.machine.specs.declared.Answer.{Answer}
-use Rattle.machine.specs.declared.Answer.the-variants as machine
 use Rattle.machine.proofs.Unique.{answer-unique}
 use Rattle.run.specs.Run.{RunRefused, RunFinished, RunAnswers}
 use Rattle.run.specs.declared.RunAnswer.{RunAnswer}
@@ -35,11 +34,6 @@ module _ (t vs : List ℕ) (input budget : ℕ) where
   -- a call of `run` has one answer, and one list of values beside it
   pub run-unique : (a b : RunAnswer) (ws us : List ℕ) → RunAnswers t vs input budget a ws → RunAnswers t vs input budget b us → (a ≡ b) × (ws ≡ us)
   run-unique (run.Refused n) (run.Refused m) ws us p q = (ap run.Refused (run-refused n m (p .0) (q .0)), p .1 ∙ sym (q .1))
-  run-unique (run.Refused n) (run.Ended v k) ws us p q = absurd (run-refused-not (p .0) q)
-  run-unique (run.Refused n) (run.Spent m) ws us p q = absurd (run-refused-not (p .0) q)
-  run-unique (run.Ended v k) (run.Refused m) ws us p q = absurd (run-refused-not (q .0) p)
-  run-unique (run.Spent n) (run.Refused m) ws us p q = absurd (run-refused-not (q .0) p)
-  run-unique (run.Ended v k) (run.Ended w l) ws us p q = let e = run-finished (machine.Ended v k) (machine.Ended w l) ws us p q in (cc (e .0), e .1)
-  run-unique (run.Ended v k) (run.Spent m) ws us p q = let e = run-finished (machine.Ended v k) (machine.Spent m) ws us p q in (cc (e .0), e .1)
-  run-unique (run.Spent n) (run.Ended w l) ws us p q = let e = run-finished (machine.Spent n) (machine.Ended w l) ws us p q in (cc (e .0), e .1)
-  run-unique (run.Spent n) (run.Spent m) ws us p q = let e = run-finished (machine.Spent n) (machine.Spent m) ws us p q in (cc (e .0), e .1)
+  run-unique (run.Refused n) (run.Finished b) ws us p q = absurd (run-refused-not (p .0) q)
+  run-unique (run.Finished a) (run.Refused m) ws us p q = absurd (run-refused-not (q .0) p)
+  run-unique (run.Finished a) (run.Finished b) ws us p q = let e = run-finished a b ws us p q in (ap run.Finished (e .0), e .1)

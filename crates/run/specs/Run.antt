@@ -8,10 +8,9 @@ use Rattle.program.specs.declared.Refusal.{Refusal}
 use Rattle.program.specs.Program.{Taken}
 use Rattle.program.specs.Reading as program
 use Rattle.machine.specs.declared.Answer.{Answer}
-use Rattle.machine.specs.declared.Answer.the-variants as machine
 use Rattle.machine.specs.Answer.{Answers}
 use Rattle.run.specs.declared.RunAnswer.{RunAnswer}
-use Rattle.run.specs.declared.RunAnswer.the-variants.{Refused, Ended, Spent}
+use Rattle.run.specs.declared.RunAnswer.the-variants.{Refused, Finished}
 
 -- "a budget of 0 to 1,000,000 steps"
 abbrev pub most-steps : ℕ
@@ -37,5 +36,4 @@ pub record RunFinished (t vs : List ℕ) (input budget : ℕ) (a : Answer) (ws :
 -- the answer and the 32 values beside it, which are the starting ones where the call is refused
 abbrev pub RunAnswers : List ℕ → List ℕ → ℕ → ℕ → RunAnswer → List ℕ → Type 0
 RunAnswers t vs input budget (Refused n) ws = RunRefused t budget n × (ws ≡ vs)
-RunAnswers t vs input budget (Ended value steps) ws = RunFinished t vs input budget (machine.Ended value steps) ws
-RunAnswers t vs input budget (Spent n) ws = RunFinished t vs input budget (machine.Spent n) ws
+RunAnswers t vs input budget (Finished a) ws = RunFinished t vs input budget a ws

@@ -1,6 +1,7 @@
 // A call: runs the program that a text spells, from given values, under a budget. It takes any bytes, and has no `requires`.
 ghost use mathlib.Core.Path.{_≡_};
 ghost use Rattle.run.specs.Run.{RunAnswers};
+use machine::Answer;
 use machine::VALUES;
 
 // A run takes at most this many steps.
@@ -8,11 +9,10 @@ pub const MOST_STEPS: u32 = 1000000;
 // The refusal of a larger budget.
 pub const BUDGET_NUMBER: u8 = 15;
 
-// Refused: document 01's number. Ended: the value, signed, and the steps. Spent: the number of the statement that would be next.
+// Refused: document 01's number. Finished: what the program's run answers.
 pub enum RunAnswer {
     Refused(u8),
-    Ended(i32, u32),
-    Spent(u32),
+    Finished(Answer),
 }
 
 // The values are those after the last step where the answer is `Spent`, else the starting ones.
@@ -46,14 +46,8 @@ pub fn run(program: &[u8], values: [u32; VALUES], input: u32, budget: u32) -> Ra
     let outcome = machine::run(read, values, input, budget);
     let left = outcome.values;
     let told = outcome.answer;
-    match told {
-        machine::Answer::Ended(value, steps) => Ran {
-            answer: RunAnswer::Ended(value, steps),
-            values: left,
-        },
-        machine::Answer::Spent(statement) => Ran {
-            answer: RunAnswer::Spent(statement),
-            values: left,
-        },
+    Ran {
+        answer: RunAnswer::Finished(told),
+        values: left,
     }
 }

@@ -1,8 +1,8 @@
 -- The outcomes. Assumes nothing.
 use mathlib.Core.Path.{_≡_, refl, ap, sym, _∙_}
-use mathlib.Core.Logic.{_⊎_, inl, inr, ⊎-elim, _↔_}
+use mathlib.Core.Logic.{inl, inr, ⊎-elim, _↔_}
 use mathlib.Core.List.{List, _++_}
-use Prim.Native.Nat.{ℕ, _≤_, _<_}
+use Prim.Native.Nat.{ℕ, _<_}
 use native.Mathlib.Omega.{arith}
 use lib.ListN.{length, getD, take}
 use Rattle.language.specs.declared.Statement.{Statement}
@@ -16,12 +16,12 @@ use Rattle.marks.specs.Marks.{markAt}
 use Rattle.rewriting.specs.Verdicts.{Judged, Rewritten}
 use Rattle.rewriting.specs.declared.Verdict.the-variants.{Accepted}
 use Rattle.rewriting.proofs.Accepted.{rewritten-unique}
-use Rattle.run.specs.Run.{most-steps, RunAnswers}
+use Rattle.run.specs.Run.{most-steps}
 use Rattle.judge.specs.Judge.{Room, Lent, JudgeRefused, JudgeFinished}
 use Rattle.demand.specs.Demand.{Demand3}
 use Rattle.start.specs.Start.{StartTaken}
 use Rattle.start.proofs.Unique.{start-unique}
-use Rattle.comparison.specs.Closing.{closingText, Closes}
+use Rattle.closing.specs.Closing.{closingText, Closes}
 use Rattle.side_by_side.specs.SideBySide.{AllTold, Comparison, atStage, HandedAt, stays, Prints}
 use Rattle.side_by_side.specs.declared.Stage.the-variants.{Closing, Ended}
 use Rattle.side_by_side.specs.declared.Position.{Position}

@@ -1,10 +1,10 @@
 -- The first piece: a refusal, or the counts of the marks. Assumes nothing.
-use mathlib.Core.Path.{_≡_, refl, ap, sym, _∙_}
+use mathlib.Core.Path.{_≡_, refl, ap, _∙_}
 use mathlib.Core.Bool.{Bool, true, false}
-use mathlib.Core.List.{List, [], _++_, append-nil}
+use mathlib.Core.List.{List, append-nil}
 use Prim.Native.Nat.{ℕ, _≤_, _<_}
 use native.Mathlib.Omega.{arith}
-use lib.ListN.{length, take}
+use lib.ListN.{length}
 use Rattle.statement_writer.specs.Writing.{Put}
 use Rattle.statement_writer.proofs.Puts.{put-front}
 use Rattle.program.proofs.RoundTrip.{text-fits}
@@ -15,14 +15,14 @@ use Rattle.judge.specs.Judge.{Lent, JudgeFinished}
 use Rattle.report.specs.Report.{countsLine}
 use Rattle.report.proofs.Reports.{new-within}
 use Rattle.desk.specs.Refusals.{refusalText}
-use Rattle.outcome.specs.Outcome.{startText}
+use Rattle.start_refusal.specs.StartRefusal.{startText}
 use Rattle.start.specs.Start.{StartTaken, StartRead}
 use Rattle.start.specs.declared.Answer.{Answer}
 use Rattle.start.specs.declared.Answer.the-variants.{Taken, Few, Many, Line}
 use Rattle.start.proofs.Unique.{answer-unique}
 use Rattle.comparison.specs.Lines.{bothLines}
-use Rattle.comparison.specs.Heading.{HeadRefused, HeadJudged}
-use Rattle.side_by_side.specs.SideBySide.{Refuses, atStage, HandedAt, Handed, aheadAt, stays, Kept, Prints}
+use Rattle.heading.specs.Heading.{HeadRefused, HeadJudged}
+use Rattle.side_by_side.specs.SideBySide.{Refuses, atStage, HandedAt, aheadAt, stays, Kept, Prints}
 use Rattle.side_by_side.specs.declared.Stage.{Stage}
 use Rattle.side_by_side.specs.declared.Stage.the-variants.{Begin, Steps, Closing, Ended, Refused}
 use Rattle.side_by_side.specs.declared.Position.{Position}
@@ -60,8 +60,9 @@ module _ (t m u : List ℕ) (p : Position) (w : List ℕ) (a : Answer) (input bu
   stays-refused {o = o} s e n is = stays-prints t m u p w o is (λ b h l. never s n b (handed-at t m u p w b e h) (rw e at l))
 
   pub refused-start : {o q : List ℕ} {r : Piece} {n : ℕ} → p .stage ≡ Begin → r ≡ record { bytes = n; next = atStage Refused }
-      → Put o 0 (startText a) q n → length (startText a) ≤ length o → Prints t m u p w w o q r
-  refused-start {n = n} e is put fits =
+      → Put o 0 (startText a) q n → n ≤ length o → Prints t m u p w w o q r
+  refused-start {o = o} {n = n} e is put within =
+      let fits : length (startText a) ≤ length o = omega (arith, put .after) in
       rw is
       (printed t m u p w w (record { bytes = n; next = atStage Refused }) (startText a) (piece-put put fits) (put-front put fits) (none-kept w) (rw e (omega arith))
       (λ b h.

@@ -1,7 +1,7 @@
 -- The lines of steps, piece by piece. Assumes nothing.
 use mathlib.Core.Path.{_≡_, refl, ap, sym, _∙_}
 use mathlib.Core.Logic.{_⊎_, inl, inr}
-use mathlib.Core.List.{List, [], _++_, append-nil, append-assoc}
+use mathlib.Core.List.{List, _++_, append-nil, append-assoc}
 use mathlib.Core.Bool.{true, false}
 use Prim.Native.Nat.{ℕ, zero, suc, _+_, _-_, _≤_, _<_}
 use native.Mathlib.Omega.{arith}
@@ -22,7 +22,7 @@ use Rattle.start.proofs.Unique.{start-unique}
 use Rattle.comparison.specs.Lines.{bothLines}
 use Rattle.comparison.specs.Stepping.{line-room, BothEnded, Compared, Stepped}
 use Rattle.comparison.specs.declared.Progress.{Progress}
-use Rattle.side_by_side.specs.SideBySide.{Runs, linesText, StepsTold, AllTold, atStage, HandedAt, stays, Prints}
+use Rattle.side_by_side.specs.SideBySide.{Runs, linesText, StepsTold, AllTold, atStage, stays, Prints}
 use Rattle.side_by_side.specs.declared.Stage.the-variants.{Steps, Closing}
 use Rattle.side_by_side.specs.declared.Position.{Position}
 use Rattle.side_by_side.specs.declared.Piece.{Piece}

@@ -8,21 +8,22 @@ use lib.ListN.{length, take, replicate}
 use Rattle.language.specs.Spelling.{variables}
 use Rattle.statement_writer.specs.Writing.{Put}
 use Rattle.rewriting.specs.Verdicts.{acceptedCount}
-use Rattle.run.specs.Run.{most-steps, RunAnswers}
+use Rattle.machine.specs.declared.Answer.{Answer}
+use Rattle.lockstep.specs.Lockstep.{Alike}
+use Rattle.run.specs.Run.{most-steps, RunFinished}
 use Rattle.judge.specs.Judge.{text-bytes}
-use Rattle.demand.specs.Demand.{RunsAlike, Demand3}
-use Rattle.run.specs.declared.RunAnswer.{RunAnswer}
+use Rattle.demand.specs.Demand.{Demand3}
 use Rattle.report.specs.Report.{countsLine}
 use Rattle.desk.specs.Refusals.{refusalText}
 use Rattle.blame.specs.Blame.{Blamed}
-use Rattle.outcome.specs.Outcome.{startText}
+use Rattle.start_refusal.specs.StartRefusal.{startText}
 use Rattle.start.specs.Start.{StartTaken, StartRead}
-use Rattle.start.specs.declared.Answer.{Answer}
+use Rattle.start.specs.declared.Answer as start
 use Rattle.start.specs.declared.Answer.the-variants.{Taken, Few, Many, Line}
 use Rattle.comparison.specs.Lines.{bothLines}
 use Rattle.comparison.specs.Stepping.{line-room, BothStand}
-use Rattle.comparison.specs.Heading.{RefusedWith}
-use Rattle.comparison.specs.Closing.{closingText}
+use Rattle.heading.specs.Heading.{RefusedWith}
+use Rattle.closing.specs.Closing.{closingText}
 use Rattle.side_by_side.specs.declared.Stage.{Stage}
 use Rattle.side_by_side.specs.declared.Stage.the-variants.{Begin, Steps, Closing, Ended, Refused}
 use Rattle.side_by_side.specs.declared.Position.{Position}
@@ -48,13 +49,13 @@ linesText r n =
 pub record Comparison (t m u b : List ℕ) : Type 0 where
   pub x : List ℕ
   pub runs : Runs t m u x
-  pub given : RunAnswer
-  pub rewritten : RunAnswer
+  pub given : Answer
+  pub rewritten : Answer
   pub us : List ℕ
   pub ws : List ℕ
-  pub one : RunAnswers t (runs .values) (runs .input) (runs .budget) given us
-  pub two : RunAnswers x (runs .values) (runs .input) (runs .budget) rewritten ws
-  pub alike : RunsAlike given rewritten
+  pub one : RunFinished t (runs .values) (runs .input) (runs .budget) given us
+  pub two : RunFinished x (runs .values) (runs .input) (runs .budget) rewritten ws
+  pub alike : Alike given rewritten
   pub text : b ≡ linesText runs (runs .budget) ++ closingText given rewritten
 
 -- b tells the refusal of the budget, the program or the marks
@@ -66,7 +67,7 @@ pub record CallRefused (t m : List ℕ) (budget : ℕ) (b : List ℕ) : Type 0 w
   pub text : b ≡ refusalText n line
 
 -- a start that is wrong is refused first, whatever the program and the marks
-abbrev pub Refuses : List ℕ → List ℕ → Answer → ℕ → List ℕ → Type 0
+abbrev pub Refuses : List ℕ → List ℕ → start.Answer → ℕ → List ℕ → Type 0
 Refuses t m Taken budget b = CallRefused t m budget b
 Refuses t m Few budget b = b ≡ startText Few
 Refuses t m Many budget b = b ≡ startText Many
@@ -74,7 +75,7 @@ Refuses t m (Line n) budget b = b ≡ startText (Line n)
 
 -- b is all that is printed where something is refused
 pub record Refusal (t m u b : List ℕ) : Type 0 where
-  pub answer : Answer
+  pub answer : start.Answer
   pub input : ℕ
   pub budget : ℕ
   pub values : List ℕ

@@ -3,18 +3,16 @@
 ghost use mathlib.Core.Path.{_≡_};
 ghost use mathlib.Core.List.{List};
 ghost use Prim.Native.Nat.{ℕ, _≤_, _<_};
-ghost use lib.ListN.{length, take, replicate};
+ghost use lib.ListN.{length, take};
 ghost use Rattle.language.specs.Spelling.{variables};
 ghost use Rattle.program.specs.Program.{Taken, WellFormed};
 ghost use Rattle.program.specs.Reading.{statements};
-ghost use Rattle.judge.specs.Judge.{verdict-bytes, text-bytes};
-ghost use Rattle.outcome.specs.Outcome.{startText};
+ghost use Rattle.judge.specs.Judge.{text-bytes};
 ghost use Rattle.start.specs.Start.{StartRead, StartTaken};
 ghost use Rattle.side_by_side.specs.SideBySide.{side-by-side-room, atStage, stays, Prints, Next};
-use comparison::heading::Heading;
+use heading::Heading;
 use judge::JudgeAnswer;
 use judge::TEXT_BYTES;
-use judge::VERDICT_BYTES;
 use machine::VALUES;
 use program::Program;
 use run::MOST_STEPS;
@@ -50,16 +48,10 @@ pub struct Piece {
     pub next: Position,
 }
 
-fn no_values() -> [u32; VALUES]
-    ensures { λ r. ⌜ r ≡ replicate variables 0 ⌝ }
-{
-    [0; VALUES]
-}
-
 fn at_stage(stage: Stage) -> Position
     ensures { λ r. ⌜ r ≡ atStage stage ⌝ }
 {
-    let none = no_values();
+    let none = start::no_values();
     Position {
         stage: stage,
         at: 0,
@@ -99,14 +91,14 @@ fn told(bytes: usize, stage: Stage) -> Piece
 
 // A start that is wrong is refused, whatever the program and the marks.
 fn refused(a: Answer, from: Position, out: &mut [u8]) -> Piece
-    requires { ⌜ length (startText a) ≤ length (now out) ⌝ }
+    requires { ⌜ side-by-side-room ≤ length (now out) ⌝ }
     requires { ⌜ (a ≡ Answer.Taken → ⊥) ⌝ }
     ensures { λ r. ⌜ ((t m u w : List ℕ) (input budget : ℕ) (values : List ℕ) → StartRead u a input budget values → Prints t m u from w w (now (out .entry)) (now (out .exit)) r) ⌝ }
 {
     let stage = from.stage;
     match stage {
         Stage::Begin => {
-            let n = outcome::start_refused(out, a);
+            let n = start_refusal::write(out, a);
             told(n, Stage::Refused)
         }
         Stage::Steps => stay(from),
@@ -129,7 +121,7 @@ fn heading(
     requires { ⌜ text-bytes ≤ length (now new) ⌝ }
     ensures { λ r. ⌜ ((u : List ℕ) (input : ℕ) → StartTaken u input budget values → Prints (now (program .entry)) (now (marks .entry)) u (atStage Stage.Begin) (now (new .entry)) (now (new .exit)) (now (out .entry)) (now (out .exit)) r) ⌝ }
 {
-    let head = comparison::heading::write(program, marks, budget, new, out);
+    let head = heading::write(program, marks, budget, new, out);
     match head {
         Heading::Refused(n) => told(n, Stage::Refused),
         Heading::Judged(n, bytes) => Piece {
@@ -234,12 +226,6 @@ fn lines(
     step_lines(p, q, from, input, budget, out)
 }
 
-fn verdict_buffer() -> [u8; VERDICT_BYTES]
-    ensures { λ r. ⌜ length r ≡ verdict-bytes ⌝ }
-{
-    [0; VERDICT_BYTES]
-}
-
 // The outcomes. The marks are judged anew: that both agree is known of the text that is run.
 fn closing(
     program: &[u8],
@@ -260,13 +246,13 @@ fn closing(
     if MOST_STEPS < budget {
         return stay(from);
     }
-    let mut verdicts = verdict_buffer();
+    let mut verdicts = judge::verdict_buffer();
     let answer = judge::judge(program, marks, &mut verdicts, new);
     match answer {
         JudgeAnswer::Refused(_) => stay(from),
         JudgeAnswer::Finished(_, _, bytes) => {
             let end = bytes as usize;
-            let n = comparison::closing::write(out, program, &new[..end], values, input, budget);
+            let n = closing::write(out, program, &new[..end], values, input, budget);
             told(n, Stage::Ended)
         }
     }
@@ -331,8 +317,8 @@ pub fn next(
                 out,
             )
         }
-        Answer::Few => refused(Answer::Few, from, out),
-        Answer::Many => refused(Answer::Many, from, out),
-        Answer::Line(n) => refused(Answer::Line(n), from, out),
+        Answer::Few => refused(answer, from, out),
+        Answer::Many => refused(answer, from, out),
+        Answer::Line(_) => refused(answer, from, out),
     }
 }

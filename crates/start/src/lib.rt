@@ -99,7 +99,8 @@ fn no_numbers() -> [u32; MOST]
     [0; MOST]
 }
 
-fn no_values() -> [u32; VALUES]
+// A value of 0 for each variable.
+pub fn no_values() -> [u32; VALUES]
     ensures { λ r. ⌜ r ≡ replicate variables 0 ⌝ }
 {
     [0; VALUES]

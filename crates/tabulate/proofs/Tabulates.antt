@@ -1,12 +1,12 @@
 -- From the rows of the table to the bits that `tabulate` promises. Assumes nothing.
-use mathlib.Core.Path.{_≡_, refl, sym, ap, _∙_, subst}
-use mathlib.Core.Bool.{Bool, true, false}
-use mathlib.Core.List.{List, [], _∷_, _++_}
-use mathlib.Core.Logic.{_↔_, Iff·trans}
+use mathlib.Core.Path.{_≡_, ap, _∙_}
+use mathlib.Core.Bool.{Bool, true}
+use mathlib.Core.List.{List}
+use mathlib.Core.Logic.{_↔_}
 use Prim.Native.Nat.{ℕ, _+_, _-_, _*_, _≤_, _<_}
 use native.Mathlib.Decide.{decLt}
 use native.Mathlib.Omega.{arith}
-use lib.ListN.{length, getD, take, drop, length-append}
+use lib.ListN.{length, getD, drop}
 use lib.Seq.{getD-take, getD-drop}
 use Rattle.language.specs.declared.Statement.{Statement}
 use Rattle.program.specs.Program.{Taken}
@@ -14,10 +14,9 @@ use Rattle.bits.specs.Row.{bit, member}
 use Rattle.bits.proofs.Rows.{word-member}
 use Rattle.base.proofs.Bools.{clash}
 use Rattle.labelling.specs.Labels.{Labelled}
-use Rattle.condition.specs.Condition.{Condition, atom, unary, binary, parts}
-use Rattle.truth.specs.Truth.{Sat}
-use Rattle.table.specs.Table.{part-words, row, partAt}
-use Rattle.table.specs.Fill.{HeldOf, SomeHeld, TableOf}
+use Rattle.condition.specs.Condition.{Condition, parts}
+use Rattle.table.specs.Table.{part-words, row}
+use Rattle.table.specs.Fill.{HeldOf, TableOf}
 use Rattle.table.proofs.Whole.{held-some, whole-labelled}
 use Rattle.table.specs.Summary.{Counts}
 use Rattle.tabulate.specs.Tabulate.{table-words, TabulateFilled}

@@ -3,8 +3,7 @@
 ghost use mathlib.Core.Path.{_≡_};
 ghost use mathlib.Core.Bool.{true};
 ghost use Prim.Native.Nat.{_≤_};
-ghost use lib.ListN.{length, replicate};
-ghost use Rattle.language.specs.Spelling.{variables};
+ghost use lib.ListN.{length};
 ghost use Rattle.transcript.specs.Transcript.{isOver, beginning, atStage, transcript-room, Hands};
 ghost use Rattle.transcript.specs.Pieces.{startTaken, programTaken, RunRead, stageAfter, Tells};
 use machine::VALUES;
@@ -49,12 +48,6 @@ struct Run {
     values: [u32; VALUES],
 }
 
-fn no_values() -> [u32; VALUES]
-    ensures { λ r. ⌜ r ≡ replicate variables 0 ⌝ }
-{
-    [0; VALUES]
-}
-
 pub fn first() -> Position
     ensures { λ r. ⌜ r ≡ beginning ⌝ }
 {
@@ -62,7 +55,7 @@ pub fn first() -> Position
         stage: Stage::Begin,
         at: 0,
         done: 0,
-        values: no_values(),
+        values: start::no_values(),
     }
 }
 

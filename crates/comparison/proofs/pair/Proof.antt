@@ -1,5 +1,4 @@
 -- `pair` meets its contract: the variable and its two values. Assumes nothing.
-use mathlib.Core.Path.{ap}
 use native.Mathlib.Omega.{arith}
 use Rattle.statement_writer.proofs.Puts.{put-then}
 use Rattle.machine.proofs.Words.{stored-same}

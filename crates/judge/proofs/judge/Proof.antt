@@ -32,7 +32,8 @@ returns-3 : tie.Need-returns-3
 returns-3 c =
     let told = c .before .before in
     let tested = told .before .before .before in
-    (inr (inl ((tested .before .if1 .left, tested .if2 .left), told .answer .given .0 .0, (rw (told .answer .given .1) at (told .before .before .read .ensures)) .0, c .number-of .ensures)), refl)
+    let read = rw (told .answer .given .1) at (told .before .before .read .ensures) in
+    (inr (inl ((tested .before .if1 .left, tested .if2 .left), told .answer .given .0 .0, read .0, c .number-of .ensures)), refl)
 
 find-requires : tie.Need-find-requires
 find-requires c κs = let p = program-taken (c .before .before .before .before .before .before .before) in (p .1, (p .0 .program, c .before .blank .ensures))
@@ -41,24 +42,53 @@ of-requires : tie.Need-of-requires
 of-requires c κs = let p = program-taken (c .before .before .before .before .before .before .before .before .before .before .before) in (p .1, (p .0 .program, c .before .blank2 .ensures .size))
 
 judge-requires : tie.Need-judge-requires
-judge-requires c κs = let p = program-taken (c .before .before .before .before .before .before .before .before .before .before .before .before .before .before .before .before) in let m = marks-taken (c .before .before .before .before .before .before .before .before .before .before .before .before) in ((p .1, known-program {flow = c .before .before .before .before .of .last .1 .0} (p .0) (p .1) (c .before .before .before .before .before .before .before .before .find .ensures) (c .before .before .before .before .of .ensures) (omega (arith, c .before .before .before .before .of .kept, c .before .before .before .before .before .before .blank2 .ensures .size))), (record { ms = m .0; taken = m .1 }, c .before .before .before .before .before .before .before .before .before .before .before .before .before .before .before .before .before .before .before .before .if1 .left))
+judge-requires c κs =
+    let k = c .before .before .before .before .before .before .before .before .before .before .before .before in
+    let p = program-taken (k .before .before .before .before) in
+    let m = marks-taken k in
+    let of = c .before .before .before .before .of in
+    let known = known-program {flow = of .last .1 .0} (p .0) (p .1) (c .before .before .before .before .before .before .before .before .find .ensures) (of .ensures) in
+    ((p .1, known (omega (arith, of .kept, c .before .before .before .before .before .before .blank2 .ensures .size))), (record { ms = m .0; taken = m .1 }, k .before .before .before .before .before .before .before .before .if1 .left))
 
 rewrite-requires : tie.Need-rewrite-requires
-rewrite-requires c κs = let p = program-taken (c .before .before .before .before .before .before .before .before .before .before .before .before .before .before .before .before .before .before .before .before) in let m = marks-taken (c .before .before .before .before .before .before .before .before .before .before .before .before .before .before .before .before) in (p .1, some-judged (p .0) (m .1) (c .before .before .before .judge .ensures (m .0) (m .1)) (c .before .before .before .before .before .before .before .before .before .before .before .before .before .before .before .before .before .before .before .before .before .before .before .before .if1 .left))
+rewrite-requires c κs =
+    let k = c .before .before .before .before .before .before .before .before .before .before .before .before .before .before .before .before in
+    let p = program-taken (k .before .before .before .before) in
+    let m = marks-taken k in
+    (p .1, some-judged (p .0) (m .1) (c .before .before .before .judge .ensures (m .0) (m .1)) (k .before .before .before .before .before .before .before .before .if1 .left))
 
 write-requires : tie.Need-write-requires
-write-requires c κs = let p = program-taken (c .before .before .before .before .before .before .before .before .before .before .before .before .before .before .before .before .before .before .before .before .before .before .before) in let m = marks-taken (c .before .before .before .before .before .before .before .before .before .before .before .before .before .before .before .before .before .before .before) in let w = c .before .before .rewrite .ensures (m .0) (m .1) in (w .held, omega (arith, c .before .before .before .before .before .before .before .before .before .before .before .before .before .before .before .before .before .before .before .before .before .before .before .before .before .before .if2 .left, text-short (p .0) (m .1) (c .before .before .before .before .before .before .judge .ensures (m .0) (m .1)) w))
+write-requires c κs =
+    let k = c .before .before .before .before .before .before .before .before .before .before .before .before .before .before .before .before .before .before .before in
+    let p = program-taken (k .before .before .before .before) in
+    let m = marks-taken k in
+    let w = c .before .before .rewrite .ensures (m .0) (m .1) in
+    (w .held, omega (arith, k .before .before .before .before .before .before .before .if2 .left, text-short (p .0) (m .1) (c .before .before .before .before .before .before .judge .ensures (m .0) (m .1)) w))
 
 cast-bytes : tie.Need-cast-t39
-cast-bytes c = let p = program-taken (c .before .before .before .before .before .before .before .before .before .before .before .before .before .before .before .before .before .before .before .before .before .before .before .before .before .before) in let m = marks-taken (c .before .before .before .before .before .before .before .before .before .before .before .before .before .before .before .before .before .before .before .before .before .before) in omega (arith, c .before .before .write .ensures .after, text-short (p .0) (m .1) (c .before .before .before .before .before .before .before .before .before .judge .ensures (m .0) (m .1)) (c .before .before .before .before .before .rewrite .ensures (m .0) (m .1)))
+cast-bytes c =
+    let k = c .before .before .before .before .before .before .before .before .before .before .before .before .before .before .before .before .before .before .before .before .before .before in
+    let p = program-taken (k .before .before .before .before) in
+    let m = marks-taken k in
+    omega (arith, c .before .before .write .ensures .after, text-short (p .0) (m .1) (c .before .before .before .before .before .before .before .before .before .judge .ensures (m .0) (m .1)) (c .before .before .before .before .before .rewrite .ensures (m .0) (m .1)))
 
 returns-4 : tie.Need-returns-4
-returns-4 c = (inr (inr ((c .before .before .before .before .before .before .before .before .before .before .if1 .left, c .before .before .before .before .before .before .before .before .before .if2 .left), statements (c .before .before .before .before .before .before .before .before .read .result .program), program-taken (c .before .before .before .before .before .before) .0, c .before .before .checked .given .0 .0, rw (c .before .before .checked .given .1) at (c .before .before .before .before .check .ensures), c .number-of2 .ensures)), refl)
+returns-4 c =
+    let told = c .before .before in
+    let k = c .before .before .before .before .before .before in
+    let refused = rw (told .checked .given .1) at (told .before .before .check .ensures) in (
+      inr (inr ((k .before .before .before .before .if1 .left, k .before .before .before .if2 .left), statements (k .before .before .read .result .program), program-taken k .0, told .checked .given .0 .0, refused, c .number-of2 .ensures)),
+      refl,
+    )
 
 returns-5 : tie.Need-returns-5
 returns-5 c =
-    let p = program-taken (c .before .before .before .before .before .before .before .before .before .before .before .before .before .before .before .before .before .before .before .before .before .before .before .before .before .before) in let m = marks-taken (c .before .before .before .before .before .before .before .before .before .before .before .before .before .before .before .before .before .before .before .before .before .before) in
-    finished (p .0) (m .1) (c .before .before .before .before .before .before .before .before .before .judge .ensures (m .0) (m .1)) (c .before .before .before .before .before .rewrite .ensures (m .0) (m .1)) (c .before .before .before .before .before .before .before .before .before .before .before .before .before .before .before .before .before .before .before .before .before .before .before .before .before .before .before .before .before .before .if1 .left, c .before .before .before .before .before .before .before .before .before .before .before .before .before .before .before .before .before .before .before .before .before .before .before .before .before .before .before .before .before .if2 .left) (m .2) (c .before .before .write .ensures)
+    let k = c .before .before .before .before .before .before .before .before .before .before .before .before .before .before .before .before .before .before .before .before .before .before in
+    let p = program-taken (k .before .before .before .before) in
+    let m = marks-taken k in
+    let judged = c .before .before .before .before .before .before .before .before .before .judge .ensures (m .0) (m .1) in
+    let rewritten = c .before .before .before .before .before .rewrite .ensures (m .0) (m .1) in
+    finished (p .0) (m .1) judged rewritten (k .before .before .before .before .before .before .before .before .if1 .left, k .before .before .before .before .before .before .before .if2 .left) (m .2) (c .before .before .write .ensures)
 
 pub judge-spec : {M : Type 1} → statement M
 judge-spec =

@@ -1,9 +1,9 @@
--- `spent` meets its contract: the line with the statement, and the values. Assumes nothing.
+-- `spent` meets its contract: a word, the statement and byte 10. Assumes nothing.
 use native.Mathlib.Omega.{arith}
+use borrow.Author.Needs.{needs}
 use Rattle.language.proofs.Lengths.{digits-length}
 use Rattle.statement_writer.proofs.Puts.{put-then}
-use Rattle.outcome.specs.Outcome.{spentText}
-use borrow.Author.Needs.{needs}
+use Rattle.outcome.specs.Outcome.{answerLine}
 use Rattle.outcome.proofs.spent.Statement.{statement}
 use Rattle.outcome.proofs.spent.Tie as tie
 
@@ -11,22 +11,15 @@ number-requires : tie.Need-number-requires
 number-requires c κs = omega (arith, digits-length 9 (c .before .before .before .before .before .before .before .args .n) (search needs))
 
 byte-requires : tie.Need-byte-requires
-byte-requires c κs =
-    let args = c .before .before .before .before .before .before .before .before .before .before .before .args in
-    omega (arith, digits-length 9 (args .n) (search needs))
-
-value-lines-requires : tie.Need-value-lines-requires
-value-lines-requires c κs =
-    let args = c .before .before .before .before .before .before .before .before .before .before .before .before .before .before .before .args in
-    omega (arith, digits-length 9 (args .n) (search needs))
+byte-requires c κs = omega (arith, digits-length 9 (c .before .before .before .before .before .before .before .before .before .before .before .args .n) (search needs))
 
 returns : tie.Need-returns
-unfolding spentText
+unfolding answerLine
 returns c =
-    let word = c .before .before .before .before .before .before .before .before .before .before .before .before .before .before .word in
-    let number = c .before .before .before .before .before .before .before .before .before .before .number in
-    let byte = c .before .before .before .before .before .before .byte in
-    put-then (word .ensures) (put-then (number .ensures) (put-then (byte .ensures) (c .before .before .value-lines .ensures)))
+    let w3 = c .before .before .byte .ensures in
+    let w2 = c .before .before .before .before .before .before .number .ensures in
+    let w1 = c .before .before .before .before .before .before .before .before .before .before .word .ensures in
+    (put-then w1 (put-then w2 w3), omega (arith, w1 .after, w2 .after, w3 .after, digits-length 9 (c .before .before .before .before .before .before .before .before .before .before .before .before .before .before .args .n) (search needs)))
 
 pub spent-spec : {M : Type 1} → statement M
 spent-spec =
@@ -36,6 +29,5 @@ spent-spec =
     (λ c κs. search needs)
     number-requires
     byte-requires
-    value-lines-requires
     (λ c. search needs)
     returns)

@@ -11,17 +11,22 @@ number-requires : tie.Need-number-requires
 number-requires c κs = omega (arith, verdict-length (c .before .before .args .n) (c .before .before .args .v))
 
 byte-requires : tie.Need-byte-requires
-byte-requires c κs = omega (arith, verdict-length (c .before .before .before .before .before .before .args .n) (c .before .before .before .before .before .before .args .v))
+byte-requires c κs = let s = c .before .before .before .before .before .before in omega (arith, verdict-length (s .args .n) (s .args .v))
 
 number-requires-2 : tie.Need-number-requires-2
-number-requires-2 c κs = omega (arith, verdict-length (c .before .before .before .before .before .before .before .before .before .before .args .n) (c .before .before .before .before .before .before .before .before .before .before .args .v))
+number-requires-2 c κs = let s = c .before .before .before .before .before .before .before .before .before .before in omega (arith, verdict-length (s .args .n) (s .args .v))
 
 byte-requires-2 : tie.Need-byte-requires-2
-byte-requires-2 c κs = omega (arith, verdict-length (c .before .before .before .before .before .before .before .before .before .before .before .before .before .before .args .n) (c .before .before .before .before .before .before .before .before .before .before .before .before .before .before .args .v))
+byte-requires-2 c κs = let s = c .before .before .before .before .before .before .before .before .before .before .before .before .before .before in omega (arith, verdict-length (s .args .n) (s .args .v))
 
 returns : tie.Need-returns
 unfolding verdictLine
-returns c = put-then (c .before .before .before .before .before .before .before .before .before .before .before .before .before .before .number .ensures) (put-then (c .before .before .before .before .before .before .before .before .before .before .byte .ensures) (put-then (c .before .before .before .before .before .before .number2 .ensures) (c .before .before .byte2 .ensures)))
+returns c =
+    let w4 = c .before .before .byte2 .ensures in
+    let w3 = c .before .before .before .before .before .before .number2 .ensures in
+    let w2 = c .before .before .before .before .before .before .before .before .before .before .byte .ensures in
+    let w1 = c .before .before .before .before .before .before .before .before .before .before .before .before .before .before .number .ensures in
+    put-then w1 (put-then w2 (put-then w3 w4))
 
 pub write-verdict-spec : {M : Type 1} → statement M
 write-verdict-spec =

@@ -5,10 +5,14 @@ use Rattle.rewrites.proofs.rewrites_judge.Statement.{statement}
 use Rattle.rewrites.proofs.rewrites_judge.Tie as tie
 
 returns : tie.Need-returns
-returns c = record { answer = c .before .before .before .before .before .before .before .judge .result; answers = c .before .before .before .before .before .before .before .judge .ensures; returned = rw (c .before .answer .given .1) (refl, refl) }
+returns c =
+    let judge = c .before .before .before .before .before .before .before .judge in
+    record { answer = judge .result; answers = judge .ensures; returned = rw (c .before .answer .given .1) (refl, refl) }
 
 returns-2 : tie.Need-returns-2
-returns-2 c = record { answer = c .before .before .before .before .before .before .before .judge .result; answers = c .before .before .before .before .before .before .before .judge .ensures; returned = rw (c .before .answer2 .given .1) (refl, refl) }
+returns-2 c =
+    let judge = c .before .before .before .before .before .before .before .judge in
+    record { answer = judge .result; answers = judge .ensures; returned = rw (c .before .answer2 .given .1) (refl, refl) }
 
 pub rewrites-judge-spec : {M : Type 1} → statement M
 rewrites-judge-spec =

@@ -5,10 +5,14 @@ use Rattle.rewrites.proofs.rewrites_tabulate.Statement.{statement}
 use Rattle.rewrites.proofs.rewrites_tabulate.Tie as tie
 
 returns : tie.Need-returns
-returns c = record { answer = c .before .before .before .before .before .tabulate .result; answers = c .before .before .before .before .before .tabulate .ensures; returned = rw (c .before .answer .given .1) (refl, refl) }
+returns c =
+    let tabulate = c .before .before .before .before .before .tabulate in
+    record { answer = tabulate .result; answers = tabulate .ensures; returned = rw (c .before .answer .given .1) (refl, refl) }
 
 returns-2 : tie.Need-returns-2
-returns-2 c = record { answer = c .before .before .before .before .before .tabulate .result; answers = c .before .before .before .before .before .tabulate .ensures; returned = rw (c .before .answer2 .given .1) (refl, refl) }
+returns-2 c =
+    let tabulate = c .before .before .before .before .before .tabulate in
+    record { answer = tabulate .result; answers = tabulate .ensures; returned = rw (c .before .answer2 .given .1) (refl, refl) }
 
 pub rewrites-tabulate-spec : {M : Type 1} → statement M
 rewrites-tabulate-spec =

@@ -1,9 +1,7 @@
 -- `run` meets its contract. Assumes nothing.
 use mathlib.Core.Path.{refl}
 use mathlib.Core.Logic.{inl, inr}
-use mir.Syntax.{w32}
-use mir.Facts.{toZ-ofZ}
-use borrow.Author.Needs.{needs, sfits-of}
+use borrow.Author.Needs.{needs}
 use Rattle.program.specs.Program.{Taken}
 use Rattle.program.specs.Reading.{statements}
 use Rattle.run.proofs.run.Statement.{statement}
@@ -27,20 +25,12 @@ run-requires c κs = taken (c .before) .program
 
 returns-3 : tie.Need-returns-3
 returns-3 c =
+    let read = c .before .before .before .before .before in
     record {
-      P = statements (c .before .before .before .before .before .before .before .before .read .result .program);
-      allowed = c .before .before .before .before .before .before .before .before .before .if1 .left;
-      taken = taken (c .before .before .before .before .before .before);
-      answers = rw (toZ-ofZ {w = w32} (sfits-of (c .known-told2 .given .0 .1))) (rw (c .before .told .given .1) at (c .before .before .before .before .run .ensures));
-    }
-
-returns-4 : tie.Need-returns-4
-returns-4 c =
-    record {
-      P = statements (c .before .before .before .before .before .before .before .before .read .result .program);
-      allowed = c .before .before .before .before .before .before .before .before .before .if1 .left;
-      taken = taken (c .before .before .before .before .before .before);
-      answers = rw (c .before .told2 .given .1) at (c .before .before .before .before .run .ensures);
+      P = statements (read .read .result .program);
+      allowed = read .before .if1 .left;
+      taken = taken (c .before .before .before);
+      answers = c .before .run .ensures;
     }
 
 pub run-spec : {M : Type 1} → statement M
@@ -56,7 +46,4 @@ run-spec =
     returns-2
     (λ c. search needs)
     run-requires
-    (λ c. search needs)
-    (λ c. search needs)
-    returns-3
-    returns-4)
+    returns-3)

@@ -1,10 +1,8 @@
 -- `next` meets its contract: with room the piece is printed by what the start is. Assumes nothing.
-use mathlib.Core.Path.{_≡_, refl}
-use mathlib.Core.Logic.{⊎-elim}
+use mathlib.Core.Path.{_≡_}
 use Prim.Native.Nat.{ℕ}
 use native.Mathlib.Omega.{arith}
-use Rattle.outcome.proofs.Lengths.{few-most, many-most, line-most}
-use Rattle.side_by_side.proofs.Pieces.{stays-kept, with-room, without-out, without-new}
+use Rattle.side_by_side.proofs.Pieces.{with-room, without-out, without-new}
 use borrow.Author.Needs.{needs}
 use Rattle.side_by_side.proofs.next.Statement.{statement}
 use Rattle.side_by_side.proofs.next.Tie as tie
@@ -21,14 +19,16 @@ taken-requires c κs =
     (k .before .before .if1 .left, (k .before .if2 .left, (rw (c .before .before .before .enum-told .given .1) at (k .read .ensures)) .size))
 
 refused-requires : tie.Need-refused-requires
-refused-requires c κs = (omega (arith, few-most, c .before .before .before .before .before .if1 .left), λ e. let z : _≡_ {A = ℕ} 0 1 = cc in omega arith)
+refused-requires c κs =
+    (c .before .before .before .before .before .if1 .left, λ e. let is = c .before .enum-told2 .given .1 in let z : _≡_ {A = ℕ} 0 1 = cc in omega arith)
 
 refused-requires-2 : tie.Need-refused-requires-2
-refused-requires-2 c κs = (omega (arith, many-most, c .before .before .before .before .before .if1 .left), λ e. let z : _≡_ {A = ℕ} 0 1 = cc in omega arith)
+refused-requires-2 c κs =
+    (c .before .before .before .before .before .if1 .left, λ e. let is = c .before .enum-told3 .given .1 in let z : _≡_ {A = ℕ} 0 1 = cc in omega arith)
 
 refused-requires-3 : tie.Need-refused-requires-3
 refused-requires-3 c κs =
-    (omega (arith, line-most (c .before .before .answer .given .0 .0) (search needs), c .before .before .before .before .before .before .if1 .left), λ e. let z : _≡_ {A = ℕ} 0 1 = cc in omega arith)
+    (c .before .before .before .before .before .if1 .left, λ e. let is = c .before .enum-told4 .given .1 in let z : _≡_ {A = ℕ} 0 1 = cc in omega arith)
 
 returns-3 : tie.Need-returns-3
 returns-3 c =
@@ -40,22 +40,19 @@ returns-4 : tie.Need-returns-4
 returns-4 c =
     let k = c .before .before .before .before .before .before in
     let s = k .read .result in
-    with-room (k .before .before .if1 .left) (k .before .if2 .left)
-    (c .before .before .refused .ensures _ _ _ _ (s .input) (s .budget) (s .values) (rw (c .before .before .before .before .enum-told2 .given .1) at (k .read .ensures)))
+    with-room (k .before .before .if1 .left) (k .before .if2 .left) (c .before .before .refused .ensures _ _ _ _ (s .input) (s .budget) (s .values) (k .read .ensures))
 
 returns-5 : tie.Need-returns-5
 returns-5 c =
     let k = c .before .before .before .before .before .before in
     let s = k .read .result in
-    with-room (k .before .before .if1 .left) (k .before .if2 .left)
-    (c .before .before .refused2 .ensures _ _ _ _ (s .input) (s .budget) (s .values) (rw (c .before .before .before .before .enum-told3 .given .1) at (k .read .ensures)))
+    with-room (k .before .before .if1 .left) (k .before .if2 .left) (c .before .before .refused2 .ensures _ _ _ _ (s .input) (s .budget) (s .values) (k .read .ensures))
 
 returns-6 : tie.Need-returns-6
 returns-6 c =
-    let k = c .before .before .before .before .before .before .before in
+    let k = c .before .before .before .before .before .before in
     let s = k .read .result in
-    with-room (k .before .before .if1 .left) (k .before .if2 .left)
-    (c .before .before .refused3 .ensures _ _ _ _ (s .input) (s .budget) (s .values) (rw (c .before .before .before .before .before .answer .given .1) at (k .read .ensures)))
+    with-room (k .before .before .if1 .left) (k .before .if2 .left) (c .before .before .refused3 .ensures _ _ _ _ (s .input) (s .budget) (s .values) (k .read .ensures))
 
 pub next-spec : {M : Type 1} → statement M
 next-spec =

@@ -1,5 +1,6 @@
 -- `refused` meets its contract: a start that is wrong is refused at the beginning, and no run stands anywhere. Assumes nothing.
 use mathlib.Core.Path.{refl}
+use native.Mathlib.Omega.{arith}
 use Rattle.side_by_side.proofs.Starts.{refused-start, stays-refused}
 use borrow.Author.Needs.{needs}
 use Rattle.side_by_side.proofs.refused.Statement.{statement}
@@ -8,8 +9,9 @@ use Rattle.side_by_side.proofs.refused.Tie as tie
 returns : tie.Need-returns
 returns c = λ t m u w input budget values read.
     let h = c .before .before .before .before .before .before .before .before .pre in
-    refused-start t m u _ w _ input budget values read (h .1) (c .before .before .before .before .before .enum-told .given .1)
-    (c .told .ensures) (c .before .before .before .start-refused .ensures) (h .0)
+    let text = c .before .before .before .write .ensures in
+    refused-start t m u _ w _ input budget values read (h .1) (c .before .before .before .before .before .enum-told .given .1) (c .told .ensures) (text .0)
+    (omega (arith, text .1, h .0))
 
 returns-2 : tie.Need-returns-2
 returns-2 c = λ t m u w input budget values read.

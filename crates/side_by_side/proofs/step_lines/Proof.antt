@@ -1,7 +1,6 @@
 -- `step_lines` meets its contract: the lines of further steps, after which more are to come or all are told. Assumes nothing.
 use mathlib.Core.Path.{refl}
 use mathlib.Core.Logic.{inl, inr}
-use native.Mathlib.Omega.{arith}
 use Rattle.side_by_side.proofs.Stepping.{more-steps, last-steps}
 use borrow.Author.Needs.{needs}
 use Rattle.side_by_side.proofs.step_lines.Statement.{statement}

@@ -1,9 +1,8 @@
 -- `tabulate` meets its contract. Assumes nothing.
-use mathlib.Core.Path.{_≡_, refl}
+use mathlib.Core.Path.{refl}
 use mathlib.Core.Logic.{inl, inr}
 use native.Mathlib.Omega.{arith}
 use borrow.Author.Needs.{needs}
-use lib.ListN.{length}
 use Rattle.program.specs.Program.{Taken}
 use Rattle.program.specs.Reading.{statements, Held}
 use Rattle.table.specs.Fill.{SomeHeld}
@@ -37,10 +36,14 @@ of-requires : tie.Need-of-requires
 of-requires c κs = let p = program-taken (c .before .before .before .before .before .before .before .before .before .before .before .before) in (p .1, (p .0 .program, c .before .blank2 .ensures .size))
 
 -- what is known of the program once its facts are found and its graph is drawn
-known : (c : tie.After-flow2) → Known (statements (c .before .before .before .before .before .before .before .before .before .before .before .before .before .before .before .before .read .result .program)) (c .before .before .before .before .before .before .before .before .before .before .before .before .before .before .before .before .read .result .program .count) (c .before .before .before .before .before .find .last .1 .0) (c .before .of .last .1 .0)
+known :
+    (c : tie.After-flow2)
+    → let read = c .before .before .before .before .before .before .before .before .before .before .before .before .before .before .before .before .read in
+    Known (statements (read .result .program)) (read .result .program .count) (c .before .before .before .before .before .find .last .1 .0) (c .before .of .last .1 .0)
 known c =
     let p = program-taken (c .before .before .before .before .before .before .before .before .before .before .before .before .before .before) in
-    known-program {flow = c .before .of .last .1 .0} (p .0) (p .1) (c .before .before .before .before .before .find .ensures) (c .before .of .ensures) (omega (arith, c .before .of .kept, c .before .before .before .blank2 .ensures .size))
+    let of = c .before .of in
+    known-program {flow = of .last .1 .0} (p .0) (p .1) (c .before .before .before .before .before .find .ensures) (of .ensures) (omega (arith, of .kept, c .before .before .before .blank2 .ensures .size))
 
 fill-requires : tie.Need-fill-requires
 fill-requires c κs =
@@ -53,20 +56,26 @@ sub-last c = omega (arith, held-some (condition-held (c .before .before .before 
 
 summary-of-requires : tie.Need-summary-of-requires
 summary-of-requires c κs =
-    let h = condition-held (c .before .before .before .before .before .before .before .before .before .before .before .before .before .before .before .before .before) in
+    let k = c .before .before .before .before .before .before .before .before .before .before .before .before .before .before .before .before .before in
+    let h = condition-held k in
     let some = held-some (h .held) in
     let few = held-few (h .held) in
     let same = c .before .before .before .fill .ensures _ (h .c) (known (c .before .before .before .before .before .before .before)) (h .held) .same in
-    omega (arith, c .before .before .before .before .before .before .before .before .before .before .before .before .before .before .before .before .before .before .before .before .before .before .before .before .if1 .left)
+    omega (arith, k .before .before .before .before .before .before .before .if1 .left)
 
 returns-3 : tie.Need-returns-3
 returns-3 c =
-    (inr (inr (c .before .before .before .before .before .before .before .before .before .if1 .left, statements (c .before .before .before .before .before .before .before .before .read .result .program), program-taken (c .before .before .before .before .before .before) .0, c .before .before .told .given .0 .0, (rw (c .before .before .told .given .1) at (c .before .before .before .before .read2 .ensures)) .0, c .number-of2 .ensures)), refl)
+    let told = c .before .before in
+    let k = c .before .before .before .before .before .before in
+    let refused = rw (told .told .given .1) at (told .before .before .read2 .ensures) in
+    (inr (inr (k .before .before .before .if1 .left, statements (k .before .before .read .result .program), program-taken k .0, told .told .given .0 .0, refused .0, c .number-of2 .ensures)), refl)
 
 returns-4 : tie.Need-returns-4
 returns-4 c =
-    let h = condition-held (c .before .before .before .before .before .before .before .before .before .before .before .before .before .before .before .before .before .before) in
-    tabulated (h .held) (program-taken (c .before .before .before .before .before .before .before .before .before .before .before .before .before .before .before .before .before .before .before .before .before .before) .0) (c .before .before .before .before .before .before .before .before .before .before .before .before .before .before .before .before .before .before .before .before .before .before .before .before .before .if1 .left) (c .before .before .before .before .fill .ensures _ (h .c) (known (c .before .before .before .before .before .before .before .before)) (h .held)) (c .summary-of .ensures)
+    let k = c .before .before .before .before .before .before .before .before .before .before .before .before .before .before .before .before .before .before in
+    let h = condition-held k in
+    let filled = c .before .before .before .before .fill .ensures _ (h .c) (known (c .before .before .before .before .before .before .before .before)) (h .held) in
+    tabulated (h .held) (program-taken (k .before .before .before .before) .0) (k .before .before .before .before .before .before .before .if1 .left) filled (c .summary-of .ensures)
 
 pub tabulate-spec : {M : Type 1} → statement M
 tabulate-spec =

@@ -1,0 +1,39 @@
+-- What is printed after the steps: the outcome of each run, and that statements and outcome agree. By demand 3 nothing else is printed.
+use mathlib.Core.List.{List, [], _∷_, _++_}
+use Prim.Native.Nat.{ℕ, _≤_}
+use lib.ListN.{length}
+use Rattle.statement_writer.specs.Writing.{Put}
+use Rattle.machine.specs.declared.Answer.{Answer}
+use Rattle.lockstep.specs.Lockstep.{Alike}
+use Rattle.run.specs.Run.{RunFinished, RunAnswers}
+use Rattle.run.specs.declared.RunAnswer.{RunAnswer}
+use Rattle.demand.specs.Demand.{RunsAlike}
+use Rattle.base.specs.Bytes.{bytes}
+use Rattle.outcome.specs.Outcome.{answerLine}
+
+abbrev pub agree-line : List ℕ
+agree-line = bytes "statements and outcome agree" ++ 10 ∷ []
+
+unfoldable pub closingText : Answer → Answer → List ℕ
+closingText a b = bytes "given " ++ (answerLine a ++ (bytes "rewritten " ++ (answerLine b ++ agree-line)))
+
+-- room for two lines as long as `ended -2147483648 steps 4294967295`, and for their words
+abbrev pub closing-room : ℕ
+closing-room = 128
+
+-- demand 3 for this start: the two texts' runs answer alike
+abbrev pub RunAlike : List ℕ → List ℕ → List ℕ → ℕ → ℕ → Type 0
+RunAlike t w vs input budget =
+    (a b : RunAnswer) (us ws : List ℕ) → RunAnswers t vs input budget a us → RunAnswers w vs input budget b ws → RunsAlike a b
+
+-- the answers of both runs, which are alike, are told at the front of the lent bytes o; all others are kept
+pub record Closes (t w vs : List ℕ) (input budget : ℕ) (o q : List ℕ) (n : ℕ) : Type 0 where
+  pub given : Answer
+  pub rewritten : Answer
+  pub us : List ℕ
+  pub ws : List ℕ
+  pub one : RunFinished t vs input budget given us
+  pub two : RunFinished w vs input budget rewritten ws
+  pub alike : Alike given rewritten
+  pub fits : length (closingText given rewritten) ≤ length o
+  pub put : Put o 0 (closingText given rewritten) q n

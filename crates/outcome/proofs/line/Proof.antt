@@ -1,0 +1,30 @@
+-- `line` meets its contract: each answer has its line. Assumes nothing.
+use native.Mathlib.Omega.{arith}
+use mir.Syntax.{w32}
+use mir.Facts.{toZ-ofZ}
+use borrow.Author.Needs.{needs, sfits-of}
+use Rattle.outcome.proofs.line.Statement.{statement}
+use Rattle.outcome.proofs.line.Tie as tie
+
+returns : tie.Need-returns
+returns c =
+    let told = c .before .before .ended .ensures in
+    rw (c .before .before .before .before .before .a .given .1) (rw (toZ-ofZ {w = w32} (sfits-of (c .before .before .before .before .known-told .given .0 .1))) at (told .0), told .1)
+
+returns-2 : tie.Need-returns-2
+returns-2 c =
+    let told = c .before .before .spent .ensures in
+    rw (c .before .before .before .before .before .a2 .given .1) (told .0, omega (arith, told .1))
+
+pub line-spec : {M : Type 1} → statement M
+line-spec =
+    tie.close
+    (tie.spec
+    (λ c. search needs)
+    (λ c κs. search needs)
+    (λ c. search needs)
+    (λ c κs. search needs)
+    (λ c. search needs)
+    returns
+    (λ c. search needs)
+    returns-2)

@@ -1,0 +1,33 @@
+-- What is said of a start that is wrong.
+use mathlib.Core.List.{List, [], _∷_, _++_}
+use Prim.Native.Nat.{ℕ, _+_}
+use lib.Dec.{eqb}
+use Rattle.language.specs.Spelling.{digits}
+use Rattle.base.specs.Pick.{pick}
+use Rattle.base.specs.Bytes.{bytes}
+use Rattle.start.specs.declared.Answer.{Answer}
+use Rattle.start.specs.declared.Answer.the-variants.{Taken, Few, Many, Line}
+
+-- what line n of a start has to be: line 2 is the budget
+unfoldable pub lineRange : ℕ → List ℕ
+lineRange n = pick (eqb n 2) (bytes " isn't a whole number from 0 to 2147483647") (bytes " isn't a whole number from -2147483648 to 2147483647")
+
+-- what is wrong with a start, in words
+unfoldable pub startWords : Answer → List ℕ
+startWords Taken = []
+startWords Few = bytes "under 2 lines"
+startWords Many = bytes "over 34 lines"
+startWords (Line n) = bytes "line " ++ (digits n ++ lineRange n)
+
+unfoldable pub startText : Answer → List ℕ
+startText a = bytes "refused start" ++ 10 ∷ (bytes "the start: " ++ (startWords a ++ 10 ∷ []))
+
+-- room for the longer range, for words about line 4294967295, and for the text around them
+abbrev pub range-room : ℕ
+range-room = 52
+
+abbrev pub words-room : ℕ
+words-room = 15 + range-room
+
+abbrev pub start-room : ℕ
+start-room = 26 + words-room

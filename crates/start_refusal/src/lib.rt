@@ -1,0 +1,48 @@
+// The refusal of a start, in words.
+ghost use Prim.Native.Nat.{_≤_, _+_};
+ghost use lib.ListN.{length};
+ghost use Rattle.statement_writer.specs.Writing.{Put};
+ghost use Rattle.start_refusal.specs.StartRefusal.{lineRange, startWords, startText, range-room, words-room, start-room};
+use start::Answer;
+
+// What line n of a start has to be.
+fn line_range(out: &mut [u8], at: usize, n: u32) -> usize
+    requires { ⌜ at + range-room ≤ length (now out) ⌝ }
+    ensures { λ r. ⌜ Put (now (out .entry)) at (lineRange n) (now (out .exit)) r × (r ≤ at + range-room) ⌝ }
+{
+    if n == 2 {
+        return statement_writer::word(out, at, b" isn't a whole number from 0 to 2147483647");
+    }
+    statement_writer::word(
+        out,
+        at,
+        b" isn't a whole number from -2147483648 to 2147483647",
+    )
+}
+
+// What is wrong with a start.
+fn words(out: &mut [u8], at: usize, a: Answer) -> usize
+    requires { ⌜ at + words-room ≤ length (now out) ⌝ }
+    ensures { λ r. ⌜ Put (now (out .entry)) at (startWords a) (now (out .exit)) r × (r ≤ at + words-room) ⌝ }
+{
+    match a {
+        Answer::Taken => at,
+        Answer::Few => statement_writer::word(out, at, b"under 2 lines"),
+        Answer::Many => statement_writer::word(out, at, b"over 34 lines"),
+        Answer::Line(n) => {
+            let k1 = statement_writer::word(out, at, b"line ");
+            let k2 = statement_writer::number(out, k1, n);
+            line_range(out, k2, n)
+        }
+    }
+}
+
+// Puts the refusal at the front of the lent bytes, and answers its length.
+pub fn write(out: &mut [u8], a: Answer) -> usize
+    requires { ⌜ start-room ≤ length (now out) ⌝ }
+    ensures { λ r. ⌜ Put (now (out .entry)) 0 (startText a) (now (out .exit)) r × (r ≤ start-room) ⌝ }
+{
+    let k1 = statement_writer::word(out, 0, b"refused start\nthe start: ");
+    let k2 = words(out, k1, a);
+    statement_writer::byte(out, k2, 10)
+}
