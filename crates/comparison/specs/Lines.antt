@@ -5,6 +5,7 @@ use lib.Dec.{eqb}
 use lib.ListN.{getD}
 use mir.Syntax.{w32}
 use mir.Val.{toZ}
+use Rattle.base.specs.Bytes.{byte}
 use Rattle.language.specs.Spelling.{variables, spellVariable, spell}
 use Rattle.base.specs.Pick.{pick}
 use Rattle.language.specs.declared.Statement.{Statement}
@@ -15,7 +16,7 @@ use Rattle.trace.specs.Trace.{stepHead, valuesIn}
 
 -- two spaces, the variable and its two values: `i2 7 0`
 unfoldable pub pairText : ℕ → ℕ → ℕ → List ℕ
-pairText x v w = spaces 2 ++ (spellVariable x ++ (32 ∷ (signedDigits (toZ w32 v) ++ (32 ∷ signedDigits (toZ w32 w)))))
+pairText x v w = spaces 2 ++ (spellVariable x ++ (byte " " ∷ (signedDigits (toZ w32 v) ++ (byte " " ∷ signedDigits (toZ w32 w)))))
 
 -- where its values differ
 unfoldable pub difference : ℕ → List ℕ → List ℕ → List ℕ

@@ -4,6 +4,7 @@ use mathlib.Core.Logic.{_⊎_}
 use mathlib.Core.List.{List, [], _∷_, _++_}
 use Prim.Native.Nat.{ℕ, _+_, _*_, _≤_, _<_}
 use lib.ListN.{length, getD, drop}
+use Rattle.base.specs.Bytes.{byte, bytes}
 use Rattle.language.specs.Spelling.{digits}
 use Rattle.statement_writer.specs.Writing.{Put}
 use Rattle.language.specs.declared.Statement.{Statement}
@@ -19,15 +20,14 @@ use Rattle.judge.specs.Judge.{text-bytes}
 use Rattle.report.specs.declared.Reported.{Reported}
 use Rattle.report.specs.declared.Reported.the-variants.{Written, Refused, NoRoom}
 
--- `refused `, `marks ` and ` accepted ` as bytes
 abbrev pub refused-word : List ℕ
-refused-word = 114 ∷ 101 ∷ 102 ∷ 117 ∷ 115 ∷ 101 ∷ 100 ∷ 32 ∷ []
+refused-word = bytes "refused "
 
 abbrev pub marks-word : List ℕ
-marks-word = 109 ∷ 97 ∷ 114 ∷ 107 ∷ 115 ∷ 32 ∷ []
+marks-word = bytes "marks "
 
 abbrev pub accepted-word : List ℕ
-accepted-word = 32 ∷ 97 ∷ 99 ∷ 99 ∷ 101 ∷ 112 ∷ 116 ∷ 101 ∷ 100 ∷ 32 ∷ []
+accepted-word = bytes " accepted "
 
 -- "one line, `refused`, a space and the number"
 unfoldable pub refusedLine : ℕ → List ℕ
@@ -39,7 +39,7 @@ countsLine m a = marks-word ++ (digits m ++ (accepted-word ++ (digits a ++ 10 �
 
 -- "each mark's statement and verdict": `4 0`
 unfoldable pub verdictLine : ℕ → ℕ → List ℕ
-verdictLine n v = digits n ++ 32 ∷ (digits v ++ 10 ∷ [])
+verdictLine n v = digits n ++ byte " " ∷ (digits v ++ 10 ∷ [])
 
 unfoldable pub verdictLines : List Mark → List ℕ → List ℕ
 verdictLines [] vs = []
