@@ -4,10 +4,10 @@ use mathlib.Core.List.{List, [], _∷_}
 use Prim.Native.Nat.{ℕ}
 use lib.Dec.{eqb}
 use lib.ListN.{drop}
+use Rattle.base.specs.Bytes.{bytes, byte}
 use Rattle.tokens.specs.Parsing.{Parsed, found, misspelled, after, afterOr, parseWord, parseStatementNumber, parseVariable}
 use Rattle.base.specs.Pick.{pick}
 use Rattle.statement_reader.specs.Parsing.{parseExpression, parseStatement}
-use Rattle.condition.specs.Condition.{true-word, false-word, entry-word, exit-word, node-word, stmt-word, def-word, use-word, trans-word}
 use Rattle.condition.specs.declared.Atom.{Atom}
 use Rattle.condition.specs.declared.Atom.the-variants.{True, False, Entry, Exit, Node, Stmt, Def, Use, Trans}
 use Rattle.atom_reader.specs.declared.AtomRead.{AtomRead}
@@ -18,37 +18,37 @@ unfoldable pub parseEnded : {A : Type 0} → List ℕ → A → List ℕ → Par
 parseEnded w a l = after (parseWord w l) λ _ t. found a t
 
 unfoldable pub parseNode : List ℕ → Parsed Atom
-parseNode l = after (parseWord node-word l) λ _ t. after (parseStatementNumber t) λ n u. parseEnded (41 ∷ []) (Node n) u
+parseNode l = after (parseWord (bytes "node(") l) λ _ t. after (parseStatementNumber t) λ n u. parseEnded (bytes ")") (Node n) u
 
 unfoldable pub parseStmt : List ℕ → Parsed Atom
-parseStmt l = after (parseWord stmt-word l) λ _ t. after (parseStatement t) λ i u. parseEnded (41 ∷ []) (Stmt i) u
+parseStmt l = after (parseWord (bytes "stmt(") l) λ _ t. after (parseStatement t) λ i u. parseEnded (bytes ")") (Stmt i) u
 
 unfoldable pub parseDef : List ℕ → Parsed Atom
-parseDef l = after (parseWord def-word l) λ _ t. after (parseVariable t) λ x u. parseEnded (41 ∷ []) (Def x) u
+parseDef l = after (parseWord (bytes "def(") l) λ _ t. after (parseVariable t) λ x u. parseEnded (bytes ")") (Def x) u
 
 unfoldable pub parseUse : List ℕ → Parsed Atom
-parseUse l = after (parseWord use-word l) λ _ t. after (parseVariable t) λ x u. parseEnded (41 ∷ []) (Use x) u
+parseUse l = after (parseWord (bytes "use(") l) λ _ t. after (parseVariable t) λ x u. parseEnded (bytes ")") (Use x) u
 
 unfoldable pub parseTrans : List ℕ → Parsed Atom
-parseTrans l = after (parseWord trans-word l) λ _ t. after (parseExpression t) λ e u. parseEnded (41 ∷ []) (Trans e) u
+parseTrans l = after (parseWord (bytes "trans(") l) λ _ t. after (parseExpression t) λ e u. parseEnded (bytes ")") (Trans e) u
 
 -- two pairs of atoms have their first byte in common
 unfoldable pub parseTrueOrTrans : List ℕ → Parsed Atom
-parseTrueOrTrans l = afterOr (parseWord true-word l) (λ _ t. found True t) (parseTrans l)
+parseTrueOrTrans l = afterOr (parseWord (bytes "true") l) (λ _ t. found True t) (parseTrans l)
 
 unfoldable pub parseEntryOrExit : List ℕ → Parsed Atom
-parseEntryOrExit l = afterOr (parseWord entry-word l) (λ _ t. found Entry t) (parseEnded exit-word Exit l)
+parseEntryOrExit l = afterOr (parseWord (bytes "entry") l) (λ _ t. found Entry t) (parseEnded (bytes "exit") Exit l)
 
 -- the text's first byte c picks the reader
 abbrev pub byFirst : ℕ → List ℕ → Parsed Atom
 byFirst c l =
-    pick (eqb c 116) (parseTrueOrTrans l)
-    (pick (eqb c 102) (parseEnded false-word False l)
-    (pick (eqb c 101) (parseEntryOrExit l)
-    (pick (eqb c 110) (parseNode l)
-    (pick (eqb c 115) (parseStmt l)
-    (pick (eqb c 100) (parseDef l)
-    (pick (eqb c 117) (parseUse l) misspelled))))))
+    pick (eqb c (byte "t")) (parseTrueOrTrans l)
+    (pick (eqb c (byte "f")) (parseEnded (bytes "false") False l)
+    (pick (eqb c (byte "e")) (parseEntryOrExit l)
+    (pick (eqb c (byte "n")) (parseNode l)
+    (pick (eqb c (byte "s")) (parseStmt l)
+    (pick (eqb c (byte "d")) (parseDef l)
+    (pick (eqb c (byte "u")) (parseUse l) misspelled))))))
 
 unfoldable pub parseAtom : List ℕ → Parsed Atom
 parseAtom [] = misspelled

@@ -1,6 +1,7 @@
 -- Conditions: the tree, its spelling, which are valid, and its parts. Document 01, "Conditions".
 use mathlib.Core.List.{List, [], _∷_, _++_}
 use Prim.Native.Nat.{ℕ}
+use Rattle.base.specs.Bytes.{bytes, byte}
 use Rattle.language.specs.Spelling.{spellStatementNumber, ValidStatementNumber, spellVariable, ValidVariable, spellExpression, ValidExpression, spell, Valid}
 use Rattle.ctl.specs.Paths.{Quant, E, A, Direction, forward, backward}
 use Rattle.condition.specs.declared.Atom.{Atom}
@@ -30,83 +31,55 @@ pub data Condition : Type 0 where
   binary : Binary → Condition → Condition → Condition
 
 abbrev pub quantLetter : Quant → ℕ
-quantLetter E = 69
-quantLetter A = 65
+quantLetter E = byte "E"
+quantLetter A = byte "A"
 
 abbrev pub unaryLetter : Direction → PathUnary → ℕ
-unaryLetter forward next = 88
-unaryLetter forward finally = 70
-unaryLetter forward globally = 71
-unaryLetter backward next = 89
-unaryLetter backward finally = 82
-unaryLetter backward globally = 77
+unaryLetter forward next = byte "X"
+unaryLetter forward finally = byte "F"
+unaryLetter forward globally = byte "G"
+unaryLetter backward next = byte "Y"
+unaryLetter backward finally = byte "R"
+unaryLetter backward globally = byte "M"
 
 abbrev pub binaryLetter : Direction → PathBinary → ℕ
-binaryLetter forward until = 85
-binaryLetter forward weak = 87
-binaryLetter backward until = 83
-binaryLetter backward weak = 66
+binaryLetter forward until = byte "U"
+binaryLetter forward weak = byte "W"
+binaryLetter backward until = byte "S"
+binaryLetter backward weak = byte "B"
 
 -- what stands before the condition of a unary operator: `!`, or as `EX `
 abbrev pub prefix : Unary → List ℕ
-prefix negation = 33 ∷ []
-prefix (path k d o) = quantLetter k ∷ unaryLetter d o ∷ 32 ∷ []
+prefix negation = bytes "!"
+prefix (path k d o) = quantLetter k ∷ unaryLetter d o ∷ bytes " "
 
 -- what stands before, between and after the conditions of a binary operator: as `(`, ` & `, `)`, or as `E[`, ` U `, `]`
 abbrev pub opening : Binary → List ℕ
-opening conjunction = 40 ∷ []
-opening disjunction = 40 ∷ []
-opening (path k d o) = quantLetter k ∷ 91 ∷ []
+opening conjunction = bytes "("
+opening disjunction = bytes "("
+opening (path k d o) = quantLetter k ∷ bytes "["
 
 abbrev pub middle : Binary → List ℕ
-middle conjunction = 32 ∷ 38 ∷ 32 ∷ []
-middle disjunction = 32 ∷ 124 ∷ 32 ∷ []
-middle (path k d o) = 32 ∷ binaryLetter d o ∷ 32 ∷ []
+middle conjunction = bytes " & "
+middle disjunction = bytes " | "
+middle (path k d o) = byte " " ∷ binaryLetter d o ∷ bytes " "
 
 abbrev pub closing : Binary → List ℕ
-closing conjunction = 41 ∷ []
-closing disjunction = 41 ∷ []
-closing (path k d o) = 93 ∷ []
-
--- `true`, `false`, `entry`, `exit`, `node(`, `stmt(`, `def(`, `use(`, `trans(` as bytes
-abbrev pub true-word : List ℕ
-true-word = 116 ∷ 114 ∷ 117 ∷ 101 ∷ []
-
-abbrev pub false-word : List ℕ
-false-word = 102 ∷ 97 ∷ 108 ∷ 115 ∷ 101 ∷ []
-
-abbrev pub entry-word : List ℕ
-entry-word = 101 ∷ 110 ∷ 116 ∷ 114 ∷ 121 ∷ []
-
-abbrev pub exit-word : List ℕ
-exit-word = 101 ∷ 120 ∷ 105 ∷ 116 ∷ []
-
-abbrev pub node-word : List ℕ
-node-word = 110 ∷ 111 ∷ 100 ∷ 101 ∷ 40 ∷ []
-
-abbrev pub stmt-word : List ℕ
-stmt-word = 115 ∷ 116 ∷ 109 ∷ 116 ∷ 40 ∷ []
-
-abbrev pub def-word : List ℕ
-def-word = 100 ∷ 101 ∷ 102 ∷ 40 ∷ []
-
-abbrev pub use-word : List ℕ
-use-word = 117 ∷ 115 ∷ 101 ∷ 40 ∷ []
-
-abbrev pub trans-word : List ℕ
-trans-word = 116 ∷ 114 ∷ 97 ∷ 110 ∷ 115 ∷ 40 ∷ []
+closing conjunction = bytes ")"
+closing disjunction = bytes ")"
+closing (path k d o) = bytes "]"
 
 -- "Atoms: `true`, `false`, `entry`, `exit`, `node(n)`, `stmt(I)`, `def(X)`, `use(X)`, `trans(E)`"
 unfoldable pub spellAtom : Atom → List ℕ
-spellAtom True = true-word
-spellAtom False = false-word
-spellAtom Entry = entry-word
-spellAtom Exit = exit-word
-spellAtom (Node n) = node-word ++ (spellStatementNumber n ++ 41 ∷ [])
-spellAtom (Stmt i) = stmt-word ++ (spell i ++ 41 ∷ [])
-spellAtom (Def x) = def-word ++ (spellVariable x ++ 41 ∷ [])
-spellAtom (Use x) = use-word ++ (spellVariable x ++ 41 ∷ [])
-spellAtom (Trans e) = trans-word ++ (spellExpression e ++ 41 ∷ [])
+spellAtom True = bytes "true"
+spellAtom False = bytes "false"
+spellAtom Entry = bytes "entry"
+spellAtom Exit = bytes "exit"
+spellAtom (Node n) = bytes "node(" ++ (spellStatementNumber n ++ bytes ")")
+spellAtom (Stmt i) = bytes "stmt(" ++ (spell i ++ bytes ")")
+spellAtom (Def x) = bytes "def(" ++ (spellVariable x ++ bytes ")")
+spellAtom (Use x) = bytes "use(" ++ (spellVariable x ++ bytes ")")
+spellAtom (Trans e) = bytes "trans(" ++ (spellExpression e ++ bytes ")")
 
 unfoldable pub spellCondition : Condition → List ℕ
 spellCondition (atom a) = spellAtom a

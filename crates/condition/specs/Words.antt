@@ -3,8 +3,8 @@ use mathlib.Core.Path.{_≡_}
 use mathlib.Core.List.{List, [], _∷_, _++_}
 use Prim.Native.Nat.{ℕ, _+_, _-_, _*_, _/_, _%_}
 use lib.ListN.{length, take, drop, replicate}
-use Rattle.ctl.specs.Paths.{Quant, E, A, Direction, forward, backward}
-use Rattle.condition.specs.Condition.{PathUnary, next, finally, globally, PathBinary, until, weak, Unary, negation, Binary, conjunction, disjunction, Condition, atom, unary, binary, prefix, opening, middle, spellCondition, parts}
+use Rattle.ctl.specs.Paths.{E, A, forward, backward}
+use Rattle.condition.specs.Condition.{next, finally, globally, until, weak, Unary, negation, Binary, conjunction, disjunction, Condition, atom, unary, binary, prefix, opening, middle, spellCondition, parts}
 use Rattle.condition.specs.Texts.{most-parts}
 
 -- operators as the code's numbers; 0 is an atom

@@ -1,8 +1,7 @@
 -- The readers of conditions, step by step: what each tells, from what the readers that it calls tell. Assumes nothing.
 use mathlib.Core.Path.{_≡_, refl, ap, _∙_}
 use mathlib.Core.List.{List, [], _∷_, _++_}
-use mathlib.Core.Bool.{true, false, _&&_}
-use lib.Dec.{leb, ltb}
+use mathlib.Core.Bool.{true, false}
 use Prim.Native.Nat.{ℕ, zero, suc, _+_, _-_, _≤_, _<_}
 use native.Mathlib.Omega.{arith}
 use native.Mathlib.Nat.{le-refl}
@@ -27,7 +26,7 @@ use Rattle.operator_reader.proofs.Spelling.{prefix-sound, middle-sound}
 use Rattle.operator_reader.proofs.Operators.{coded-inv, coded-not}
 use Rattle.condition_reader.specs.declared.ConditionRead.{ConditionRead}
 use Rattle.condition_reader.specs.declared.ConditionRead.the-variants.{Found, Misspelled}
-use Rattle.condition_reader.specs.Parsing.{parseLeaf, parseUnary, parseBinary, parseBracketed, byHead, parseCondition, Stored, Tells, Reads, ReadsBy, Ready}
+use Rattle.condition_reader.specs.Parsing.{parseLeaf, parseUnary, parseBinary, parseBracketed, small, byHead, parseCondition, Stored, Tells, Reads, ReadsBy, Ready}
 use Rattle.condition_reader.proofs.Spelling.{condition-sound}
 
 -- positions, from the texts that lie between them
@@ -286,10 +285,10 @@ headed s at o n q r p h e i zero l = absurd (omega arith)
 headed s at o n q r p h e i (suc f) l = rw (e (parseCondition f)) (i f (omega arith))
 
 module _ (s : List ℕ) (at : ℕ) (h : at < length s) where
-  pub head-leaf : (leb 97 (getD s at 0) && ltb (getD s at 0) 123) ≡ true → (g : List ℕ → Parsed Condition) → byHead g (drop at s) ≡ parseLeaf (drop at s)
+  pub head-leaf : small (getD s at 0) ≡ true → (g : List ℕ → Parsed Condition) → byHead g (drop at s) ≡ parseLeaf (drop at s)
   head-leaf e g = rw (at-byte s at h, e)
 
-  pub head-bracketed : (leb 97 (getD s at 0) && ltb (getD s at 0) 123) ≡ false → (g : List ℕ → Parsed Condition) → byHead g (drop at s) ≡ parseBracketed g (drop at s)
+  pub head-bracketed : small (getD s at 0) ≡ false → (g : List ℕ → Parsed Condition) → byHead g (drop at s) ≡ parseBracketed g (drop at s)
   head-bracketed e g = rw (at-byte s at h, e)
 
 -- a bracket, or a unary operator

@@ -1,10 +1,8 @@
 -- Reading undoes spelling, and the other way round: conditions. Assumes nothing.
 use mathlib.Core.Path.{_≡_, refl, ap, sym, _∙_}
 use mathlib.Core.List.{List, [], _∷_, _++_, append-assoc, append-nil}
-use mathlib.Core.Bool.{_&&_}
 use Prim.Native.Nat.{ℕ, zero, suc, _≤_}
 use native.Mathlib.Omega.{arith}
-use lib.Dec.{leb, ltb}
 use lib.ListN.{length, length-append}
 use borrow.Author.Tests.{eq-eqb}
 use Rattle.tokens.specs.Parsing.{Parsed, found, parseWord}
@@ -12,7 +10,7 @@ use Rattle.tokens.proofs.Parse.{after-inv, afterOr-inv, skip-sound}
 use Rattle.ctl.specs.Paths.{E, A, forward, backward}
 use Rattle.condition.specs.declared.Atom.{Atom}
 use Rattle.condition.specs.declared.Atom.the-variants.{True, False, Entry, Exit, Node, Stmt, Def, Use, Trans}
-use Rattle.condition.specs.Condition.{next, finally, globally, until, weak, Unary, negation, Binary, conjunction, disjunction, Condition, atom, unary, binary, prefix, opening, middle, closing, spellAtom, spellCondition, ValidCondition}
+use Rattle.condition.specs.Condition.{next, finally, globally, Unary, negation, Binary, conjunction, disjunction, Condition, atom, unary, binary, prefix, opening, middle, closing, spellAtom, spellCondition, ValidCondition}
 use Rattle.condition.specs.Texts.{Spells}
 use Rattle.condition.proofs.Parts.{atom-longer, prefix-longer, opening-longer}
 use Rattle.atom_reader.specs.Parsing.{parseEnded, parseAtom}
@@ -20,7 +18,7 @@ use Rattle.atom_reader.proofs.Spelling.{pick-inv, atom-sound, atom-complete}
 use Rattle.operator_reader.specs.declared.Bracket.{Bracket}
 use Rattle.operator_reader.specs.Parsing.{parsePrefix, openingOf, closingOf, parseOpening, parseMiddle}
 use Rattle.operator_reader.proofs.Spelling.{prefix-sound, prefix-complete, bracketOf, opened-by, opening-sound, middle-sound, middle-complete}
-use Rattle.condition_reader.specs.Parsing.{parseLeaf, parseUnary, parseBinary, parseBracketed, byHead, parseCondition}
+use Rattle.condition_reader.specs.Parsing.{parseLeaf, parseUnary, parseBinary, parseBracketed, small, byHead, parseCondition}
 
 -- l spells the valid condition c before u
 abbrev pub SpelledCondition : List ℕ → Condition → List ℕ → Type 0
@@ -78,7 +76,7 @@ module _ (r : List ℕ → Parsed Condition) (ih : (l : List ℕ) (c : Condition
 
   head-sound : (l : List ℕ) (c : Condition) (u : List ℕ) → byHead r l ≡ found c u → SpelledCondition l c u
   head-sound [] c u h = let z : _≡_ {A = ℕ} 0 1 = cc in absurd (omega arith)
-  head-sound (n ∷ l) c u h = pick-inv (leb 97 n && ltb n 123) _ _ h (λ _. leaf-sound (n ∷ l) c u) (bracketed-sound (n ∷ l) c u)
+  head-sound (n ∷ l) c u h = pick-inv (small n) _ _ h (λ _. leaf-sound (n ∷ l) c u) (bracketed-sound (n ∷ l) c u)
 
 -- what is read is what is spelled
 pub condition-sound : (f : ℕ) (l : List ℕ) (c : Condition) (u : List ℕ) → parseCondition f l ≡ found c u → SpelledCondition l c u

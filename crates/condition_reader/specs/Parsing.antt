@@ -2,11 +2,12 @@
 -- proofs/Spelling.antt holds it to the spelling, both ways round.
 use mathlib.Core.Path.{_≡_}
 use mathlib.Core.List.{List, [], _∷_}
-use mathlib.Core.Bool.{_&&_}
+use mathlib.Core.Bool.{Bool, _&&_}
 use Prim.Native.Nat.{ℕ, zero, suc, _+_, _-_, _≤_}
-use lib.Dec.{leb, ltb}
+use lib.Dec.{leb}
 use lib.ListN.{length, drop}
 use lib.Seq.{sets}
+use Rattle.base.specs.Bytes.{byte}
 use Rattle.tokens.specs.Parsing.{Parsed, found, misspelled, after, afterOr, parseWord}
 use Rattle.base.specs.Pick.{pick}
 use Rattle.condition.specs.Condition.{Condition, atom, unary, binary, parts}
@@ -42,9 +43,12 @@ unfoldable pub parseBracketed : (List ℕ → Parsed Condition) → List ℕ →
 parseBracketed r l = afterOr (parseOpening l) (λ b t. parseBinary b r t) (parseUnary r l)
 
 -- `a` to `z` begin an atom
+abbrev pub small : ℕ → Bool
+small c = leb (byte "a") c && leb c (byte "z")
+
 abbrev pub byHead : (List ℕ → Parsed Condition) → List ℕ → Parsed Condition
 byHead r [] = misspelled
-byHead r (c ∷ l) = pick (leb 97 c && ltb c 123) (parseLeaf (c ∷ l)) (parseBracketed r (c ∷ l))
+byHead r (c ∷ l) = pick (small c) (parseLeaf (c ∷ l)) (parseBracketed r (c ∷ l))
 
 -- at most `fuel` conditions within one another
 unfoldable pub parseCondition : ℕ → List ℕ → Parsed Condition

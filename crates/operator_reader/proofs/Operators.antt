@@ -1,8 +1,9 @@
 -- The codes of the operators, as the readers answer them. Assumes nothing.
-use mathlib.Core.Path.{_≡_, refl, sym}
-use mathlib.Core.List.{List, [], _∷_}
+use mathlib.Core.Path.{_≡_, refl}
+use mathlib.Core.List.{List}
 use Prim.Native.Nat.{ℕ, _+_}
 use native.Mathlib.Omega.{arith}
+use Rattle.base.specs.Bytes.{bytes}
 use Rattle.tokens.specs.Parsing.{Parsed, found, misspelled, after, parseWord}
 use Rattle.ctl.specs.Paths.{Quant, E, A, Direction, forward, backward}
 use Rattle.condition.specs.Condition.{PathUnary, next, finally, globally, PathBinary, until, weak, Unary, Binary}
@@ -52,8 +53,8 @@ binary-code A backward until = refl
 binary-code A backward weak = refl
 
 module _ (k : Quant) (d : Direction) (all : ℕ) (l : List ℕ) (e : all ≡ allOf k) where
-  pub unary-ended : (o : PathUnary) → parseEnded (32 ∷ []) (unaryCode (Unary.path E d o) + all) l ≡ coded unaryCode (parseEnded (32 ∷ []) (Unary.path k d o) l)
-  unary-ended o = rw (e, unary-code k d o) (coded-ended unaryCode (Unary.path k d o) (32 ∷ []) l)
+  pub unary-ended : (o : PathUnary) → parseEnded (bytes " ") (unaryCode (Unary.path E d o) + all) l ≡ coded unaryCode (parseEnded (bytes " ") (Unary.path k d o) l)
+  unary-ended o = rw (e, unary-code k d o) (coded-ended unaryCode (Unary.path k d o) (bytes " ") l)
 
-  pub binary-ended : (o : PathBinary) → parseEnded (32 ∷ []) (binaryCode (Binary.path E d o) + all) l ≡ coded binaryCode (parseEnded (32 ∷ []) (Binary.path k d o) l)
-  binary-ended o = rw (e, binary-code k d o) (coded-ended binaryCode (Binary.path k d o) (32 ∷ []) l)
+  pub binary-ended : (o : PathBinary) → parseEnded (bytes " ") (binaryCode (Binary.path E d o) + all) l ≡ coded binaryCode (parseEnded (bytes " ") (Binary.path k d o) l)
+  binary-ended o = rw (e, binary-code k d o) (coded-ended binaryCode (Binary.path k d o) (bytes " ") l)

@@ -6,6 +6,7 @@ use native.Mathlib.Omega.{arith}
 use lib.Dec.{eqb}
 use lib.ListN.{getD}
 use borrow.Author.Tests.{eqb-true}
+use Rattle.base.specs.Bytes.{bytes, byte}
 use Rattle.tokens.specs.Parsing.{found, misspelled, parseWord}
 use Rattle.tokens.proofs.Parse.{after-inv, skip-sound}
 use Rattle.ctl.specs.Paths.{Quant, E, A, forward, backward}
@@ -22,29 +23,29 @@ Each P [] = Unit
 Each P (o ∷ os) = P o × Each P os
 
 letter-sound : {O : Type 0} (w : O → List ℕ) (P : O → Type 0) (os : List O) → Each P os → (l : List ℕ) (o : O) (u : List ℕ) → parseLetter w os l ≡ found o u
-    → P o × (l ≡ getD (w o) 1 0 ∷ 32 ∷ u)
+    → P o × (l ≡ getD (w o) 1 0 ∷ byte " " ∷ u)
 unfolding parseLetter byLetter
 letter-sound w P os h [] o u e = let z : _≡_ {A = ℕ} 0 1 = cc in absurd (omega arith)
 letter-sound w P os h (c ∷ l) o u e = go os h e
   where
-    go : (os : List _) → Each P os → byLetter w os c l ≡ found o u → P o × (c ∷ l ≡ getD (w o) 1 0 ∷ 32 ∷ u)
+    go : (os : List _) → Each P os → byLetter w os c l ≡ found o u → P o × (c ∷ l ≡ getD (w o) 1 0 ∷ byte " " ∷ u)
     go [] h e = let z : _≡_ {A = ℕ} 0 1 = cc in absurd (omega arith)
     go (p ∷ os) h e =
         pick-inv (eqb c (getD (w p) 1 0)) _ _ e
-        (λ t f. let i = ended-sound (32 ∷ []) p l f in rw (← i .0) (h .0, rw (eqb-true c _ t, i .1)))
+        (λ t f. let i = ended-sound (bytes " ") p l f in rw (← i .0) (h .0, rw (eqb-true c _ t, i .1)))
         (go os (h .1))
 
 -- the words of the unary operators with a path
 abbrev PathPrefix : Quant → Unary → Type 0
-PathPrefix k o = prefix o ≡ quantLetter k ∷ getD (prefix o) 1 0 ∷ 32 ∷ []
+PathPrefix k o = prefix o ≡ quantLetter k ∷ getD (prefix o) 1 0 ∷ bytes " "
 
 pub prefix-sound : (l : List ℕ) (o : Unary) (u : List ℕ) → parsePrefix l ≡ found o u → l ≡ prefix o ++ u
 unfolding parsePrefix
 prefix-sound [] o u e = let z : _≡_ {A = ℕ} 0 1 = cc in absurd (omega arith)
 prefix-sound (c ∷ l) o u e =
-    pick-inv (eqb c 33) _ _ e (λ t f. let p : negation ≡ o = cc in let q : l ≡ u = cc in rw (← p, ← q, eqb-true c 33 t)) λ e₁.
-    pick-inv (eqb c 69) _ _ e₁ (λ t f. by E (refl, (refl, (refl, (refl, (refl, (refl, tt)))))) (eqb-true c 69 t) f) λ e₂.
-    pick-inv (eqb c 65) _ misspelled e₂ (λ t f. by A (refl, (refl, (refl, (refl, (refl, (refl, tt)))))) (eqb-true c 65 t) f) λ f. let z : _≡_ {A = ℕ} 0 1 = cc in absurd (omega arith)
+    pick-inv (eqb c (byte "!")) _ _ e (λ t f. let p : negation ≡ o = cc in let q : l ≡ u = cc in rw (← p, ← q, eqb-true c (byte "!") t)) λ e₁.
+    pick-inv (eqb c (byte "E")) _ _ e₁ (λ t f. by E (refl, (refl, (refl, (refl, (refl, (refl, tt)))))) (eqb-true c (byte "E") t) f) λ e₂.
+    pick-inv (eqb c (byte "A")) _ misspelled e₂ (λ t f. by A (refl, (refl, (refl, (refl, (refl, (refl, tt)))))) (eqb-true c (byte "A") t) f) λ f. let z : _≡_ {A = ℕ} 0 1 = cc in absurd (omega arith)
   where
     by : (k : Quant) → Each (PathPrefix k) (unaries k) → c ≡ quantLetter k → parseLetter prefix (unaries k) l ≡ found o u → c ∷ l ≡ prefix o ++ u
     by k h t f = let i = letter-sound prefix (PathPrefix k) (unaries k) h l o u f in rw (i .0, t, i .1)
@@ -68,7 +69,7 @@ prefix-complete (Unary.path A backward globally) u = refl
 -- o is one of the operators that the bracket b opens, and is spelled with it
 pub record Opened (b : Bracket) (o : Binary) : Type 0 where
   pub opens : opening o ≡ openingOf b
-  pub joins : middle o ≡ 32 ∷ getD (middle o) 1 0 ∷ 32 ∷ []
+  pub joins : middle o ≡ byte " " ∷ getD (middle o) 1 0 ∷ bytes " "
   pub closes : closing o ≡ closingOf b
 
 abbrev pub bracketOf : Binary → Bracket
@@ -92,17 +93,17 @@ pub opening-sound : (l : List ℕ) (b : Bracket) (u : List ℕ) → parseOpening
 unfolding parseOpening
 opening-sound [] b u e = let z : _≡_ {A = ℕ} 0 1 = cc in absurd (omega arith)
 opening-sound (c ∷ l) b u e =
-    pick-inv (eqb c 40) _ _ e (λ t f. let p : Round ≡ b = cc in let q : l ≡ u = cc in rw (← p, ← q, eqb-true c 40 t)) λ e₁.
-    pick-inv (eqb c 69) _ _ e₁ (λ t f. let i = ended-sound (91 ∷ []) Some l f in rw (← i .0, i .1, eqb-true c 69 t)) λ e₂.
-    pick-inv (eqb c 65) _ misspelled e₂ (λ t f. let i = ended-sound (91 ∷ []) All l f in rw (← i .0, i .1, eqb-true c 65 t)) λ f.
+    pick-inv (eqb c (byte "(")) _ _ e (λ t f. let p : Round ≡ b = cc in let q : l ≡ u = cc in rw (← p, ← q, eqb-true c (byte "(") t)) λ e₁.
+    pick-inv (eqb c (byte "E")) _ _ e₁ (λ t f. let i = ended-sound (bytes "[") Some l f in rw (← i .0, i .1, eqb-true c (byte "E") t)) λ e₂.
+    pick-inv (eqb c (byte "A")) _ misspelled e₂ (λ t f. let i = ended-sound (bytes "[") All l f in rw (← i .0, i .1, eqb-true c (byte "A") t)) λ f.
     let z : _≡_ {A = ℕ} 0 1 = cc in absurd (omega arith)
 
 pub middle-sound : (b : Bracket) (l : List ℕ) (o : Binary) (u : List ℕ) → parseMiddle b l ≡ found o u → (l ≡ middle o ++ u) × Opened b o
 unfolding parseMiddle
 middle-sound b l o u h =
-    after-inv (parseWord (32 ∷ []) l) _ h λ _ t e f.
+    after-inv (parseWord (bytes " ") l) _ h λ _ t e f.
     let i = letter-sound middle (Opened b) (opened b) (all-opened b) t o u f in
-    (rw (i .0 .joins, skip-sound (32 ∷ []) l e, i .1), i .0)
+    (rw (i .0 .joins, skip-sound (bytes " ") l e, i .1), i .0)
 
 pub middle-complete : (o : Binary) (u : List ℕ) → parseMiddle (bracketOf o) (middle o ++ u) ≡ found o u
 unfolding parseMiddle parseLetter byLetter parseEnded parseWord

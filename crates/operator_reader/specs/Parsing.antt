@@ -4,6 +4,7 @@ use mathlib.Core.List.{List, [], _∷_}
 use Prim.Native.Nat.{ℕ}
 use lib.Dec.{eqb}
 use lib.ListN.{drop, getD}
+use Rattle.base.specs.Bytes.{bytes, byte}
 use Rattle.tokens.specs.Parsing.{Parsed, found, misspelled, after, parseWord}
 use Rattle.base.specs.Pick.{pick}
 use Rattle.ctl.specs.Paths.{Quant, E, A, forward, backward}
@@ -19,7 +20,7 @@ use Rattle.operator_reader.specs.declared.BracketRead.the-variants as br
 -- of the operators os, with words w, the one whose second byte is c, and then a space
 unfoldable pub byLetter : {O : Type 0} → (O → List ℕ) → List O → ℕ → List ℕ → Parsed O
 byLetter w [] c l = misspelled
-byLetter w (o ∷ os) c l = pick (eqb c (getD (w o) 1 0)) (parseEnded (32 ∷ []) o l) (byLetter w os c l)
+byLetter w (o ∷ os) c l = pick (eqb c (getD (w o) 1 0)) (parseEnded (bytes " ") o l) (byLetter w os c l)
 
 unfoldable pub parseLetter : {O : Type 0} → (O → List ℕ) → List O → List ℕ → Parsed O
 parseLetter w os [] = misspelled
@@ -33,9 +34,9 @@ unaries k =
 unfoldable pub parsePrefix : List ℕ → Parsed Unary
 parsePrefix [] = misspelled
 parsePrefix (c ∷ l) =
-    pick (eqb c 33) (found negation l)
-    (pick (eqb c 69) (parseLetter prefix (unaries E) l)
-    (pick (eqb c 65) (parseLetter prefix (unaries A) l) misspelled))
+    pick (eqb c (byte "!")) (found negation l)
+    (pick (eqb c (byte "E")) (parseLetter prefix (unaries E) l)
+    (pick (eqb c (byte "A")) (parseLetter prefix (unaries A) l) misspelled))
 
 abbrev pub binaries : Quant → List Binary
 binaries k = Binary.path k forward until ∷ Binary.path k forward weak ∷ Binary.path k backward until ∷ Binary.path k backward weak ∷ []
@@ -47,21 +48,21 @@ opened Some = binaries E
 opened All = binaries A
 
 abbrev pub openingOf : Bracket → List ℕ
-openingOf Round = 40 ∷ []
-openingOf Some = 69 ∷ 91 ∷ []
-openingOf All = 65 ∷ 91 ∷ []
+openingOf Round = bytes "("
+openingOf Some = bytes "E["
+openingOf All = bytes "A["
 
 abbrev pub closingOf : Bracket → List ℕ
-closingOf Round = 41 ∷ []
-closingOf Some = 93 ∷ []
-closingOf All = 93 ∷ []
+closingOf Round = bytes ")"
+closingOf Some = bytes "]"
+closingOf All = bytes "]"
 
 unfoldable pub parseOpening : List ℕ → Parsed Bracket
 parseOpening [] = misspelled
 parseOpening (c ∷ l) =
-    pick (eqb c 40) (found Round l)
-    (pick (eqb c 69) (parseEnded (91 ∷ []) Some l)
-    (pick (eqb c 65) (parseEnded (91 ∷ []) All l) misspelled))
+    pick (eqb c (byte "(")) (found Round l)
+    (pick (eqb c (byte "E")) (parseEnded (bytes "[") Some l)
+    (pick (eqb c (byte "A")) (parseEnded (bytes "[") All l) misspelled))
 
 abbrev pub parsedBracket : List ℕ → BracketRead → Parsed Bracket
 parsedBracket s (bracketRead.Found b k) = found b (drop k s)
@@ -72,7 +73,7 @@ bracketEnd (bracketRead.Found b k) = k
 bracketEnd bracketRead.Misspelled = 0
 
 unfoldable pub parseMiddle : Bracket → List ℕ → Parsed Binary
-parseMiddle b l = after (parseWord (32 ∷ []) l) λ _ t. parseLetter middle (opened b) t
+parseMiddle b l = after (parseWord (bytes " ") l) λ _ t. parseLetter middle (opened b) t
 
 -- operators by their codes, as the readers answer them
 abbrev pub coded : {O : Type 0} → (O → ℕ) → Parsed O → Parsed ℕ

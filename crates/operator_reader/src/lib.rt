@@ -1,8 +1,8 @@
 // The readers of operators: each takes what stands at a position of a text, and answers the position after it, which lies within the text.
-ghost use mathlib.Core.List.{[], _∷_};
 ghost use mathlib.Core.Path.{_≡_};
 ghost use Prim.Native.Nat.{_≤_};
 ghost use lib.ListN.{length, drop};
+ghost use Rattle.base.specs.Bytes.{bytes};
 ghost use Rattle.ctl.specs.Paths.{Quant};
 ghost use Rattle.tokens.specs.Parsing.{parsedWord, wordEnd, parseWord};
 ghost use Rattle.condition.specs.Condition.{prefix, middle};
@@ -31,7 +31,7 @@ pub enum BracketRead {
 
 // The operator's code, where a space ends it.
 fn spaced(s: &[u8], at: usize, code: u8) -> OperatorRead
-    ensures { λ r. ⌜ parsedOperator (now (s .entry)) r ≡ parseEnded (32 ∷ []) code (drop at (now (s .entry))) ⌝ }
+    ensures { λ r. ⌜ parsedOperator (now (s .entry)) r ≡ parseEnded (bytes " ") code (drop at (now (s .entry))) ⌝ }
     ensures { λ r. ⌜ operatorEnd r ≤ length (now (s .entry)) ⌝ }
 {
     let WordRead::Found(k) = tokens::word(s, at, b" ") else {
@@ -119,7 +119,7 @@ fn binary_letter(s: &[u8], at: usize, all: u8) -> OperatorRead
 
 // `[` after a quantifier's letter.
 fn square(s: &[u8], at: usize, bracket: Bracket) -> BracketRead
-    ensures { λ r. ⌜ parsedBracket (now (s .entry)) r ≡ parseEnded (91 ∷ []) bracket (drop at (now (s .entry))) ⌝ }
+    ensures { λ r. ⌜ parsedBracket (now (s .entry)) r ≡ parseEnded (bytes "[") bracket (drop at (now (s .entry))) ⌝ }
     ensures { λ r. ⌜ bracketEnd r ≤ length (now (s .entry)) ⌝ }
 {
     let WordRead::Found(k) = tokens::word(s, at, b"[") else {

@@ -6,6 +6,7 @@ use Prim.Native.Nat.{ℕ, _*_, _≤_}
 use native.Mathlib.Omega.{arith}
 use lib.Dec.{eqb}
 use lib.ListN.{length, take, getD}
+use Rattle.base.specs.Bytes.{byte}
 use Rattle.base.specs.Pick.{pick}
 use Rattle.statement_writer.specs.Writing.{Put}
 use Rattle.statement_writer.proofs.Puts.{put-front, put-within}
@@ -21,7 +22,7 @@ pick-most false xs ys m h k = k
 
 byte-most : (b : ℕ) → length (escapeByte b) ≤ 5
 unfolding escapeByte
-byte-most b = pick-most (eqb b 38) _ _ 5 (omega arith) (pick-most (eqb b 60) _ _ 5 (omega arith) (pick-most (eqb b 62) _ _ 5 (omega arith) (omega arith)))
+byte-most b = pick-most (eqb b (byte "&")) _ _ 5 (omega arith) (pick-most (eqb b (byte "<")) _ _ 5 (omega arith) (pick-most (eqb b (byte ">")) _ _ 5 (omega arith) (omega arith)))
 
 escape-most : (s : List ℕ) → length (escape s) ≤ length s * 5
 unfolding escape

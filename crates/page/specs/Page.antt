@@ -4,16 +4,16 @@ use mathlib.Core.List.{List, [], _∷_}
 use Prim.Native.Nat.{ℕ, _*_, _≤_, _<_}
 use lib.Dec.{eqb}
 use lib.ListN.{length, getD}
+use Rattle.base.specs.Bytes.{byte, bytes}
 use Rattle.base.specs.Pick.{pick}
 use Rattle.statement_writer.specs.Writing.{Put}
-use Rattle.base.specs.Bytes.{bytes}
 use Rattle.view.specs.View.{upTo, PrintsView, PrintsRefusal, view-room}
 use Rattle.view.specs.declared.Viewed.{Viewed}
 use Rattle.view.specs.declared.Viewed.the-variants.{Written, Refused, NoRoom}
 
 -- `&`, `<` and `>` as HTML asks for them in a text
 unfoldable pub escapeByte : ℕ → List ℕ
-escapeByte b = pick (eqb b 38) (bytes "&amp;") (pick (eqb b 60) (bytes "&lt;") (pick (eqb b 62) (bytes "&gt;") (b ∷ [])))
+escapeByte b = pick (eqb b (byte "&")) (bytes "&amp;") (pick (eqb b (byte "<")) (bytes "&lt;") (pick (eqb b (byte ">")) (bytes "&gt;") (b ∷ [])))
 
 unfoldable pub escape : List ℕ → List ℕ
 escape s = upTo (length s) (λ i. escapeByte (getD s i 0))

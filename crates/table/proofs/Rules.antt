@@ -1,16 +1,14 @@
 -- The operators by their codes, and what their rules say. Assumes nothing.
 use mathlib.Core.Path.{_≡_, refl, ap, sym, _∙_}
 use mathlib.Core.List.{List, [], _∷_}
-use mathlib.Core.Logic.{_↔_}
 use Prim.Native.Nat.{ℕ}
 use lib.ListN.{getD}
 use Rattle.language.specs.declared.Statement.{Statement}
-use Rattle.ctl.specs.Paths.{Quant, E, A, Direction, forward, backward}
+use Rattle.ctl.specs.Paths.{E, A, forward, backward}
 use Rattle.flow.specs.Flow.{steps}
-use Rattle.condition.specs.Condition.{PathUnary, next, finally, globally, PathBinary, until, weak, Unary, negation, Binary, conjunction, disjunction}
+use Rattle.condition.specs.Condition.{next, finally, globally, until, weak, Unary, negation, Binary, conjunction, disjunction}
 use Rattle.truth.specs.Truth.{SatUnary, SatBinary}
 use Rattle.table.specs.Rules.{Operation, one, two, codeOf, ruleOf, SatRule}
-use Rattle.table.specs.declared.Rule.{Rule}
 
 -- the operator of each code; 0 is none's
 operations : List Operation

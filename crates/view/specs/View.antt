@@ -7,6 +7,7 @@ use Prim.Native.Nat.{ℕ, zero, suc, _+_, _-_, _*_, _/_, _%_, _≤_, _<_}
 use lib.Dec.{ltb}
 use lib.ListN.{length}
 use Rattle.base.specs.Pick.{pick}
+use Rattle.base.specs.Bytes.{byte, bytes}
 use Rattle.language.specs.Spelling.{digits, spell}
 use Rattle.statement_writer.specs.Writing.{Put}
 use Rattle.language.specs.declared.Statement.{Statement}
@@ -22,7 +23,6 @@ use Rattle.table.specs.Table.{part-words, partAt}
 use Rattle.table.specs.Summary.{Counts}
 use Rattle.blame.specs.Blame.{Blames}
 use Rattle.desk.specs.Columns.{spaces, wide, padded}
-use Rattle.base.specs.Bytes.{bytes}
 use Rattle.desk.specs.Refusals.{refusalText}
 use Rattle.view.specs.declared.Viewed.{Viewed}
 use Rattle.view.specs.declared.Viewed.the-variants.{Written, Refused, NoRoom}
@@ -44,10 +44,10 @@ unfoldable pub columns : (ℕ → ℕ) → ℕ → List ℕ
 columns f n = upTo (n - 1) (λ k. f k ∷ []) ++ (spaces 2 ++ f (n - 1) ∷ [])
 
 abbrev pub tens : ℕ → ℕ
-tens k = pick (ltb (k + 1) 10) 32 (48 + (k + 1) / 10)
+tens k = pick (ltb (k + 1) 10) (byte " ") (byte "0" + (k + 1) / 10)
 
 abbrev pub units : ℕ → ℕ
-units k = 48 + (k + 1) % 10
+units k = byte "0" + (k + 1) % 10
 
 -- the marks of a row stand after its statement's number, text and the spaces between
 abbrev pub margin : ℕ
@@ -58,8 +58,8 @@ headRow f n = spaces margin ++ (columns f n ++ 10 ∷ [])
 
 -- `*` where a part is true, `.` where it is false
 abbrev pub mark : Bool → ℕ
-mark true = 42
-mark false = 46
+mark true = byte "*"
+mark false = byte "."
 
 -- a statement's number, its text, and a mark for each of n parts: truth k s is part k's at place s
 unfoldable pub row : (ℕ → ℕ → Bool) → ℕ → ℕ → Statement → List ℕ

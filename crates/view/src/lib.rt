@@ -3,6 +3,7 @@ ghost use mathlib.Core.Path.{_≡_};
 ghost use lib.ListN.{length};
 ghost use lib.Dec.{ltb};
 ghost use Prim.Native.Nat.{_≤_, _<_, _+_, _/_};
+ghost use Rattle.base.specs.Bytes.{byte};
 ghost use Rattle.statement_writer.specs.Writing.{Put};
 ghost use Rattle.program.specs.Reading.{statements};
 ghost use Rattle.condition.specs.Condition.{Condition};
@@ -45,7 +46,7 @@ enum Row {
 
 fn tens_digit(n: u8) -> u8
     requires { ⌜ n < 100 ⌝ }
-    ensures { λ r. ⌜ r ≡ pick (ltb n 10) 32 (48 + n / 10) ⌝ }
+    ensures { λ r. ⌜ r ≡ pick (ltb n 10) (byte " ") (byte "0" + n / 10) ⌝ }
 {
     if n < 10 { b' ' } else { b'0' + n / 10 }
 }

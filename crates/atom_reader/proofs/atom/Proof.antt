@@ -1,4 +1,5 @@
 -- `atom` meets its contract: the first byte picks the reader. Assumes nothing.
+use Rattle.base.specs.Bytes.{byte}
 use Rattle.atom_reader.specs.Parsing.{parseAtom}
 use borrow.Author.Tests.{ne-eqb}
 use Rattle.tokens.proofs.Steps.{at-end}
@@ -71,13 +72,13 @@ returns-9 c =
     let d = n .0 .0 .0 in (
       rw (
         atom-first _ _ (c .before .before .if1 .left),
-        ne-eqb _ 116 (d .0 .0 .0 .1),
-        ne-eqb _ 102 (d .0 .0 .1),
-        ne-eqb _ 101 (d .0 .1),
-        ne-eqb _ 110 (d .1),
-        ne-eqb _ 115 (n .0 .0 .1),
-        ne-eqb _ 100 (n .0 .1),
-        ne-eqb _ 117 (n .1),
+        ne-eqb _ (byte "t") (d .0 .0 .0 .1),
+        ne-eqb _ (byte "f") (d .0 .0 .1),
+        ne-eqb _ (byte "e") (d .0 .1),
+        ne-eqb _ (byte "n") (d .1),
+        ne-eqb _ (byte "s") (n .0 .0 .1),
+        ne-eqb _ (byte "d") (n .0 .1),
+        ne-eqb _ (byte "u") (n .1),
       ),
       omega arith,
     )

@@ -1,16 +1,16 @@
 -- `condition`, `bracketed`, `unary` and `binary` meet their contracts: at each return the readers that were called say what the list
 -- parser finds. The measure is the length of the unread text. Assumes nothing.
 use mathlib.Core.Path.{_≡_, ap, sym, _∙_}
-use mathlib.Core.Bool.{false, _&&_}
+use mathlib.Core.Bool.{false}
 use mathlib.Core.Logic.{⊎-elim}
-use lib.Dec.{leb, ltb}
 use native.Mathlib.Omega.{arith}
 use borrow.Author.Needs.{needs}
-use borrow.Author.Tests.{le-leb, lt-leb, lt-ltb, le-ltb}
+use borrow.Author.Tests.{le-leb, lt-leb}
 use lib.ListN.{length, drop, getD}
+use Rattle.base.specs.Bytes.{byte}
 use Rattle.tokens.specs.Parsing.{parsedWord, wordEnd}
 use Rattle.operator_reader.specs.Parsing.{parsedOperator, parsedBracket}
-use Rattle.condition_reader.specs.Parsing.{conditionEnd, parseLeaf, parseBracketed}
+use Rattle.condition_reader.specs.Parsing.{conditionEnd, parseLeaf, parseBracketed, small}
 use Rattle.operator_reader.proofs.Spelling.{opening-sound}
 use Rattle.condition_reader.proofs.Readers as laws
 use Prim.Native.Nat.{ℕ, _+_, _-_, _*_, _≤_, _<_}
@@ -329,7 +329,7 @@ pub +binary+bracketed+condition+unary-spec : {M : Type 1} → statement M
     let s = a .s .now in
     let h = c .before .before .before .before .before .if1 .left in (
       laws.headed s (a .at) (a .out .now) (a .n) (c .leaf .last .1 .1 .0) (c .leaf .result) (λ _. parseLeaf (drop (a .at) s)) h
-          (laws.head-leaf s (a .at) h (rw (le-leb 97 _ (c .before .before .before .if2 .left), lt-ltb _ 123 (c .before .before .if3 .taken)))) (λ f l. c .leaf .ensures .0),
+          (laws.head-leaf s (a .at) h (rw (le-leb (byte "a") _ (c .before .before .before .if2 .left), le-leb (getD s (a .at) 0) (byte "z") (omega (arith, c .before .before .if3 .taken))))) (λ f l. c .leaf .ensures .0),
       c .leaf .ensures .1,
     ))
     (λ c.
@@ -337,8 +337,8 @@ pub +binary+bracketed+condition+unary-spec : {M : Type 1} → statement M
     let a = start .args in
     let s = a .s .now in
     let h = c .before .before .before .before .if1 .left in
-    let other : (leb 97 (getD s (a .at) 0) && ltb (getD s (a .at) 0) 123) ≡ false =
-    ⊎-elim (λ w. rw (lt-leb 97 _ (w .taken))) (λ w. rw (le-leb 97 _ (w .0 .left), le-ltb _ 123 (w .1 .left))) (c .before .before .if2 .came) in (
+    let other : small (getD s (a .at) 0) ≡ false =
+    ⊎-elim (λ w. rw (lt-leb (byte "a") _ (w .taken))) (λ w. rw (le-leb (byte "a") _ (w .0 .left), lt-leb _ (byte "z") (w .1 .left))) (c .before .before .if2 .came) in (
       laws.headed s (a .at) (a .out .now) (a .n) (c .bracketed .last .1 .1 .0) (c .bracketed .result) (λ p. parseBracketed p (drop (a .at) s)) h
           (laws.head-bracketed s (a .at) h other) (c .bracketed .ensures .0),
       c .bracketed .ensures .1,

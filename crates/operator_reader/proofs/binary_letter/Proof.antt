@@ -1,4 +1,5 @@
 -- `binary_letter` meets its contract: each letter has its operator's code, and no other byte is one. Assumes nothing.
+use Rattle.base.specs.Bytes.{byte}
 use Rattle.operator_reader.proofs.Operators.{binary-ended}
 use Rattle.operator_reader.specs.Parsing.{parseLetter, byLetter}
 use Rattle.condition.specs.Condition.{until, weak}
@@ -51,7 +52,7 @@ unfolding parseLetter byLetter
 returns-6 c = (
   λ k e.
       let n = c .match .rest in
-      rw (at-byte _ _ (c .before .before .if1 .left), ne-eqb _ 85 (n .0 .0 .0 .1), ne-eqb _ 87 (n .0 .0 .1), ne-eqb _ 83 (n .0 .1), ne-eqb _ 66 (n .1)),
+      rw (at-byte _ _ (c .before .before .if1 .left), ne-eqb _ (byte "U") (n .0 .0 .0 .1), ne-eqb _ (byte "W") (n .0 .0 .1), ne-eqb _ (byte "S") (n .0 .1), ne-eqb _ (byte "B") (n .1)),
   omega arith,
 )
 

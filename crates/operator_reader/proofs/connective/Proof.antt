@@ -1,4 +1,5 @@
 -- `connective` meets its contract: `&` and `|` have their codes, and no other byte is one. Assumes nothing.
+use Rattle.base.specs.Bytes.{byte}
 use Rattle.operator_reader.proofs.Operators.{coded-ended}
 use Rattle.operator_reader.specs.Parsing.{parseLetter, byLetter}
 use Rattle.condition.specs.Words.{binaryCode}
@@ -36,7 +37,7 @@ returns-4 : tie.Need-returns-4
 unfolding parseLetter byLetter
 returns-4 c =
     let n = c .match .rest in (
-      rw (at-byte _ _ (c .before .before .if1 .left), ne-eqb _ 38 (n .0 .1), ne-eqb _ 124 (n .1)),
+      rw (at-byte _ _ (c .before .before .if1 .left), ne-eqb _ (byte "&") (n .0 .1), ne-eqb _ (byte "|") (n .1)),
       omega arith,
     )
 

@@ -1,4 +1,5 @@
 -- `opening` meets its contract: the first byte is `(` or picks the quantifier. Assumes nothing.
+use Rattle.base.specs.Bytes.{byte}
 use Rattle.operator_reader.specs.Parsing.{parseOpening}
 use borrow.Author.Tests.{ne-eqb}
 use Rattle.tokens.proofs.Steps.{at-end, at-byte}
@@ -39,7 +40,7 @@ returns-5 : tie.Need-returns-5
 unfolding parseOpening
 returns-5 c =
     let n = c .match .rest in (
-      rw (at-byte _ _ (c .before .before .if1 .left), ne-eqb _ 40 (n .0 .0 .1), ne-eqb _ 69 (n .0 .1), ne-eqb _ 65 (n .1)),
+      rw (at-byte _ _ (c .before .before .if1 .left), ne-eqb _ (byte "(") (n .0 .0 .1), ne-eqb _ (byte "E") (n .0 .1), ne-eqb _ (byte "A") (n .1)),
       omega arith,
     )
 

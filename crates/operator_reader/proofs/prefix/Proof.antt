@@ -1,4 +1,5 @@
 -- `prefix` meets its contract: the first byte is `!` or picks the quantifier. Assumes nothing.
+use Rattle.base.specs.Bytes.{byte}
 use Rattle.operator_reader.specs.Parsing.{parsePrefix}
 use Rattle.ctl.specs.Paths.{E, A}
 use borrow.Author.Tests.{ne-eqb}
@@ -41,7 +42,7 @@ returns-5 : tie.Need-returns-5
 unfolding parsePrefix
 returns-5 c =
     let n = c .match .rest in (
-      rw (at-byte _ _ (c .before .before .if1 .left), ne-eqb _ 33 (n .0 .0 .1), ne-eqb _ 69 (n .0 .1), ne-eqb _ 65 (n .1)),
+      rw (at-byte _ _ (c .before .before .if1 .left), ne-eqb _ (byte "!") (n .0 .0 .1), ne-eqb _ (byte "E") (n .0 .1), ne-eqb _ (byte "A") (n .1)),
       omega arith,
     )
 

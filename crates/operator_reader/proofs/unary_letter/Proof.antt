@@ -1,4 +1,5 @@
 -- `unary_letter` meets its contract: each letter has its operator's code, and no other byte is one. Assumes nothing.
+use Rattle.base.specs.Bytes.{byte}
 use Rattle.operator_reader.proofs.Operators.{unary-ended}
 use Rattle.operator_reader.specs.Parsing.{parseLetter, byLetter}
 use Rattle.condition.specs.Condition.{next, finally, globally}
@@ -67,12 +68,12 @@ returns-8 c = (
       let n = c .match .rest in
       rw (
         at-byte _ _ (c .before .before .if1 .left),
-        ne-eqb _ 88 (n .0 .0 .0 .0 .0 .1),
-        ne-eqb _ 70 (n .0 .0 .0 .0 .1),
-        ne-eqb _ 71 (n .0 .0 .0 .1),
-        ne-eqb _ 89 (n .0 .0 .1),
-        ne-eqb _ 82 (n .0 .1),
-        ne-eqb _ 77 (n .1),
+        ne-eqb _ (byte "X") (n .0 .0 .0 .0 .0 .1),
+        ne-eqb _ (byte "F") (n .0 .0 .0 .0 .1),
+        ne-eqb _ (byte "G") (n .0 .0 .0 .1),
+        ne-eqb _ (byte "Y") (n .0 .0 .1),
+        ne-eqb _ (byte "R") (n .0 .1),
+        ne-eqb _ (byte "M") (n .1),
       ),
   omega arith,
 )

@@ -1,6 +1,7 @@
 -- `escape_byte` meets its contract: each arm writes what its byte is escaped to. Assumes nothing.
 use borrow.Author.Needs.{needs}
 use borrow.Author.Tests.{ne-eqb}
+use Rattle.base.specs.Bytes.{byte}
 use Rattle.page.specs.Page.{escapeByte}
 use Rattle.page.proofs.escape_byte.Statement.{statement}
 use Rattle.page.proofs.escape_byte.Tie as tie
@@ -19,7 +20,7 @@ word-requires-3 c κs = rw (c .before .before .match .keys3) at (c .before .befo
 
 byte-requires : tie.Need-byte-requires
 unfolding escapeByte
-byte-requires c κs = let n = c .before .match .rest in rw (ne-eqb _ 38 (n .0 .0 .1), ne-eqb _ 60 (n .0 .1), ne-eqb _ 62 (n .1)) at (c .before .before .before .pre)
+byte-requires c κs = let n = c .before .match .rest in rw (ne-eqb _ (byte "&") (n .0 .0 .1), ne-eqb _ (byte "<") (n .0 .1), ne-eqb _ (byte ">") (n .1)) at (c .before .before .before .pre)
 
 returns : tie.Need-returns
 unfolding escapeByte
@@ -35,7 +36,7 @@ returns-3 c = rw (c .before .before .before .before .before .match .keys3) (c .b
 
 returns-4 : tie.Need-returns-4
 unfolding escapeByte
-returns-4 c = let n = c .before .before .before .before .match .rest in rw (ne-eqb _ 38 (n .0 .0 .1), ne-eqb _ 60 (n .0 .1), ne-eqb _ 62 (n .1)) (c .before .before .byte .ensures)
+returns-4 c = let n = c .before .before .before .before .match .rest in rw (ne-eqb _ (byte "&") (n .0 .0 .1), ne-eqb _ (byte "<") (n .0 .1), ne-eqb _ (byte ">") (n .1)) (c .before .before .byte .ensures)
 
 pub escape-byte-spec : {M : Type 1} → statement M
 escape-byte-spec =

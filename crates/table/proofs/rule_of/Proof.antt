@@ -1,7 +1,6 @@
 -- `rule_of` meets its contract: at each code stands the operator of that code. Assumes nothing.
 use mathlib.Core.Path.{_≡_, sym}
-use Prim.Native.Nat.{ℕ}
-use Rattle.ctl.specs.Paths.{Quant, E, A, Direction, forward, backward}
+use Rattle.ctl.specs.Paths.{E, A, forward, backward}
 use Rattle.condition.specs.Condition.{next, finally, globally, until, weak, Unary, negation, Binary, conjunction, disjunction}
 use Rattle.table.specs.Rules.{Operation, one, two, codeOf}
 use Rattle.table.proofs.Rules.{operationOf, rule-of-code}
