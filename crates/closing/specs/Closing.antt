@@ -9,7 +9,7 @@ use Rattle.run.specs.Run.{RunFinished, RunAnswers}
 use Rattle.run.specs.declared.RunAnswer.{RunAnswer}
 use Rattle.demand.specs.Demand.{RunsAlike}
 use Rattle.base.specs.Bytes.{bytes}
-use Rattle.outcome.specs.Outcome.{answerLine}
+use Rattle.answer_line.specs.AnswerLine.{answerLine}
 
 abbrev pub agree-line : List ℕ
 agree-line = bytes "statements and outcome agree" ++ 10 ∷ []

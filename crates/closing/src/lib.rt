@@ -29,8 +29,8 @@ pub fn write(
         return 0;
     };
     let k1 = statement_writer::word(out, 0, b"given ");
-    let k2 = outcome::line(out, k1, a);
+    let k2 = answer_line::write(out, k1, a);
     let k3 = statement_writer::word(out, k2, b"rewritten ");
-    let k4 = outcome::line(out, k3, b);
+    let k4 = answer_line::write(out, k3, b);
     statement_writer::word(out, k4, b"statements and outcome agree\n")
 }

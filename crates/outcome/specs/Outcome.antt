@@ -4,7 +4,7 @@ use mathlib.Core.Logic.{_⊎_}
 use mathlib.Core.List.{List, [], _∷_, _++_}
 use Prim.Native.Nat.{ℕ, zero, suc, _+_, _*_, _≤_, _<_}
 use lib.ListN.{length, getD}
-use Rattle.language.specs.Spelling.{variables, digits}
+use Rattle.language.specs.Spelling.{variables}
 use Rattle.statement_writer.specs.Writing.{Put}
 use Rattle.language.specs.declared.Statement.{Statement}
 use Rattle.program.specs.Program as program
@@ -12,21 +12,15 @@ use Rattle.blame.specs.Blame.{Blamed}
 use Rattle.machine.specs.declared.Answer.{Answer}
 use Rattle.machine.specs.declared.Answer.the-variants.{Ended, Spent}
 use Rattle.run.specs.Run.{most-steps, RunRefused, RunFinished}
-use Rattle.desk.specs.Columns.{signedDigits}
-use Rattle.base.specs.Bytes.{bytes}
 use Rattle.desk.specs.Refusals.{refusalText}
 use Rattle.start.specs.Start.{StartTaken, StartRead}
 use Rattle.start.specs.declared.Answer as start
 use Rattle.start.specs.declared.Answer.the-variants.{Taken}
 use Rattle.start_refusal.specs.StartRefusal.{startText}
 use Rattle.trace.specs.Trace.{valueText}
+use Rattle.answer_line.specs.AnswerLine.{answerLine, spent-room}
 use Rattle.outcome.specs.declared.Told.{Told}
 use Rattle.outcome.specs.declared.Told.the-variants.{Written, Refused, NoRoom}
-
--- what a run answers, a line: `ended 9 steps 12` or `spent at 4`
-unfoldable pub answerLine : Answer → List ℕ
-answerLine (Ended v k) = bytes "ended " ++ (signedDigits v ++ (bytes " steps " ++ (digits k ++ 10 ∷ [])))
-answerLine (Spent n) = bytes "spent at " ++ (digits n ++ 10 ∷ [])
 
 -- a line `i0 = 2` for each of the first n variables
 unfoldable pub valueLines : ℕ → List ℕ → List ℕ
@@ -89,15 +83,9 @@ pub record Runs (t u : List ℕ) (P : List Statement) (vs : List ℕ) (input bud
   pub allowed : budget ≤ most-steps
   pub taken : program.Taken t P
 
--- room for a line as long as `i31 = -2147483648`, `ended -2147483648 steps 4294967295` and `spent at 4294967295`, and for every output
+-- room for a line as long as `i31 = -2147483648`, and for every output
 abbrev pub value-room : ℕ
 value-room = 18
-
-abbrev pub answer-room : ℕ
-answer-room = 35
-
-abbrev pub spent-room : ℕ
-spent-room = 20
 
 abbrev pub outcome-room : ℕ
 outcome-room = spent-room + variables * value-room

@@ -3,7 +3,7 @@ ghost use Prim.Native.Nat.{_≤_, _+_, _*_};
 ghost use lib.ListN.{length};
 ghost use Rattle.language.specs.Spelling.{variables};
 ghost use Rattle.statement_writer.specs.Writing.{Put};
-ghost use Rattle.outcome.specs.Outcome.{answerLine, valueLines, answerText, value-room, answer-room, spent-room, outcome-room, Prints, RunPrints};
+ghost use Rattle.outcome.specs.Outcome.{valueLines, answerText, value-room, outcome-room, Prints, RunPrints};
 use machine::Answer;
 use machine::VALUES;
 use run::RunAnswer;
@@ -18,39 +18,6 @@ pub enum Told {
     Written(usize),
     Refused(usize),
     NoRoom,
-}
-
-// `ended 9 steps 12`
-fn ended(out: &mut [u8], at: usize, v: i32, k: u32) -> usize
-    requires { ⌜ at + answer-room ≤ length (now out) ⌝ }
-    ensures { λ r. ⌜ Put (now (out .entry)) at (answerLine (Answer.Ended v k)) (now (out .exit)) r × (r ≤ at + answer-room) ⌝ }
-{
-    let k1 = statement_writer::word(out, at, b"ended ");
-    let k2 = desk::columns::signed(out, k1, v);
-    let k3 = statement_writer::word(out, k2, b" steps ");
-    let k4 = statement_writer::number(out, k3, k);
-    statement_writer::byte(out, k4, 10)
-}
-
-// `spent at 4`
-fn spent(out: &mut [u8], at: usize, n: u32) -> usize
-    requires { ⌜ at + spent-room ≤ length (now out) ⌝ }
-    ensures { λ r. ⌜ Put (now (out .entry)) at (answerLine (Answer.Spent n)) (now (out .exit)) r × (r ≤ at + spent-room) ⌝ }
-{
-    let k1 = statement_writer::word(out, at, b"spent at ");
-    let k2 = statement_writer::number(out, k1, n);
-    statement_writer::byte(out, k2, 10)
-}
-
-// The line of what a run answers.
-pub fn line(out: &mut [u8], at: usize, a: Answer) -> usize
-    requires { ⌜ at + answer-room ≤ length (now out) ⌝ }
-    ensures { λ r. ⌜ Put (now (out .entry)) at (answerLine a) (now (out .exit)) r × (r ≤ at + answer-room) ⌝ }
-{
-    match a {
-        Answer::Ended(v, k) => ended(out, at, v, k),
-        Answer::Spent(n) => spent(out, at, n),
-    }
 }
 
 // A line `i0 = 2` for each variable.
@@ -73,12 +40,10 @@ fn answer_text(out: &mut [u8], a: Answer, values: &[u32; VALUES]) -> usize
     requires { ⌜ outcome-room ≤ length (now out) ⌝ }
     ensures { λ r. ⌜ Put (now (out .entry)) 0 (answerText a (now (values .entry))) (now (out .exit)) r × (r ≤ outcome-room) ⌝ }
 {
+    let k = answer_line::write(out, 0, a);
     match a {
-        Answer::Ended(v, k) => ended(out, 0, v, k),
-        Answer::Spent(n) => {
-            let k1 = spent(out, 0, n);
-            value_lines(out, k1, values)
-        }
+        Answer::Ended(_, _) => k,
+        Answer::Spent(_) => value_lines(out, k, values),
     }
 }
 

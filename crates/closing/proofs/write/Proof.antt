@@ -2,6 +2,7 @@
 use native.Mathlib.Omega.{arith}
 use borrow.Author.Needs.{needs}
 use Rattle.statement_writer.proofs.Puts.{put-then}
+use Rattle.answer_line.proofs.Lengths.{line-most}
 use Rattle.closing.specs.Closing.{closingText}
 use Rattle.closing.proofs.write.Statement.{statement}
 use Rattle.closing.proofs.write.Tie as tie
@@ -20,18 +21,30 @@ returns-2 c =
     absurd
     (rw (c .before .before .before .given .given .1, c .enum-told2 .given .1) at (c .before .before .before .before .before .before .before .before .before .before .pre .1 (one .result .answer) (two .result .answer) (one .result .values) (two .result .values) (one .ensures) (two .ensures)))
 
+word-requires-2 : tie.Need-word-requires-2
+word-requires-2 c κs =
+    let k = c .before .before .before .before .before .before .before .before in
+    omega (arith, k .before .before .before .before .before .before .before .before .before .before .before .before .before .before .pre .0, k .word .ensures .after, line-most (k .before .before .before .before .before .before .before .given .given .0 .0), c .before .before .before .before .write .ensures .1)
+
+write-requires-2 : tie.Need-write-requires-2
+write-requires-2 c κs =
+    let k = c .before .before .before .before .before .before .before .before .before .before .before .before in
+    omega (arith, k .before .before .before .before .before .before .before .before .before .before .before .before .before .before .pre .0, k .word .ensures .after, line-most (k .before .before .before .before .before .before .before .given .given .0 .0), c .before .before .before .before .before .before .before .before .write .ensures .1, c .before .before .before .word2 .ensures .after)
+
 word-requires-3 : tie.Need-word-requires-3
 word-requires-3 c κs =
     let k = c .before .before .before .before .before .before .before .before .before .before .before .before .before .before .before .before .before in
-    omega (arith, k .before .before .before .before .before .before .before .before .before .before .before .before .before .before .pre .0, k .word .ensures .after, c .before .before .before .before .before .before .before .before .before .before .before .before .before .line .ensures .1, c .before .before .before .before .before .before .before .before .word2 .ensures .after, c .before .before .before .before .line2 .ensures .1)
+    let one = line-most (k .before .before .before .before .before .before .before .given .given .0 .0) in
+    let two = line-most (k .before .before .before .before .rewritten .given .0 .0) in
+    omega (arith, k .before .before .before .before .before .before .before .before .before .before .before .before .before .before .pre .0, k .word .ensures .after, one, c .before .before .before .before .before .before .before .before .before .before .before .before .before .write .ensures .1, c .before .before .before .before .before .before .before .before .word2 .ensures .after, two, c .before .before .before .before .write2 .ensures .1)
 
 returns-3 : tie.Need-returns-3
 unfolding closingText
 returns-3 c =
     let w5 = c .before .before .word3 .ensures in
-    let w4 = c .before .before .before .before .before .before .before .line2 .ensures in
+    let w4 = c .before .before .before .before .before .before .before .write2 .ensures in
     let w3 = c .before .before .before .before .before .before .before .before .before .before .before .word2 .ensures in
-    let w2 = c .before .before .before .before .before .before .before .before .before .before .before .before .before .before .before .before .line .ensures in
+    let w2 = c .before .before .before .before .before .before .before .before .before .before .before .before .before .before .before .before .write .ensures in
     let k = c .before .before .before .before .before .before .before .before .before .before .before .before .before .before .before .before .before .before .before .before in
     let w1 = k .word .ensures in
     let b = k .before .before .before .before .rewritten .given in
@@ -48,7 +61,7 @@ returns-3 c =
       one = rw (a .1) at (one .ensures);
       two = rw (b .1) at (two .ensures);
       alike = rw (a .1, b .1) at (s .pre .1 (one .result .answer) (two .result .answer) (one .result .values) (two .result .values) (one .ensures) (two .ensures));
-      fits = omega (arith, p .after, s .pre .0, w1 .after, w2 .1, w3 .after, w4 .1, w5 .after);
+      fits = omega (arith, p .after, s .pre .0, w1 .after, line-most (a .0 .0), w2 .1, w3 .after, line-most (b .0 .0), w4 .1, w5 .after);
       put = p;
     }
 
@@ -68,8 +81,8 @@ write-spec =
     (λ c κs. search needs)
     (λ c κs. search needs)
     (λ c. search needs)
-    (λ c κs. search needs)
-    (λ c κs. search needs)
+    word-requires-2
+    write-requires-2
     (λ c. search needs)
     word-requires-3
     (λ c. search needs)

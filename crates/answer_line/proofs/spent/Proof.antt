@@ -3,9 +3,9 @@ use native.Mathlib.Omega.{arith}
 use borrow.Author.Needs.{needs}
 use Rattle.language.proofs.Lengths.{digits-length}
 use Rattle.statement_writer.proofs.Puts.{put-then}
-use Rattle.outcome.specs.Outcome.{answerLine}
-use Rattle.outcome.proofs.spent.Statement.{statement}
-use Rattle.outcome.proofs.spent.Tie as tie
+use Rattle.answer_line.specs.AnswerLine.{answerLine}
+use Rattle.answer_line.proofs.spent.Statement.{statement}
+use Rattle.answer_line.proofs.spent.Tie as tie
 
 number-requires : tie.Need-number-requires
 number-requires c κs = omega (arith, digits-length 9 (c .before .before .before .before .before .before .before .args .n) (search needs))

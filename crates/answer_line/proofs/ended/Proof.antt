@@ -5,10 +5,10 @@ use mir.Facts.{toZ-ofZ}
 use borrow.Author.Needs.{needs}
 use Rattle.language.proofs.Lengths.{digits-length}
 use Rattle.statement_writer.proofs.Puts.{put-then}
-use Rattle.outcome.specs.Outcome.{answerLine}
-use Rattle.outcome.proofs.Lengths.{stored-most}
-use Rattle.outcome.proofs.ended.Statement.{statement}
-use Rattle.outcome.proofs.ended.Tie as tie
+use Rattle.answer_line.specs.AnswerLine.{answerLine}
+use Rattle.answer_line.proofs.Lengths.{stored-most}
+use Rattle.answer_line.proofs.ended.Statement.{statement}
+use Rattle.answer_line.proofs.ended.Tie as tie
 
 signed-requires : tie.Need-signed-requires
 signed-requires c κs = let s = c .before .before .before .before .before .before .before in omega (arith, stored-most (s .args .v) (s .fits .v))

@@ -1,10 +1,9 @@
--- `line` meets its contract: each answer has its line. Assumes nothing.
-use native.Mathlib.Omega.{arith}
+-- `write` meets its contract: each answer has its line. Assumes nothing.
 use mir.Syntax.{w32}
 use mir.Facts.{toZ-ofZ}
 use borrow.Author.Needs.{needs, sfits-of}
-use Rattle.outcome.proofs.line.Statement.{statement}
-use Rattle.outcome.proofs.line.Tie as tie
+use Rattle.answer_line.proofs.write.Statement.{statement}
+use Rattle.answer_line.proofs.write.Tie as tie
 
 returns : tie.Need-returns
 returns c =
@@ -14,10 +13,10 @@ returns c =
 returns-2 : tie.Need-returns-2
 returns-2 c =
     let told = c .before .before .spent .ensures in
-    rw (c .before .before .before .before .before .a2 .given .1) (told .0, omega (arith, told .1))
+    rw (c .before .before .before .before .before .a2 .given .1) told
 
-pub line-spec : {M : Type 1} → statement M
-line-spec =
+pub write-spec : {M : Type 1} → statement M
+write-spec =
     tie.close
     (tie.spec
     (λ c. search needs)
