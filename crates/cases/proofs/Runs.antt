@@ -7,12 +7,12 @@ use mir.Syntax.{w32}
 use mir.Val.{toZ}
 use Rattle.language.specs.declared.Statement.{Statement}
 use Rattle.machine.specs.declared.Answer.the-variants.{Ended, Spent}
-use Rattle.machine.specs.Machine.{State, before, ended, after}
+use Rattle.machine.specs.Machine.{written, State, before, ended, after}
 use Rattle.machine.specs.Answer.{Answers}
 
 -- the step from p to q ends the run with the value
 abbrev pub Ending : State → State → ℤ → Type 0
-Ending (before s us) (ended v) value = value ≡ toZ w32 v
+Ending (before s us) (ended (written v)) value = value ≡ toZ w32 v
 Ending (before s us) (before t vs) value = ⊥
 Ending (ended v) q value = ⊥
 
@@ -28,7 +28,7 @@ module _ (P : List Statement) (vs : List ℕ) (input : ℕ) where
     where
       go : (p q : State) → after P vs input k ≡ p → after P vs input (suc k) ≡ q → Ending p q value
           → (budget : ℕ) → suc k ≤ budget → Answers P vs input budget (Ended value (suc k)) vs
-      go (before s us) (ended v) e f h budget enough =
+      go (before s us) (ended (written v)) e f h budget enough =
           (v, record { last = s; left = us; steps = k; counted = refl; stands = e; over = f }, enough, h, refl)
       go (before s us) (before t ws) e f h budget enough = absurd h
       go (ended v) q e f h budget enough = absurd h

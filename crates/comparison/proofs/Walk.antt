@@ -15,12 +15,13 @@ use Rattle.program.specs.Program.{WellFormed}
 use Rattle.program.specs.Reading.{statements}
 use Rattle.program.specs.declared.Program.{Program}
 use Rattle.program.proofs.Held.{held, at-held}
-use Rattle.machine.specs.Machine.{before, ended, perform, after}
+use Rattle.machine.specs.Machine.{Final, State, before, ended, perform, after}
 use Rattle.machine.specs.Answer.{stateOf}
 use Rattle.machine.specs.declared.Next.{Next}
 use Rattle.machine.specs.declared.Next.the-variants.{Goto, Finish}
-use Rattle.machine.proofs.Runs.{Stands, step-inside, step-over}
+use Rattle.machine.proofs.Runs.{Stands, step-after, step-inside}
 use Rattle.lockstep.specs.Lockstep.{Together}
+use Rattle.lockstep.proofs.Answers.{ended-beside}
 use Rattle.trace.specs.Trace.{valuesIn}
 use Rattle.trace.proofs.Series.{put-length}
 use Rattle.trace.proofs.Walk.{goes-inside}
@@ -32,20 +33,6 @@ use Rattle.comparison.specs.declared.Progress.{Progress}
 together-goto : (t : ℕ) (b : Next) (us zs : List ℕ) → Together (before t us) (stateOf b zs) → b ≡ Goto t
 together-goto t (Goto u) us zs h = ap Goto (sym (h .0))
 together-goto t (Finish w) us zs h = absurd h
-
-together-finish : (v : ℕ) (b : Next) (zs : List ℕ) → Together (ended v) (stateOf b zs) → b ≡ Finish v
-together-finish v (Goto u) zs h = absurd h
-together-finish v (Finish w) zs h = ap Finish (sym h)
-
--- the state after a step
-state-after : (p : Program) (start : List ℕ) (input j s : ℕ) (vs us : List ℕ) (next : Next) → WellFormed (statements p)
-    → Stands (statements p) start input j s vs → stateOf next us ≡ perform (held (p .entries) s) input s vs
-    → after (statements p) start input (j + 1) ≡ stateOf next us
-state-after p start input j s vs us next w here told = go next refl
-  where
-    go : (n : Next) → next ≡ n → after (statements p) start input (j + 1) ≡ stateOf n us
-    go (Goto t) e = step-inside p start input j s vs us next here told t w e .state
-    go (Finish v) e = step-over p start input j s vs us next here told v e .over
 
 -- the lines of the steps after the first k, up to step j, stand in r up to `to`, and both runs stand before place s
 pub record SoFar (P Q : List Statement) (start : List ℕ) (input k j s : ℕ) (vs ws o r : List ℕ) (to : ℕ) : Type 0 where
@@ -97,10 +84,15 @@ module _ (p q : Program) (input s : ℕ) (vs ws us zs : List ℕ) (next new : Ne
     (a : WellFormed (statements p)) (b : WellFormed (statements q)) where
   module _ {start : List ℕ} {k j : ℕ} {o r : List ℕ} {to : ℕ} (i : SoFar (statements p) (statements q) start input k j s vs ws o r to)
       (st : InStep (statements p) (statements q)) (l : length start ≡ variables) where
+    given-after : after (statements p) start input (j + 1) ≡ stateOf next us
+    given-after = step-after p start input j s vs us next (i .given) one
+
+    rewritten-after : after (statements q) start input (j + 1) ≡ stateOf new zs
+    rewritten-after = step-after q start input j s ws zs new (i .rewritten) two
+
     -- by demand 3 they lead the same way
     leads-together : Together (stateOf next us) (stateOf new zs)
-    leads-together =
-        rw (state-after p start input j s vs us next a (i .given) one, state-after q start input j s ws zs new b (i .rewritten) two) at (st start l input (j + 1))
+    leads-together = rw (given-after, rewritten-after) at (st start l input (j + 1))
 
     line-more : {e : List ℕ} {end : ℕ} (xs ys : List ℕ) → valuesIn (stateOf next us) vs ≡ xs → valuesIn (stateOf new zs) ws ≡ ys
         → Put r to (pairLine (j + 1) s (held (p .entries) s) (held (q .entries) s) xs ys) e end
@@ -130,25 +122,23 @@ module _ (p q : Program) (input s : ℕ) (vs ws us zs : List ℕ) (next new : Ne
           rewritten = step-inside q start input j s ws zs new (i .rewritten) two t b g;
         }
 
-    ends : {budget end : ℕ} {e : List ℕ} (v : ℕ) (d : Progress) → d .done ≡ j + 1 → d .bytes ≡ end → d .at ≡ s → d .ended ≡ true → next ≡ Finish v
+    ends : {budget end : ℕ} {e : List ℕ} (v : Final) (d : Progress) → d .done ≡ j + 1 → d .bytes ≡ end → d .at ≡ s → d .ended ≡ true → stateOf next us ≡ ended v
         → j < budget → Put r to (pairLine (j + 1) s (held (p .entries) s) (held (q .entries) s) vs ws) e end
         → Compared (statements p) (statements q) start input budget k o e vs ws d
     ends v d done bytes at over f h w =
-        let g : new ≡ Finish v = together-finish v new zs (rw f at leads-together) in
-        let x = step-over p start input j s vs us next (i .given) one v f in
-        let y = step-over q start input j s ws zs new (i .rewritten) two v g in
+        let g : stateOf new zs ≡ ended v = ended-beside (stateOf next us) (stateOf new zs) v leads-together f in
         record {
           n = i .n + 1;
           counted = omega (arith, done, i .counted);
-          put = rw bytes (line-more vs ws (ap (λ (x : Next). valuesIn (stateOf x us) vs) f) (ap (λ (x : Next). valuesIn (stateOf x zs) ws) g) w);
+          put = rw bytes (line-more vs ws (ap (λ (x : State). valuesIn x vs) f) (ap (λ (x : State). valuesIn x ws) g) w);
           left = rw (over, done, at)
               (record {
                 steps = j;
                 counted = add-one j;
                 last = record { inside = i .given .inside; given = i .given .state; rewritten = i .rewritten .state };
-                value = v;
-                given = x .over;
-                rewritten = y .over;
+                final = v;
+                given = given-after ∙ f;
+                rewritten = rewritten-after ∙ g;
               });
           within = λ x. omega arith;
           stops = λ e. let z : true ≡ false = sym over ∙ e in let w : _≡_ {A = ℕ} 0 1 = cc in absurd (omega arith);
@@ -173,7 +163,7 @@ module _ (p q : Program) (input s : ℕ) (vs ws us zs : List ℕ) (next new : Ne
         later (inl x) = omega (arith, x .0)
         later (inr x) = omega arith
 
-    pub ended-step : {e : List ℕ} {end : ℕ} (v : ℕ) (d : Progress) → d .done ≡ j + 1 → d .bytes ≡ end → d .at ≡ s → d .ended ≡ true → next ≡ Finish v
+    pub ended-step : {e : List ℕ} {end : ℕ} (v : Final) (d : Progress) → d .done ≡ j + 1 → d .bytes ≡ end → d .at ≡ s → d .ended ≡ true → stateOf next us ≡ ended v
         → end ≤ length o → Put r to (pairLine (j + 1) s (held (p .entries) s) (held (q .entries) s) vs ws) e end
         → Stepped (statements p) (statements q) input budget k s₀ vs₀ ws₀ o e vs ws d
     ended-step v d done bytes at over f fits w =

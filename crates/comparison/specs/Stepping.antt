@@ -8,7 +8,7 @@ use lib.ListN.{length, take}
 use Rattle.language.specs.Spelling.{variables}
 use Rattle.statement_writer.specs.Writing.{Put}
 use Rattle.language.specs.declared.Statement.{Statement}
-use Rattle.machine.specs.Machine.{before, ended, after}
+use Rattle.machine.specs.Machine.{Final, before, ended, after}
 use Rattle.lockstep.specs.Lockstep.{Together}
 use Rattle.comparison.specs.Lines.{bothLines}
 use Rattle.comparison.specs.declared.Progress.{Progress}
@@ -23,7 +23,7 @@ pairs-room = variables * pair-room
 abbrev pub line-room : ℕ
 line-room = 80 + pairs-room
 
--- demand 3's runs: from every start, after every number of steps, both stand before the same statement or have ended with the same value
+-- demand 3's runs: from every start, after every number of steps, both stand before the same statement or have ended alike
 abbrev pub InStep : List Statement → List Statement → Type 0
 InStep P Q = (start : List ℕ) → length start ≡ variables → (input k : ℕ) → Together (after P start input k) (after Q start input k)
 
@@ -33,14 +33,14 @@ pub record BothStand (P Q : List Statement) (start : List ℕ) (input k s : ℕ)
   pub given : after P start input k ≡ before s vs
   pub rewritten : after Q start input k ≡ before s ws
 
--- both ended with step k and the same value, performing the statement at place s; vs and ws are the values before that step
+-- both ended alike with step k, performing the statement at place s; vs and ws are the values before that step
 pub record BothEnded (P Q : List Statement) (start : List ℕ) (input k s : ℕ) (vs ws : List ℕ) : Type 0 where
   pub steps : ℕ
   pub counted : k ≡ suc steps
   pub last : BothStand P Q start input steps s vs ws
-  pub value : ℕ
-  pub given : after P start input k ≡ ended value
-  pub rewritten : after Q start input k ≡ ended value
+  pub final : Final
+  pub given : after P start input k ≡ ended final
+  pub rewritten : after Q start input k ≡ ended final
 
 -- both runs after k steps, by whether they have ended
 abbrev pub Left : List Statement → List Statement → List ℕ → ℕ → ℕ → Bool → ℕ → List ℕ → List ℕ → Type 0

@@ -8,7 +8,7 @@ use lib.ListN.{length}
 use Rattle.language.specs.Spelling.{variables}
 use Rattle.language.specs.declared.Statement.{Statement}
 use Rattle.program.specs.Program.{WellFormed}
-use Rattle.machine.specs.Machine.{State, before, ended, after}
+use Rattle.machine.specs.Machine.{Final, State, before, ended, after}
 use Rattle.machine.specs.Answer.{Ends, Answers}
 use Rattle.machine.specs.declared.Answer.{Answer}
 use Rattle.machine.specs.declared.Answer.the-variants.{Ended, Spent}
@@ -22,7 +22,7 @@ stands-beside (before t vs) (ended v) s us h e = absurd h
 stands-beside (ended v) (before r ws) s us h e = absurd h
 stands-beside (ended v) (ended u) s us h e = absurd (let z : _≡_ {A = ℕ} 0 1 = cc in omega arith)
 
-ended-beside : (a b : State) (v : ℕ) → Together a b → a ≡ ended v → b ≡ ended v
+pub ended-beside : (a b : State) (v : Final) → Together a b → a ≡ ended v → b ≡ ended v
 ended-beside (before t vs) (before r ws) v h e = absurd (let z : _≡_ {A = ℕ} 0 1 = cc in omega arith)
 ended-beside (before t vs) (ended u) v h e = absurd h
 ended-beside (ended u) (before r ws) v h e = absurd h
@@ -33,7 +33,7 @@ alike-self (Ended v k) = (refl, refl)
 alike-self (Spent n) = refl
 
 module _ (P Q : List Statement) (vs : List ℕ) (input : ℕ) (beside : (k : ℕ) → Together (after P vs input k) (after Q vs input k)) where
-  ends-beside : (k v : ℕ) → Ends P vs input k v → Ends Q vs input k v
+  ends-beside : (k : ℕ) (v : Final) → Ends P vs input k v → Ends Q vs input k v
   ends-beside k v e =
       let there = stands-beside (after P vs input (e .steps)) (after Q vs input (e .steps)) (e .last) (e .left) (beside (e .steps)) (e .stands) in
       record {
@@ -46,7 +46,7 @@ module _ (P Q : List Statement) (vs : List ℕ) (input : ℕ) (beside : (k : ℕ
       }
 
   answers-beside : (budget : ℕ) (a : Answer) (ws : List ℕ) → Answers P vs input budget a ws → (us : List ℕ) × Answers Q vs input budget a us
-  answers-beside budget (Ended x k) ws (v, e, l, is, kept) = (vs, (v, ends-beside k v e, l, is, refl))
+  answers-beside budget (Ended x k) ws (v, e, l, is, kept) = (vs, (v, ends-beside k _ e, l, is, refl))
   answers-beside budget (Spent n) ws (s, is, stands) =
       let there = stands-beside (after P vs input budget) (after Q vs input budget) s ws (beside budget) stands in
       (there .0, (s, is, there .1))

@@ -1,6 +1,6 @@
 -- The given and the changed program run in lockstep: after every number of steps both runs stand before the same statement, and agree on
--- every variable that the given program may still use before defining it; or both have ended with the same value. By induction on the
--- number of steps, with the invariant `Held`. Assumes nothing.
+-- every variable that the given program may still use before defining it; or both have ended alike. By induction on the number of steps,
+-- with the invariant `Held`. Assumes nothing.
 use mathlib.Core.Path.{_≡_, refl, sym, _∙_, ap, subst}
 use mathlib.Core.Bool.{Bool, true, false}
 use mathlib.Core.Logic.{_⊎_, inl, inr}
@@ -20,7 +20,7 @@ use Rattle.language.specs.declared.Statement.{Statement}
 use Rattle.language.specs.declared.Statement.the-variants.{Read, Assign, Branch, Skip}
 use Rattle.program.specs.Program.{at, InPlace, WellFormed}
 use Rattle.program.proofs.Held.{at-valid}
-use Rattle.machine.specs.Machine.{State, before, ended, after, perform, stepFrom, operandValue, value}
+use Rattle.machine.specs.Machine.{written, State, before, ended, after, perform, stepFrom, operandValue, value}
 use Rattle.base.specs.Pick.{pick}
 use Rattle.flow.specs.Flow.{leads}
 use Rattle.flow.proofs.Model.{forward-inside}
@@ -167,7 +167,7 @@ module _ (P : List Statement) (w : WellFormed P) where
               (λ y d l. stored-here vs x input y (rw (held .whole) below) d ∙ sym (stored-here ws x input y (rw (held .whole′) below) d))
               (λ y a q. cc),
         )
-    like-on i j is (writes same) = same
+    like-on i j is (writes same) = ap written same
     like-on i j is (assigns {x} {e} {f} same) =
         let below : x < variables = valid (Assign x e) is .0 in (
           refl,

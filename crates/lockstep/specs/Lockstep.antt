@@ -28,7 +28,7 @@ pub record Changed (P Q : List Statement) : Type 0 where
 abbrev pub Agree : List Statement → ℕ → List ℕ → List ℕ → Type 0
 Agree P s vs ws = (x : ℕ) → Sat P (live x) s → getD vs x 0 ≡ getD ws x 0
 
--- both runs stand before the same statement, and R is true there; or both have ended with the same value
+-- both runs stand before the same statement, and R is true there; or both have ended alike
 abbrev pub Side : (ℕ → List ℕ → List ℕ → Type 0) → State → State → Type 0
 Side R (before s vs) (before t ws) = (s ≡ t) × R s vs ws
 Side R (before s vs) (ended w) = ⊥

@@ -13,11 +13,11 @@ use Rattle.program.specs.Program.{at, InPlace, Targets, WellFormed}
 use Rattle.program.specs.Reading.{statements}
 use Rattle.program.specs.declared.Program.{Program}
 use Rattle.program.proofs.Held.{held, at-held}
-use Rattle.machine.specs.Machine.{before, after, perform, stepFrom}
+use Rattle.machine.specs.Machine.{Final, before, ended, after, perform, stepFrom}
 use Rattle.base.specs.Pick.{pick}
 use Rattle.machine.specs.Answer.{stateOf, Ends}
 use Rattle.machine.specs.declared.Next.{Next}
-use Rattle.machine.specs.declared.Next.the-variants.{Goto, Finish}
+use Rattle.machine.specs.declared.Next.the-variants.{Goto}
 
 -- after k steps the run stands before the statement at place s of the program, with the values ws
 pub record Stands (P : List Statement) (vs : List ℕ) (input k s : ℕ) (ws : List ℕ) : Type 0 where
@@ -48,7 +48,7 @@ module _ (p : Program) (vs : List ℕ) (input k s : ℕ) (ws us : List ℕ) (n :
   step-performs : perform (at (statements p) s) input s ws ≡ stateOf n us
   step-performs = rw (at-held (p .entries) (p .count) s (here .inside)) (sym told)
 
-  step-after : after (statements p) vs input (k + 1) ≡ stateOf n us
+  pub step-after : after (statements p) vs input (k + 1) ≡ stateOf n us
   unfolding after
   step-after = rw add-one (ap (stepFrom (statements p) input) (here .state) ∙ step-performs)
 
@@ -63,12 +63,12 @@ module _ (p : Program) (vs : List ℕ) (input k s : ℕ) (ws us : List ℕ) (n :
         state = step-after ∙ goes;
       }
 
-  pub step-over : (v : ℕ) → n ≡ Finish v → Ends (statements p) vs input (k + 1) v
+  pub step-over : (v : Final) → stateOf n us ≡ ended v → Ends (statements p) vs input (k + 1) v
   step-over v e = record {
     last = s;
     left = ws;
     steps = k;
     counted = add-one k;
     stands = here .state;
-    over = step-after ∙ ap (λ (x : Next). stateOf x us) e;
+    over = step-after ∙ e;
   }

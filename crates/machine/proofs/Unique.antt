@@ -8,21 +8,21 @@ use native.Mathlib.Omega.{arith}
 use mir.Syntax.{w32}
 use mir.Val.{toZ}
 use Rattle.language.specs.declared.Statement.{Statement}
-use Rattle.machine.specs.Machine.{before, ended, after, stepFrom}
+use Rattle.machine.specs.Machine.{Final, before, ended, after, stepFrom}
 use Rattle.machine.specs.Answer.{Ends, Answers}
 use Rattle.machine.specs.declared.Answer.{Answer}
 use Rattle.machine.specs.declared.Answer.the-variants.{Ended, Spent}
 
 module _ (P : List Statement) (vs : List ℕ) (input : ℕ) where
   -- "once ended it stays so"
-  pub ended-stays : (k v m : ℕ) → after P vs input k ≡ ended v → after P vs input (k + m) ≡ ended v
+  pub ended-stays : (k : ℕ) (v : Final) (m : ℕ) → after P vs input k ≡ ended v → after P vs input (k + m) ≡ ended v
   unfolding after
   ended-stays k v zero e = simp unary-clauses e
   ended-stays k v (suc m) e = simp unary-clauses (ap (stepFrom P input) (ended-stays k v m e))
 
   -- a run stands before a statement only before it has ended
   pub stands-before-end :
-      (n k s v : ℕ) (ws : List ℕ) → after P vs input n ≡ before s ws → after P vs input k ≡ ended v → n < k
+      (n k s : ℕ) (v : Final) (ws : List ℕ) → after P vs input n ≡ before s ws → after P vs input k ≡ ended v → n < k
   stands-before-end n k s v ws b e = go (decLt n k)
     where
       go : Dec (n < k) → n < k
@@ -33,7 +33,7 @@ module _ (P : List Statement) (vs : List ℕ) (input : ℕ) where
           let z : _≡_ {A = ℕ} 0 1 = cc in
           omega arith
 
-  pub end-unique : (k j v u : ℕ) → Ends P vs input k v → Ends P vs input j u → (k ≡ j) × (v ≡ u)
+  pub end-unique : (k j : ℕ) (v u : Final) → Ends P vs input k v → Ends P vs input j u → (k ≡ j) × (v ≡ u)
   end-unique k j v u a b =
       let x : a .steps < j = stands-before-end (a .steps) j (a .last) u (a .left) (a .stands) (b .over) in
       let y : b .steps < k = stands-before-end (b .steps) k (b .last) v (b .left) (b .stands) (a .over) in
@@ -43,17 +43,18 @@ module _ (P : List Statement) (vs : List ℕ) (input : ℕ) where
       (same, cc)
 
   -- within its budget a run that ended is not spent
-  pub end-not-spent : (k v budget s : ℕ) (ws : List ℕ) → Ends P vs input k v → k ≤ budget → after P vs input budget ≡ before s ws → ⊥
+  pub end-not-spent : (k : ℕ) (v : Final) (budget s : ℕ) (ws : List ℕ) → Ends P vs input k v → k ≤ budget → after P vs input budget ≡ before s ws → ⊥
   end-not-spent k v budget s ws a h b = omega (arith, stands-before-end budget k s v ws b (a .over))
 
   pub answer-unique :
       (budget : ℕ) (a b : Answer) (ws us : List ℕ)
       → Answers P vs input budget a ws → Answers P vs input budget b us → (a ≡ b) × (ws ≡ us)
   answer-unique budget (Ended x k) (Ended y j) ws us p q =
-      let e = end-unique k j (p .0) (q .0) (p .1) (q .1) in
-      (ap₂ Ended (p .3 ∙ ap (toZ w32) (e .1) ∙ sym (q .3)) (e .0), p .4 ∙ sym (q .4))
-  answer-unique budget (Ended x k) (Spent m) ws us p q = absurd (end-not-spent k (p .0) budget (q .0) us (p .1) (p .2) (q .2))
-  answer-unique budget (Spent n) (Ended y j) ws us p q = absurd (end-not-spent j (q .0) budget (p .0) ws (q .1) (q .2) (p .2))
+      let e = end-unique k j _ _ (p .1) (q .1) in
+      let same : p .0 ≡ q .0 = cc in
+      (ap₂ Ended (p .3 ∙ ap (toZ w32) same ∙ sym (q .3)) (e .0), p .4 ∙ sym (q .4))
+  answer-unique budget (Ended x k) (Spent m) ws us p q = absurd (end-not-spent k _ budget (q .0) us (p .1) (p .2) (q .2))
+  answer-unique budget (Spent n) (Ended y j) ws us p q = absurd (end-not-spent j _ budget (p .0) ws (q .1) (q .2) (p .2))
   answer-unique budget (Spent n) (Spent m) ws us p q =
       let e : before (p .0) ws ≡ before (q .0) us = sym (p .2) ∙ q .2 in
       let s : p .0 ≡ q .0 = cc in

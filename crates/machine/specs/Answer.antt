@@ -6,7 +6,7 @@ use lib.IntN.{ℤ}
 use mir.Syntax.{w32}
 use mir.Val.{toZ}
 use Rattle.language.specs.declared.Statement.{Statement}
-use Rattle.machine.specs.Machine.{State, before, ended, after}
+use Rattle.machine.specs.Machine.{Final, written, State, before, ended, after}
 use Rattle.machine.specs.declared.Next.{Next}
 use Rattle.machine.specs.declared.Next.the-variants.{Goto, Finish}
 use Rattle.machine.specs.declared.Answer.{Answer}
@@ -15,10 +15,10 @@ use Rattle.machine.specs.declared.Answer.the-variants.{Ended, Spent}
 -- the state that `step` answers, with the values that it leaves
 abbrev pub stateOf : Next → List ℕ → State
 stateOf (Goto s) vs = before s vs
-stateOf (Finish v) vs = ended v
+stateOf (Finish v) vs = ended (written v)
 
--- the run's last step is number k: before it the run stands before a statement, after it the run has ended with v
-pub record Ends (P : List Statement) (vs : List ℕ) (input k v : ℕ) : Type 0 where
+-- the run's last step is number k: before it the run stands before a statement, after it the run has ended as v says
+pub record Ends (P : List Statement) (vs : List ℕ) (input k : ℕ) (v : Final) : Type 0 where
   pub last : ℕ
   pub left : List ℕ
   pub steps : ℕ
@@ -30,5 +30,5 @@ pub record Ends (P : List Statement) (vs : List ℕ) (input k v : ℕ) : Type 0 
 -- values after that many steps". The values beside any other answer are the starting ones
 abbrev pub Answers : List Statement → List ℕ → ℕ → ℕ → Answer → List ℕ → Type 0
 Answers P vs input budget (Ended value steps) ws =
-    (v : ℕ) × Ends P vs input steps v × (steps ≤ budget) × (value ≡ toZ w32 v) × (ws ≡ vs)
+    (v : ℕ) × Ends P vs input steps (written v) × (steps ≤ budget) × (value ≡ toZ w32 v) × (ws ≡ vs)
 Answers P vs input budget (Spent n) ws = (s : ℕ) × (n ≡ s + 1) × (after P vs input budget ≡ before s ws)

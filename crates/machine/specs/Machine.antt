@@ -38,15 +38,19 @@ abbrev pub value : List ℕ → Expression → ℕ
 value vs (Single a) = operandValue vs a
 value vs (Binary a o b) = apply o (operandValue vs a) (operandValue vs b)
 
--- "a run either stands before one statement or has ended with its value": the statement's place, with the values; or the value
+-- how a run ends: a value is written
+pub data Final : Type 0 where
+  written : ℕ → Final
+
+-- "a run either stands before one statement or has ended with its value": the statement's place, with the values; or how it ended
 pub data State : Type 0 where
   before : ℕ → List ℕ → State
-  ended : ℕ → State
+  ended : Final → State
 
 -- "`read X` stores the input. `if` goes to n where X isn't 0, else to m. `write X` ends the run with X's value. All others go to the next line."
 abbrev pub perform : Statement → ℕ → ℕ → List ℕ → State
 perform (Read x) input s vs = before (s + 1) (set vs x input)
-perform (Write x) input s vs = ended (getD vs x 0)
+perform (Write x) input s vs = ended (written (getD vs x 0))
 perform (Assign x e) input s vs = before (s + 1) (set vs x (value vs e))
 perform (Branch x n m) input s vs = before (pick (eqb (getD vs x 0) 0) m n - 1) vs
 perform Skip input s vs = before (s + 1) vs

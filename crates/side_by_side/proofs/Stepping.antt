@@ -13,7 +13,7 @@ use Rattle.program.specs.Reading.{statements, Held}
 use Rattle.program.specs.declared.Program.{Program}
 use Rattle.program.proofs.Held.{length-held}
 use Rattle.program.proofs.RoundTrip.{taken-unique}
-use Rattle.machine.specs.Machine.{ended, after}
+use Rattle.machine.specs.Machine.{Final, ended, after}
 use Rattle.machine.proofs.Unique.{ended-stays}
 use Rattle.rewriting.specs.Verdicts.{acceptedCount}
 use Rattle.report.specs.Report.{countsLine}
@@ -40,7 +40,7 @@ module _ (P Q : List Statement) (vs : List ℕ) (input : ℕ) where
       rw (e, z, ← append-assoc, lines-append k n)
 
   -- after the end there is none
-  lines-idle : (n d v : ℕ) → after P vs input n ≡ ended v → bothLines P Q vs input 0 (n + d) ≡ bothLines P Q vs input 0 n
+  lines-idle : (n d : ℕ) (v : Final) → after P vs input n ≡ ended v → bothLines P Q vs input 0 (n + d) ≡ bothLines P Q vs input 0 n
   unfolding bothLines
   lines-idle n zero v e = let f : n + 0 ≡ n = omega arith in rw f
   lines-idle n (suc d) v e =
@@ -48,7 +48,7 @@ module _ (P Q : List Statement) (vs : List ℕ) (input : ℕ) where
       let z : 0 + (n + d) ≡ n + d = omega arith in
       rw (f, z, ended-stays P vs input n v d e, append-nil) (lines-idle n d v e)
 
-  all-lines : (n budget v : ℕ) → n ≤ budget → after P vs input n ≡ ended v → bothLines P Q vs input 0 n ≡ bothLines P Q vs input 0 budget
+  all-lines : (n budget : ℕ) (v : Final) → n ≤ budget → after P vs input n ≡ ended v → bothLines P Q vs input 0 n ≡ bothLines P Q vs input 0 budget
   all-lines n budget v h e = let f : n + (budget - n) ≡ budget = omega arith in sym (rw f at (lines-idle n (budget - n) v e))
 
 abbrev linesOf : {t m u x : List ℕ} → Runs t m u x → ℕ → List ℕ
@@ -94,7 +94,7 @@ module _ (t m u : List ℕ) (p : Position) (w : List ℕ) {o q : List ℕ} {P Q 
         → linesOf (s .runs) (r .done) ≡ linesOf (s .runs) (s .runs .budget)
     no-lines-left (inl e) =
         let x : BothEnded (s .runs .demand .P) (s .runs .demand .Q) (s .runs .values) (s .runs .input) (r .done) (r .at) vs ws = rw e at (compared .left) in
-        all-lines (s .runs .demand .P) (s .runs .demand .Q) (s .runs .values) (s .runs .input) (r .done) (s .runs .budget) (x .value) (compared .within (s .done)) (x .given)
+        all-lines (s .runs .demand .P) (s .runs .demand .Q) (s .runs .values) (s .runs .input) (r .done) (s .runs .budget) (x .final) (compared .within (s .done)) (x .given)
     no-lines-left (inr l) =
         let e : r .done ≡ s .runs .budget = omega (arith, same-budget, compared .within (s .done)) in
         ap (linesOf (s .runs)) e

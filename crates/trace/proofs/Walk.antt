@@ -14,11 +14,11 @@ use Rattle.program.specs.Program.{at, WellFormed}
 use Rattle.program.specs.Reading.{statements}
 use Rattle.program.specs.declared.Program.{Program}
 use Rattle.program.proofs.Held.{held, at-held}
-use Rattle.machine.specs.Machine.{State, before, ended, perform, after}
+use Rattle.machine.specs.Machine.{Final, State, before, ended, perform, after}
 use Rattle.machine.specs.Answer.{stateOf}
 use Rattle.machine.specs.declared.Next.{Next}
-use Rattle.machine.specs.declared.Next.the-variants.{Goto, Finish}
-use Rattle.machine.proofs.Runs.{Stands, perform-inside, step-inside, step-over}
+use Rattle.machine.specs.declared.Next.the-variants.{Goto}
+use Rattle.machine.proofs.Runs.{Stands, perform-inside, step-after, step-inside}
 use Rattle.trace.specs.Trace.{lineText, valuesIn, stepLine, stepLines}
 use Rattle.trace.specs.Stepping.{line-room, Goes, Traced}
 use Rattle.trace.specs.declared.Progress.{Progress}
@@ -84,17 +84,25 @@ module _ (p : Program) (input s : ℕ) (vs us : List ℕ) (next : Next) (told : 
           stands = step-inside p start input j s vs us next (i .stands) told t well e;
         }
 
-    goes-over : (v : ℕ) (b : Progress) → b .done ≡ j + 1 → b .at ≡ s → b .ended ≡ true → next ≡ Finish v
+    goes-over : (v : Final) (b : Progress) → b .done ≡ j + 1 → b .at ≡ s → b .ended ≡ true → stateOf next us ≡ ended v
         → Goes (statements p) start input k (w ++ lineText (j + 1) s (held (p .entries) s) vs vs) vs b
     goes-over v b d a z e =
         record {
           n = i .n + 1;
           counted = omega (arith, d, i .counted);
-          lines = line-more vs (ap (λ (x : Next). valuesIn (stateOf x us) vs) e);
+          lines = line-more vs (ap (λ (x : State). valuesIn x vs) e);
           left = rw (z, d, a)
               (record {
-                value = v;
-                ends = record { last = s; left = vs; steps = j; counted = add-one j; stands = i .stands .state; over = step-over p start input j s vs us next (i .stands) told v e .over };
+                final = v;
+                ends =
+                    record {
+                      last = s;
+                      left = vs;
+                      steps = j;
+                      counted = add-one j;
+                      stands = i .stands .state;
+                      over = step-after p start input j s vs us next (i .stands) told ∙ e;
+                    };
                 place = refl;
                 values = refl;
               });
@@ -121,7 +129,7 @@ module _ (p : Program) (input s : ℕ) (vs us : List ℕ) (next : Next) (told : 
           told = λ start x. goes-on (i .told start x) t w e;
         }
 
-    pub ends : (v : ℕ) (b : Progress) → b .done ≡ j + 1 → b .bytes ≡ end → b .at ≡ s → b .ended ≡ true → next ≡ Finish v
+    pub ends : (v : Final) (b : Progress) → b .done ≡ j + 1 → b .bytes ≡ end → b .at ≡ s → b .ended ≡ true → stateOf next us ≡ ended v
         → Put q to (lineText (j + 1) s (held (p .entries) s) vs vs) r end → Traced (statements p) input budget k s₀ vs₀ o r vs b
     ends v b d y a z e l =
         let whole = put-then (i .put) l in

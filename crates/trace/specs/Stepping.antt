@@ -8,7 +8,7 @@ use lib.ListN.{length}
 use Rattle.language.specs.Spelling.{variables}
 use Rattle.statement_writer.specs.Writing.{Put}
 use Rattle.language.specs.declared.Statement.{Statement}
-use Rattle.machine.specs.Machine.{before, after}
+use Rattle.machine.specs.Machine.{Final, before, after}
 use Rattle.machine.specs.Answer.{Ends}
 use Rattle.trace.specs.Trace.{stepLines}
 use Rattle.trace.specs.declared.Progress.{Progress}
@@ -26,8 +26,8 @@ line-room = 48 + changes-room
 
 -- the run ended with step k: before it the run stood before place s with the values vs
 pub record Over (P : List Statement) (start : List ℕ) (input k s : ℕ) (vs : List ℕ) : Type 0 where
-  pub value : ℕ
-  pub ends : Ends P start input k value
+  pub final : Final
+  pub ends : Ends P start input k final
   pub place : ends .last ≡ s
   pub values : ends .left ≡ vs
 

@@ -61,7 +61,7 @@ ready-lines b a e lines =
 pub ready-over : {t u : List ℕ} {trace : Bool} {k s : ℕ} {ws b : List ℕ} → (trace ≡ true) × Lines t u true k s ws b → Ready t u trace b
 ready-over {k = k} {b = b} (e, l) =
     let o = l .left in
-    ready-lines b (l .runs) e (l .lines ∙ lines-whole (l .P) (l .values) (l .input) k (l .budget) (o .value) (o .ends .over) (l .within))
+    ready-lines b (l .runs) e (l .lines ∙ lines-whole (l .P) (l .values) (l .input) k (l .budget) (o .final) (o .ends .over) (l .within))
 
 -- and of one whose budget is spent
 pub ready-spent : {t u : List ℕ} {trace : Bool} {k s : ℕ} {ws b : List ℕ} (h : (trace ≡ true) × Lines t u false k s ws b) → h .1 .budget ≤ k → Ready t u trace b

@@ -1,5 +1,5 @@
 -- `steps` meets its contract. The invariant: the lines of the steps so far are written, and both runs stand before the place. Assumes nothing.
-use mathlib.Core.Path.{refl, _∙_}
+use mathlib.Core.Path.{refl, ap, _∙_}
 use mathlib.Core.Logic.{inl, inr}
 use Prim.Native.Nat.{ℕ, _-_, _≤_, _<_}
 use native.Mathlib.Omega.{arith}
@@ -9,6 +9,8 @@ use Rattle.language.specs.Spelling.{Valid}
 use Rattle.program.specs.Reading.{statements}
 use Rattle.program.specs.declared.Program.{Program}
 use Rattle.program.proofs.Held.{held, held-valid, held-targets}
+use Rattle.machine.specs.Answer.{stateOf}
+use Rattle.machine.specs.declared.Next.{Next}
 use Rattle.trace.proofs.Series.{put-length}
 use Rattle.comparison.proofs.Walk.{Going, not-gone, going-more, ended-step, stopped}
 use borrow.Author.Needs.{needs}
@@ -98,8 +100,10 @@ returns-2 c =
     let end : w .result ≤ length (s .args .out .now) = omega (arith, w .ensures .1, t .if1 .left, i .fits, i .same) in
     let a = y .before .before .step in
     let b = y .step2 in
-    ended-step (s .args .t1) (s .args .t2) _ _ _ _ (a .last .1 .1 .1 .0) (b .last .1 .1 .1 .0) (a .result) (b .result) (a .ensures) (b .ensures)
-    (s .pre .0) (s .pre .1 .0) i (t .before .loop-test .taken) _ _ refl refl refl refl (c .before .before .before .before .before .before .enum-told .given .1) end (w .ensures .0)
+    let us = a .last .1 .1 .1 .0 in
+    let over = ap (λ (x : Next). stateOf x us) (c .before .before .before .before .before .before .enum-told .given .1) in
+    ended-step (s .args .t1) (s .args .t2) _ _ _ _ us (b .last .1 .1 .1 .0) (a .result) (b .result) (a .ensures) (b .ensures)
+    (s .pre .0) (s .pre .1 .0) i (t .before .loop-test .taken) _ _ refl refl refl refl over end (w .ensures .0)
 
 same-length-3 : tie.Need-same-length-3 Inv-loop μ-loop
 same-length-3 c = c .before .loop .inv .same

@@ -1,10 +1,12 @@
 -- `run` meets its contract. The invariant: after `steps` steps, which the budget allows, the run stands before the statement at `at`.
-use mathlib.Core.Path.{_≡_, refl}
+use mathlib.Core.Path.{_≡_, refl, ap}
 use Prim.Native.Nat.{_≤_, _-_}
 use native.Mathlib.Omega.{arith}
 use borrow.Author.Needs.{needs}
 use Rattle.program.specs.Reading.{statements}
 use Rattle.program.proofs.Held.{held-valid, held-targets}
+use Rattle.machine.specs.Answer.{stateOf}
+use Rattle.machine.specs.declared.Next.{Next}
 use Rattle.machine.proofs.Runs.{Stands, stands-first, step-inside, step-over}
 use Rattle.machine.proofs.Words.{stored-same}
 use Rattle.machine.proofs.run.Statement.{statement}
@@ -36,10 +38,11 @@ loop-again c =
 returns : tie.Need-returns Inv-loop μ-loop
 returns c =
     let b = c .before .before .before .before .before .before .before .before in
-    let told = c .before .before .before .before .step .ensures in
+    let step = c .before .before .before .before .step in
+    let us = step .last .1 .1 .1 .0 in
     let v = c .before .before .next2 .given in (
       v .0 .0,
-      step-over (b .before .args .t1) _ _ _ _ _ _ _ (b .loop .inv .0) told _ (v .1),
+      step-over (b .before .args .t1) _ _ _ _ _ us (step .result) (b .loop .inv .0) (step .ensures) _ (ap (λ (x : Next). stateOf x us) (v .1)),
       omega arith,
       stored-same (v .0 .0) (search needs) (c .signed .ensures),
       refl,

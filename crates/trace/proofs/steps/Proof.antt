@@ -1,9 +1,11 @@
 -- `steps` meets its contract. The invariant: the lines of the steps so far are written, and the run stands before the place. Assumes nothing.
-use mathlib.Core.Path.{refl, _∙_}
+use mathlib.Core.Path.{refl, ap, _∙_}
 use mathlib.Core.Logic.{inl, inr}
 use Prim.Native.Nat.{_-_}
 use native.Mathlib.Omega.{arith}
 use Rattle.program.proofs.Held.{held-valid, held-targets}
+use Rattle.machine.specs.Answer.{stateOf}
+use Rattle.machine.specs.declared.Next.{Next}
 use Rattle.trace.proofs.Series.{put-length}
 use Rattle.trace.proofs.Walk.{Going, not-gone, going-more, ends, stopped}
 use borrow.Author.Needs.{needs}
@@ -87,8 +89,10 @@ returns-2 c =
     let step = next .before .before in
     let l = step .before .before .before .before .before .before in
     let i = l .loop .inv in
-    ends (l .before .before .args .t1) _ _ _ _ _ (step .step .ensures) i (step .before .before .before .before .before .loop-test .taken)
-    (omega (arith, step .before .before .before .before .if1 .left, i .fits, i .same)) (line .ensures .1) _ _ refl refl refl refl (next .enum-told .given .1) (line .ensures .0)
+    let us = step .step .last .1 .1 .1 .0 in
+    let over = ap (λ (x : Next). stateOf x us) (next .enum-told .given .1) in
+    ends (l .before .before .args .t1) _ _ _ us (step .step .result) (step .step .ensures) i (step .before .before .before .before .before .loop-test .taken)
+    (omega (arith, step .before .before .before .before .if1 .left, i .fits, i .same)) (line .ensures .1) _ _ refl refl refl refl over (line .ensures .0)
 
 same-length-3 : tie.Need-same-length-3 Inv-loop μ-loop
 same-length-3 c = c .before .loop .inv .same
