@@ -3,16 +3,13 @@
 -- itself taken. Whatever the starting values and the input are, after every number of steps its run and the given program's stand before
 -- the same statement or have ended with the same value, and under every budget that isn't refused both answer alike. Assumes nothing.
 use mathlib.Core.Path.{_≡_, refl, subst}
-use mathlib.Core.Logic.{inl, inr}
 use mathlib.Core.List.{List}
 use Prim.Native.Nat.{ℕ, _≤_}
-use native.Mathlib.Omega.{arith}
 use lib.ListN.{length}
 use Rattle.language.specs.Spelling.{variables}
 use Rattle.language.specs.declared.Statement.{Statement}
 use Rattle.program.specs.Program.{text, Taken}
-use Rattle.program.specs.Reading as program
-use Rattle.program.proofs.RoundTrip.{taken-unique, program-taken}
+use Rattle.program.proofs.RoundTrip.{taken-unique}
 use Rattle.machine.specs.Answer.{Answers}
 use Rattle.machine.specs.declared.Answer.{Answer}
 use Rattle.marks.specs.Reading as marks
@@ -24,6 +21,7 @@ use Rattle.lockstep.proofs.Changed.{changed-wellformed}
 use Rattle.lockstep.proofs.Answers.{answers-alike}
 use Rattle.rewriting.proofs.Accepted.{accepted-judged, judged-accepted}
 use Rattle.rewriting.proofs.Rewritten.{rewritten-changed}
+use Rattle.run.proofs.Unique.{never-refused}
 use Rattle.run.specs.Run.{most-steps, RunAnswers}
 use Rattle.demand.specs.Demand.{RunsAlike, Demand3}
 use Rattle.run.specs.declared.RunAnswer.{RunAnswer}
@@ -32,9 +30,7 @@ use Rattle.run.specs.declared.RunAnswer.the-variants.{Refused, Finished}
 module _ {t : List ℕ} {P : List Statement} (taken : Taken t P) (start : List ℕ) (input budget : ℕ) (allowed : budget ≤ most-steps) where
   -- a text that is taken gets none of 2 to 5, and an allowed budget not 15; the program that answers is the one that the text is taken as
   called-answers : (r : RunAnswer) (ws : List ℕ) → RunAnswers t start input budget r ws → (a : Answer) × (r ≡ Finished a) × Answers P start input budget a ws
-  called-answers (Refused n) ws (inl (over, is), kept) = absurd (omega (arith, over, allowed))
-  called-answers (Refused n) ws (inr (within, f, refused, is), kept) =
-      absurd (program-taken (taken .program) f (subst (λ (s : List ℕ). program.Refused s f) (taken .lines) refused))
+  called-answers (Refused n) ws r = absurd (never-refused t budget (r .0) allowed taken)
   called-answers (Finished a) ws f =
       (a, refl, subst (λ (Q : List Statement). Answers Q start input budget a ws) (taken-unique (f .taken) taken) (f .answers))
 

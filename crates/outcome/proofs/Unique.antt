@@ -9,12 +9,12 @@ use Rattle.program.specs.Reading.{number}
 use Rattle.program.specs.declared.Refusal as program
 use Rattle.program.specs.declared.Refusal.the-variants.{Misspelled, LineCount, Placement, Target}
 use Rattle.program.proofs.RoundTrip.{taken-unique}
-use Rattle.program.proofs.Unique.{refused-unique, taken-refused}
 use Rattle.machine.specs.Answer.{Answers}
 use Rattle.machine.proofs.Unique as machine
 use Rattle.blame.specs.Blame.{Blamed}
 use Rattle.blame.proofs.Unique.{blames-unique}
 use Rattle.run.specs.Run.{budget-number, RunRefused}
+use Rattle.run.proofs.Unique.{number-unique, never-refused}
 use Rattle.desk.specs.Refusals.{refusalText}
 use Rattle.start.specs.Start.{StartRead}
 use Rattle.start.specs.declared.Answer.{Answer}
@@ -30,16 +30,12 @@ module _ {t u : List ℕ} {P : List Statement} {vs : List ℕ} {input budget : �
   pub runs-start : (b : Answer) (j n : ℕ) (ws : List ℕ) → StartRead u b j n ws → b ≡ start.Taken
   runs-start b j n ws s = answer-unique u b start.Taken j input n budget ws vs s (a .start)
 
-  runs-number : {n : ℕ} → RunRefused t budget n → ⊥
-  runs-number (inl x) = omega (arith, x .0, a .allowed)
-  runs-number (inr x) = taken-refused t (a .taken) (x .1) (x .2)
-
   -- it isn't refused
   pub runs-refused : {w : List ℕ} → Refusal t u w → ⊥
   runs-refused (inl x) = x .wrong (runs-start (x .answer) (x .input) (x .budget) (x .values) (x .read))
   runs-refused (inr x) =
       let same = start-unique (x .3) (a .start) .1 in
-      runs-number (rw same at (x .4 .refused))
+      never-refused t budget (rw same at (x .4 .refused)) (a .allowed) (a .taken)
 
 -- a result is of this run
 pub result-runs : {t u w : List ℕ} (r : Result t u w) → Runs t u (r .run .finished .P) (r .values) (r .input) (r .budget)
@@ -58,13 +54,7 @@ result-unique {t = t} {x = x} a b =
     let other : RunResult t (a .values) (a .input) (a .budget) x = rw (← s .0, ← s .1, ← s .2) (b .run) in
     result-run (a .run) other
 
--- the number and the line of a run's refusal
-number-unique : (t : List ℕ) (budget : ℕ) {n k : ℕ} → RunRefused t budget n → RunRefused t budget k → n ≡ k
-number-unique t budget (inl a) (inl b) = a .1 ∙ sym (b .1)
-number-unique t budget (inl a) (inr b) = absurd (omega (arith, a .0, b .0))
-number-unique t budget (inr a) (inl b) = absurd (omega (arith, a .0, b .0))
-number-unique t budget (inr a) (inr b) = a .3 ∙ ap number (refused-unique t (a .1) (b .1) (a .2) (b .2)) ∙ sym (b .3)
-
+-- the line of a run's refusal
 none-numbered : (r : program.Refusal) → budget-number ≡ number r → ⊥
 none-numbered Misspelled e = omega (arith, e)
 none-numbered LineCount e = omega (arith, e)
