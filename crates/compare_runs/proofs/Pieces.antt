@@ -5,6 +5,7 @@ use mathlib.Core.List.{List, [], _++_}
 use Prim.Native.Nat.{ℕ, _≤_, _<_}
 use native.Mathlib.Omega.{arith}
 use lib.ListN.{length, take}
+use Rattle.judge.specs.Judge.{text-bytes}
 use Rattle.trace.proofs.Series.{put-length}
 use Rattle.side_by_side.specs.SideBySide.{atStage, HandedAt, Handed, aheadAt, ahead, Prints, Next}
 use Rattle.side_by_side.specs.declared.Stage.{Stage}
@@ -20,10 +21,10 @@ pub record Printing (t m u : List ℕ) (p : Position) (w o : List ℕ) : Type 0 
   pub b : List ℕ
   pub handed : Handed t m u p w b
   pub going : 0 < ahead p
-  pub new : length w ≡ 8192
+  pub new : length w ≡ text-bytes
   pub out : length o ≡ 16384
 
-pub begins : (t m u : List ℕ) {p : Position} {w o : List ℕ} → p ≡ atStage Begin → length w ≡ 8192 → length o ≡ 16384 → Printing t m u p w o
+pub begins : (t m u : List ℕ) {p : Position} {w o : List ℕ} → p ≡ atStage Begin → length w ≡ text-bytes → length o ≡ 16384 → Printing t m u p w o
 begins t m u e l k = rw e (record { b = []; handed = (refl, refl); going = omega arith; new = l; out = k })
 
 module _ {t m u : List ℕ} {p : Position} {w v o q : List ℕ} {r : Piece} (i : Printing t m u p w o) (x : Next t m u p w v o q r) where
@@ -33,7 +34,7 @@ module _ {t m u : List ℕ} {p : Position} {w v o q : List ℕ} {r : Piece} (i :
   out-length : length q ≡ 16384
   out-length = omega (arith, put-length (printed .put), i .out)
 
-  new-length : length v ≡ 8192
+  new-length : length v ≡ text-bytes
   new-length = omega (arith, put-length (printed .new .put), i .new)
 
   pub piece-within : r .bytes ≤ length q

@@ -8,7 +8,6 @@ use files::REFUSAL;
 use files::RESULT;
 use files::UNREAD;
 use files::UNWRITTEN;
-use judge::TEXT_BYTES;
 use libc::STDERR_FILENO;
 use side_by_side::Stage;
 
@@ -39,17 +38,11 @@ fn chunk() -> [u8; CHUNK]
     [0; CHUNK]
 }
 
-fn text_buffer() -> [u8; TEXT_BYTES]
-    ensures { λ r. ⌜ length r ≡ 8192 ⌝ }
-{
-    [0; TEXT_BYTES]
-}
-
 // Prints all, and answers the status.
 fn print(program: &[u8], marks: &[u8], start: &[u8]) -> u8
     ensures { λ r. ⌜ Printed (now (program .entry)) (now (marks .entry)) (now (start .entry)) r ⌝ }
 {
-    let mut new = text_buffer();
+    let mut new = judge::text_buffer();
     let mut out = chunk();
     let mut from = side_by_side::first();
     loop {

@@ -9,7 +9,7 @@ use Rattle.language.specs.declared.Statement.{Statement}
 use Rattle.statement_writer.proofs.Puts.{put-front}
 use Rattle.program.specs.Program.{text, Taken}
 use Rattle.program.specs.Reading.{statements}
-use Rattle.program.proofs.RoundTrip.{text-fits}
+use Rattle.program.proofs.Lengths.{text-fits}
 use Rattle.marks.specs.Reading as marks
 use Rattle.marks.specs.declared.Mark.{Mark}
 use Rattle.verdicts.specs.Judging.{VerdictsOf, SomeJudged, RewritingOf}

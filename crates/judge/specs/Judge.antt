@@ -6,7 +6,7 @@ use Prim.Native.Nat.{ℕ, _≤_, _<_}
 use lib.ListN.{length, getD, take}
 use Rattle.language.specs.declared.Statement.{Statement}
 use Rattle.statement_writer.specs.Writing.{Put}
-use Rattle.program.specs.Program.{text, Taken}
+use Rattle.program.specs.Program.{text, text-room, Taken}
 use Rattle.marks.specs.Reading as marks
 use Rattle.marks.specs.declared.Mark.{Mark}
 use Rattle.rewriting.specs.Verdicts.{Verdicts, acceptedCount, Rewritten}
@@ -20,7 +20,7 @@ abbrev pub verdict-bytes : ℕ
 verdict-bytes = 256
 
 abbrev pub text-bytes : ℕ
-text-bytes = 8192
+text-bytes = text-room
 
 abbrev pub Room : List ℕ → List ℕ → Type 0
 Room vs w = (verdict-bytes ≤ length vs) × (text-bytes ≤ length w)

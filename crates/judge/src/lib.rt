@@ -1,13 +1,14 @@
 // A call: judges a list of marks on a program, and makes the accepted ones. It takes any bytes, and has no `requires`.
 ghost use mathlib.Core.Path.{_≡_};
 ghost use lib.ListN.{length};
-ghost use Rattle.judge.specs.Judge.{verdict-bytes, JudgeAnswers};
+ghost use Rattle.judge.specs.Judge.{verdict-bytes, text-bytes, JudgeAnswers};
 use calls::ROOM_NUMBER;
+use program::TEXT_ROOM;
 
 // The verdict bytes and the new text have at least this many bytes.
 pub const VERDICT_BYTES: usize = 256;
 
-pub const TEXT_BYTES: usize = 8192;
+pub const TEXT_BYTES: usize = TEXT_ROOM;
 
 // Refused: document 01's number. Finished: the marks, the accepted ones, and the bytes of new text.
 pub enum JudgeAnswer {
@@ -15,11 +16,17 @@ pub enum JudgeAnswer {
     Finished(u32, u32, u32),
 }
 
-// Verdict bytes to lend.
+// Verdict bytes and a new text to lend.
 pub fn verdict_buffer() -> [u8; VERDICT_BYTES]
     ensures { λ r. ⌜ length r ≡ verdict-bytes ⌝ }
 {
     [0; VERDICT_BYTES]
+}
+
+pub fn text_buffer() -> [u8; TEXT_BYTES]
+    ensures { λ r. ⌜ length r ≡ text-bytes ⌝ }
+{
+    [0; TEXT_BYTES]
 }
 
 // Judges each mark of the list on the program, and puts the program with the accepted ones made at the front of the new text.

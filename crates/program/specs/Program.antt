@@ -1,7 +1,7 @@
 -- What a program is and what its text is: document 01, "The statement language".
 use mathlib.Core.Path.{_≡_}
 use mathlib.Core.List.{List}
-use Prim.Native.Nat.{ℕ, _+_, _≤_, _<_}
+use Prim.Native.Nat.{ℕ, _+_, _*_, _≤_, _<_}
 use lib.ListN.{length, getD}
 use Rattle.lines.specs.Lines as lines
 use Rattle.language.specs.Spelling.{spell, Valid}
@@ -28,6 +28,13 @@ most = 256
 
 abbrev pub Counted : List Statement → Type 0
 Counted P = (fewest ≤ length P) × (length P ≤ most)
+
+-- a line has room in this many bytes with its byte 10, and so the text of every program in this many: "new text under 8,192 bytes"
+abbrev pub line-room : ℕ
+line-room = 32
+
+abbrev pub text-room : ℕ
+text-room = most * line-room
 
 -- the statement at place s: places count from 0, and statement n stands at place n - 1
 abbrev pub at : List Statement → ℕ → Statement

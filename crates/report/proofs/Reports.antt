@@ -11,7 +11,7 @@ use Rattle.program.specs.Program.{text}
 use Rattle.program.specs.Reading as program
 use Rattle.program.specs.declared.Refusal as program-refusal
 use Rattle.program.specs.declared.Refusal.the-variants.{Misspelled, LineCount, Placement, Target}
-use Rattle.program.proofs.RoundTrip.{text-fits}
+use Rattle.program.proofs.Lengths.{text-fits}
 use Rattle.marks.specs.Reading as marks
 use Rattle.marks.specs.Reading.{Taken}
 use Rattle.marks.specs.declared.Mark.{Mark}

@@ -8,7 +8,6 @@ ghost use Rattle.marks.specs.Reading.{Taken};
 ghost use Rattle.marks.specs.declared.Mark.{Mark};
 ghost use Rattle.report.specs.Report.{refusedLine, countsLine, verdictLine, verdictLines, Reports};
 ghost use Rattle.report.specs.Words.{wordsLine, Words};
-ghost use Rattle.judge.specs.Judge.{text-bytes};
 ghost use Rattle.report.specs.Writing.{VerdictsFit, ReportFits};
 use desk::refusals::REFUSAL_ROOM;
 use judge::JudgeAnswer;
@@ -101,12 +100,6 @@ fn write_report(
     statement_writer::word(out, k2, text)
 }
 
-fn text_buffer() -> [u8; TEXT_BYTES]
-    ensures { λ r. ⌜ length r ≡ text-bytes ⌝ }
-{
-    [0; TEXT_BYTES]
-}
-
 // Puts what the check program prints for the program's text and the list of marks at the front of the lent bytes.
 pub fn report(given: &[u8], marks: &[u8], out: &mut [u8]) -> Reported
     ensures { λ r. ⌜ Reports (now (given .entry)) (now (marks .entry)) (now (out .entry)) (now (out .exit)) r ⌝ }
@@ -115,7 +108,7 @@ pub fn report(given: &[u8], marks: &[u8], out: &mut [u8]) -> Reported
         return Reported::NoRoom;
     }
     let mut verdicts = judge::verdict_buffer();
-    let mut text = text_buffer();
+    let mut text = judge::text_buffer();
     let answer = judge::judge(given, marks, &mut verdicts, &mut text);
     match answer {
         JudgeAnswer::Refused(n) => Reported::Refused(write_refused(out, n)),
@@ -144,7 +137,7 @@ pub fn words(given: &[u8], marks: &[u8], out: &mut [u8]) -> Worded
         return Worded::NoRoom;
     }
     let mut verdicts = judge::verdict_buffer();
-    let mut text = text_buffer();
+    let mut text = judge::text_buffer();
     let answer = judge::judge(given, marks, &mut verdicts, &mut text);
     match answer {
         JudgeAnswer::Refused(n) => {

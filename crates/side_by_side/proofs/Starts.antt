@@ -7,7 +7,7 @@ use native.Mathlib.Omega.{arith}
 use lib.ListN.{length}
 use Rattle.statement_writer.specs.Writing.{Put}
 use Rattle.statement_writer.proofs.Puts.{put-front}
-use Rattle.program.proofs.RoundTrip.{text-fits}
+use Rattle.program.proofs.Lengths.{text-fits}
 use Rattle.machine.proofs.Runs.{stands-first}
 use Rattle.marks.proofs.Lists.{taken-unique}
 use Rattle.rewriting.specs.Verdicts.{acceptedCount}
