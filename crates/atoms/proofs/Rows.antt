@@ -23,10 +23,10 @@ use Rattle.ctl.specs.Paths.{So}
 use Rattle.labelling.specs.Labels.{Labelled}
 use Rattle.truth.specs.Truth.{InOperand, In, Defines, Holds}
 use Rattle.condition.specs.declared.Atom.the-variants.{Entry, Exit}
-use Rattle.codes.specs.Codes.{statementCode}
-use Rattle.atoms.specs.Facts.{defined-rows, code-rows, codeWords, FactsBelow, FactsOf}
+use Rattle.codes.specs.Codes.{statementCode, codeWords}
 use Rattle.codes.specs.declared.Code.{Code}
-use Rattle.atoms.proofs.Words.{words-unique}
+use Rattle.codes.proofs.Words.{words-unique}
+use Rattle.atoms.specs.Facts.{definedRow, placed, FactsBelow, FactsOf}
 
 -- the same places, and what is said of them in other words
 label-as : (n : ℕ) (y y′ : ℕ → Bool) (X X′ : ℕ → Type 0) → ((j : ℕ) → y′ j ≡ y j) → ((s : ℕ) → s < n → X s ↔ X′ s) → Labelled n y X → Labelled n y′ X′
@@ -75,12 +75,12 @@ entry-row P n y = label-as n y y (λ s. s + 1 ≡ 1) (Holds P Entry) (λ j. refl
 pub exit-row : (P : List Statement) (n : ℕ) (y : ℕ → Bool) → length P ≡ n → Labelled n y (λ s. s + 1 ≡ n) → Labelled n y (Holds P Exit)
 exit-row P n y size = subst (λ (m : ℕ). Labelled n y (λ s. s + 1 ≡ m)) (sym size)
 
-pub sized : (P : List Statement) (n : ℕ) (facts : List (List ℕ)) → length P ≡ n → FactsOf P facts → FactsBelow P n facts
-sized P n facts size f = rw size at f
+pub sized : (P : List Statement) (n : ℕ) (rows : List ℕ) (codes : List (List ℕ)) → length P ≡ n → FactsOf P rows codes → FactsBelow P n rows codes
+sized P n rows codes size f = rw size at f
 
-module _ (P : List Statement) (n : ℕ) (facts : List (List ℕ)) (found : FactsBelow P n facts) where
+module _ (P : List Statement) (n : ℕ) (rows : List ℕ) (codes : List (List ℕ)) (found : FactsBelow P n rows codes) where
   -- a test of the code at place s is one of the statement
-  pub statement-iff : (s : ℕ) → s < n → (i : Statement) (c : Code) → c ≡ statementCode i → (b : Bool) → Decides b (getD facts (code-rows + s) [] ≡ codeWords c) → (b ≡ true) ↔ (at P s ≡ i)
+  pub statement-iff : (s : ℕ) → s < n → (i : Statement) (c : Code) → c ≡ statementCode i → (b : Bool) → Decides b (getD codes s [] ≡ codeWords c) → (b ≡ true) ↔ (at P s ≡ i)
   statement-iff s l i c is b d =
       decides-iff b
       (decides-same b (λ e. words-unique (at P s) i (sym (found .coded s l) ∙ e ∙ ap codeWords is))
@@ -91,11 +91,11 @@ module _ (P : List Statement) (n : ℕ) (facts : List (List ℕ)) (found : Facts
   Keeps a s = (x : ℕ) → InOperand x a → Defines (at P s) x → ⊥
 
   module _ (all y : ℕ → Bool) (clear : (s : ℕ) → n ≤ s → all s ≡ false) where
-    pub variable-row : (x : ℕ) → x < variables → ((j : ℕ) → y j ≡ (all j && not (member (getD facts (defined-rows + x) []) j))) → Labelled n y (λ s. So all s × Keeps (Variable x) s)
+    pub variable-row : (x : ℕ) → x < variables → ((j : ℕ) → y j ≡ (all j && not (placed rows (definedRow x) j))) → Labelled n y (λ s. So all s × Keeps (Variable x) s)
     variable-row x l f =
         label-as n y y (λ s. So all s × (Defines (at P s) x → ⊥)) (λ s. So all s × Keeps (Variable x) s) (λ j. refl)
         (λ s b. (λ h. (h .0, λ z e d. h .1 (subst (λ (t : ℕ). Defines (at P s) t) e d)), λ h. (h .0, λ d. h .1 x refl d)))
-        (less-row n y all (member (getD facts (defined-rows + x) [])) (λ s. Defines (at P s) x) (found .defined x l) f clear)
+        (less-row n y all (placed rows (definedRow x)) (λ s. Defines (at P s) x) (found .defined x l) f clear)
 
     pub constant-row : (k : ℕ) → ((j : ℕ) → y j ≡ all j) → Labelled n y (λ s. So all s × Keeps (Constant k) s)
     constant-row k f = record {

@@ -2,8 +2,8 @@
 -- device: no sentence of document 01 stands here.
 use mathlib.Core.Path.{_≡_}
 use mathlib.Core.Bool.{Bool, false, _&&_, _||_}
-use mathlib.Core.List.{List, [], _∷_}
-use Prim.Native.Nat.{ℕ, _+_, _≤_, _<_}
+use mathlib.Core.List.{List, []}
+use Prim.Native.Nat.{ℕ, _+_, _*_, _<_}
 use lib.Dec.{eqb}
 use lib.ListN.{length, getD}
 use Rattle.language.specs.Spelling.{variables}
@@ -13,47 +13,49 @@ use Rattle.language.specs.declared.Expression.{Expression}
 use Rattle.language.specs.declared.Expression.the-variants.{Single, Binary}
 use Rattle.language.specs.declared.Statement.{Statement}
 use Rattle.language.specs.declared.Statement.the-variants.{Read, Write, Assign, Branch, Skip}
-use Rattle.program.specs.Program.{at, most}
-use Rattle.bits.specs.Row.{member}
+use Rattle.program.specs.Program.{at, most, row-words}
+use Rattle.bits.specs.Row.{member, rowOf}
 use Rattle.labelling.specs.Labels.{Labelled}
 use Rattle.truth.specs.Truth.{Defines, Uses}
-use Rattle.codes.specs.Codes.{statementCode}
-use Rattle.codes.specs.declared.Code.{Code}
+use Rattle.codes.specs.Codes.{statementCode, codeWords}
 
--- the words of a row, the code's WORDS
-abbrev pub row-words : ℕ
-row-words = 4
+-- a variable x has two rows, one after the other: the places that define it, and those that use it
+abbrev pub definedRow : ℕ → ℕ
+definedRow x = 2 * x
 
--- row `defined-rows + x` has the places that define variable x, row `used-rows + x` those that use it, and row `code-rows + s` the code of
--- the statement at place s; the code's DEFINED_ROWS, USED_ROWS, CODE_ROWS and FACTS
-abbrev pub defined-rows : ℕ
-defined-rows = 0
+abbrev pub usedRow : ℕ → ℕ
+usedRow x = 2 * x + 1
 
-abbrev pub used-rows : ℕ
-used-rows = defined-rows + variables
-
-abbrev pub code-rows : ℕ
-code-rows = used-rows + variables
-
+-- the rows of all variables and their words, the code's FACT_WORDS
 abbrev pub fact-rows : ℕ
-fact-rows = code-rows + most
+fact-rows = 2 * variables
 
-abbrev pub codeWords : Code → List ℕ
-codeWords c = c .kind ∷ c .first ∷ c .second ∷ c .third ∷ []
+abbrev pub fact-words : ℕ
+fact-words = row-words * fact-rows
 
--- the facts of the first n statements of P
-pub record FactsBelow (P : List Statement) (n : ℕ) (facts : List (List ℕ)) : Type 0 where
-  pub many : length facts ≡ fact-rows
-  pub defined : (x : ℕ) → x < variables → Labelled n (member (getD facts (defined-rows + x) [])) (λ s. Defines (at P s) x)
-  pub used : (x : ℕ) → x < variables → Labelled n (member (getD facts (used-rows + x) [])) (λ s. Uses (at P s) x)
-  pub coded : (s : ℕ) → s < n → getD facts (code-rows + s) [] ≡ codeWords (statementCode (at P s))
+-- whether the place j is in row r
+abbrev pub placed : List ℕ → ℕ → ℕ → Bool
+placed rows r = member (rowOf row-words rows r)
 
-abbrev pub FactsOf : List Statement → List (List ℕ) → Type 0
-FactsOf P facts = FactsBelow P (length P) facts
+-- the facts of the first n statements of P: the rows of the variables, and the codes of the statements
+pub record FactsBelow (P : List Statement) (n : ℕ) (rows : List ℕ) (codes : List (List ℕ)) : Type 0 where
+  pub many : length rows ≡ fact-words
+  pub many-codes : length codes ≡ most
+  pub defined : (x : ℕ) → x < variables → Labelled n (placed rows (definedRow x)) (λ s. Defines (at P s) x)
+  pub used : (x : ℕ) → x < variables → Labelled n (placed rows (usedRow x)) (λ s. Uses (at P s) x)
+  pub coded : (s : ℕ) → s < n → getD codes s [] ≡ codeWords (statementCode (at P s))
+
+abbrev pub FactsOf : List Statement → List ℕ → List (List ℕ) → Type 0
+FactsOf P rows codes = FactsBelow P (length P) rows codes
+
+-- the numbers of the lent facts
+pub record Sized (rows : List ℕ) (codes : List (List ℕ)) : Type 0 where
+  pub many : length rows ≡ fact-words
+  pub many-codes : length codes ≡ most
 
 -- whether a statement has its place in row r: the row of the variable that it defines, or of one that it uses
 abbrev pub notedOperand : Operand → ℕ → Bool
-notedOperand (Variable y) r = eqb (used-rows + y) r
+notedOperand (Variable y) r = eqb (usedRow y) r
 notedOperand (Constant n) r = false
 
 abbrev pub notedExpression : Expression → ℕ → Bool
@@ -61,14 +63,13 @@ notedExpression (Single a) r = notedOperand a r
 notedExpression (Binary a o b) r = notedOperand a r || notedOperand b r
 
 abbrev pub noted : Statement → ℕ → Bool
-noted (Read y) r = eqb (defined-rows + y) r
-noted (Write y) r = eqb (used-rows + y) r
-noted (Assign y e) r = eqb (defined-rows + y) r || notedExpression e r
-noted (Branch y n m) r = eqb (used-rows + y) r
+noted (Read y) r = eqb (definedRow y) r
+noted (Write y) r = eqb (usedRow y) r
+noted (Assign y e) r = eqb (definedRow y) r || notedExpression e r
+noted (Branch y n m) r = eqb (usedRow y) r
 noted Skip r = false
 
--- place s is added to the rows of which `there` is true, and to no others; the codes are kept
-pub record Marked (old new : List (List ℕ)) (there : ℕ → Bool) (s : ℕ) : Type 0 where
+-- place s is added to the rows of which `there` is true, and to no others
+pub record Marked (old new : List ℕ) (there : ℕ → Bool) (s : ℕ) : Type 0 where
   pub same : length new ≡ length old
-  pub bits : (r j : ℕ) → r < code-rows → member (getD new r []) j ≡ (member (getD old r []) j || (there r && eqb s j))
-  pub codes : (r : ℕ) → code-rows ≤ r → getD new r [] ≡ getD old r []
+  pub bits : (r j : ℕ) → r < fact-rows → placed new r j ≡ (placed old r j || (there r && eqb s j))

@@ -7,125 +7,140 @@ ghost use lib.Dec.{eqb};
 ghost use lib.ListN.{length};
 ghost use Rattle.language.specs.Spelling.{ValidOperand, ValidExpression, Valid};
 ghost use Rattle.language.specs.declared.Statement.{Statement as StatementOf};
-ghost use Rattle.program.specs.Program.{at, most, WellFormed};
-ghost use Rattle.base.specs.Decides.{Decides};
+ghost use Rattle.program.specs.Program.{at, most, row-words, WellFormed};
 ghost use Rattle.program.specs.Reading.{statements, Held};
-ghost use Rattle.bits.specs.Row.{member, Zeros, ZeroRows};
+ghost use Rattle.bits.specs.Row.{member, rowOf, Zeros, ZeroRows};
 ghost use Rattle.ctl.specs.Paths.{So};
 ghost use Rattle.labelling.specs.Labels.{Labelled};
 ghost use Rattle.condition.specs.Condition.{ValidAtom};
 ghost use Rattle.truth.specs.Truth.{InOperand, In, Defines, Holds};
-ghost use Rattle.codes.specs.Codes.{statementCode};
-ghost use Rattle.atoms.specs.Facts.{row-words, code-rows, fact-rows, codeWords, FactsBelow, FactsOf, notedOperand, notedExpression, noted, Marked};
-use codes::Code;
+ghost use Rattle.codes.specs.Codes.{code-words};
+ghost use Rattle.atoms.specs.Facts.{definedRow, usedRow, fact-rows, fact-words, placed, FactsBelow, FactsOf, Sized, notedOperand, notedExpression, noted, Marked};
+use codes::CODE_WORDS;
 use condition::Atom;
 use language::Expression;
 use language::Operand;
 use language::Statement;
+use program::MOST;
 use program::Program;
+use program::ROW_WORDS;
 
-// The words of a row: one bit for each statement.
-pub const WORDS: usize = 4;
+// A variable has two rows, one after the other: the places that define it, and those that use it.
+const FACT_WORDS: usize = ROW_WORDS * 2 * (language::VARIABLES as usize);
 
-// The rows of the places that define a variable come first, then those of the places that use it, then the codes of the statements.
-const DEFINED_ROWS: usize = 0;
-
-const USED_ROWS: usize = DEFINED_ROWS + (language::VARIABLES as usize);
-
-const CODE_ROWS: usize = USED_ROWS + (language::VARIABLES as usize);
-
-pub const FACTS: usize = CODE_ROWS + program::MOST;
-
-// Rows to be filled.
-pub fn blank() -> [[u64; WORDS]; FACTS]
-    ensures { λ r. ⌜ ZeroRows fact-rows row-words r ⌝ }
+// Rows of the variables and codes of the statements, to be filled.
+pub fn blank() -> [u64; FACT_WORDS]
+    ensures { λ r. ⌜ Zeros fact-words r ⌝ }
 {
-    [[0; WORDS]; FACTS]
+    [0; FACT_WORDS]
+}
+
+pub fn blank_codes() -> [[u64; CODE_WORDS]; MOST]
+    ensures { λ r. ⌜ ZeroRows most code-words r ⌝ }
+{
+    [[0; CODE_WORDS]; MOST]
+}
+
+// The row of the places that define a variable.
+fn defined_row(x: u8) -> usize
+    ensures { λ r. ⌜ r ≡ definedRow x ⌝ }
+{
+    2 * (x as usize)
+}
+
+// The row of the places that use a variable.
+fn used_row(x: u8) -> usize
+    ensures { λ r. ⌜ r ≡ usedRow x ⌝ }
+{
+    2 * (x as usize) + 1
+}
+
+// The words of row k.
+fn row_at(rows: &[u64], k: usize) -> &[u64]
+    requires { ⌜ (k < fact-rows) × (length (now rows) ≡ fact-words) ⌝ }
+    ensures { λ r. ⌜ now r ≡ rowOf row-words (now (rows .entry)) k ⌝ }
+{
+    let at = ROW_WORDS * k;
+    let end = at + ROW_WORDS;
+    &rows[at..end]
 }
 
 // Adds place s to row k.
-fn mark(k: usize, s: usize, facts: &mut [[u64; WORDS]])
-    requires { ⌜ (k < code-rows) × (s < most) × (length (now facts) ≡ fact-rows) ⌝ }
-    ensures { λ _. ⌜ Marked (now (facts .entry)) (now (facts .exit)) (eqb k) s ⌝ }
+fn mark(k: usize, s: usize, rows: &mut [u64])
+    requires { ⌜ (k < fact-rows) × (s < most) × (length (now rows) ≡ fact-words) ⌝ }
+    ensures { λ _. ⌜ Marked (now (rows .entry)) (now (rows .exit)) (eqb k) s ⌝ }
 {
-    bits::insert(&mut facts[k], s);
+    let at = ROW_WORDS * k;
+    let end = at + ROW_WORDS;
+    bits::insert(&mut rows[at..end], s);
 }
 
 // The operand's variable is used at place s.
-fn note_operand(a: Operand, s: usize, facts: &mut [[u64; WORDS]])
-    requires { ⌜ ValidOperand a × (s < most) × (length (now facts) ≡ fact-rows) ⌝ }
-    ensures { λ _. ⌜ Marked (now (facts .entry)) (now (facts .exit)) (notedOperand a) s ⌝ }
+fn note_operand(a: Operand, s: usize, rows: &mut [u64])
+    requires { ⌜ ValidOperand a × (s < most) × (length (now rows) ≡ fact-words) ⌝ }
+    ensures { λ _. ⌜ Marked (now (rows .entry)) (now (rows .exit)) (notedOperand a) s ⌝ }
 {
     match a {
-        Operand::Variable(x) => mark(USED_ROWS + (x as usize), s, facts),
+        Operand::Variable(x) => mark(used_row(x), s, rows),
         Operand::Constant(_) => {}
     }
 }
 
 // The expression's variables are used at place s.
-fn note_expression(e: Expression, s: usize, facts: &mut [[u64; WORDS]])
-    requires { ⌜ ValidExpression e × (s < most) × (length (now facts) ≡ fact-rows) ⌝ }
-    ensures { λ _. ⌜ Marked (now (facts .entry)) (now (facts .exit)) (notedExpression e) s ⌝ }
+fn note_expression(e: Expression, s: usize, rows: &mut [u64])
+    requires { ⌜ ValidExpression e × (s < most) × (length (now rows) ≡ fact-words) ⌝ }
+    ensures { λ _. ⌜ Marked (now (rows .entry)) (now (rows .exit)) (notedExpression e) s ⌝ }
 {
     match e {
-        Expression::Single(a) => note_operand(a, s, facts),
+        Expression::Single(a) => note_operand(a, s, rows),
         Expression::Binary(a, _, b) => {
-            note_operand(a, s, facts);
-            note_operand(b, s, facts);
+            note_operand(a, s, rows);
+            note_operand(b, s, rows);
         }
     }
 }
 
 // The variables that the statement at place s defines and uses.
-fn note(i: Statement, s: usize, facts: &mut [[u64; WORDS]])
-    requires { ⌜ Valid i × (s < most) × (length (now facts) ≡ fact-rows) ⌝ }
-    ensures { λ _. ⌜ Marked (now (facts .entry)) (now (facts .exit)) (noted i) s ⌝ }
+fn note(i: Statement, s: usize, rows: &mut [u64])
+    requires { ⌜ Valid i × (s < most) × (length (now rows) ≡ fact-words) ⌝ }
+    ensures { λ _. ⌜ Marked (now (rows .entry)) (now (rows .exit)) (noted i) s ⌝ }
 {
     match i {
-        Statement::Read(x) => mark(DEFINED_ROWS + (x as usize), s, facts),
-        Statement::Write(x) => mark(USED_ROWS + (x as usize), s, facts),
+        Statement::Read(x) => mark(defined_row(x), s, rows),
+        Statement::Write(x) => mark(used_row(x), s, rows),
         Statement::Assign(x, e) => {
-            mark(DEFINED_ROWS + (x as usize), s, facts);
-            note_expression(e, s, facts);
+            mark(defined_row(x), s, rows);
+            note_expression(e, s, rows);
         }
-        Statement::Branch(x, _, _) => mark(USED_ROWS + (x as usize), s, facts),
+        Statement::Branch(x, _, _) => mark(used_row(x), s, rows),
         Statement::Skip => {}
     }
 }
 
-// The statement's code as a row.
-fn code_row(i: Statement) -> [u64; WORDS]
-    ensures { λ r. ⌜ r ≡ codeWords (statementCode i) ⌝ }
-{
-    let c = codes::statement_code(i);
-    [c.kind, c.first, c.second, c.third]
-}
-
 // The facts of the program's statements.
-pub fn find(p: Program, facts: &mut [[u64; WORDS]])
+pub fn find(p: Program, rows: &mut [u64], codes: &mut [[u64; CODE_WORDS]])
     requires { ⌜ Held p ⌝ }
     requires { ⌜ WellFormed (statements p) ⌝ }
-    requires { ⌜ ZeroRows fact-rows row-words (now facts) ⌝ }
-    ensures { λ _. ⌜ FactsOf (statements p) (now (facts .exit)) ⌝ }
+    requires { ⌜ Zeros fact-words (now rows) × ZeroRows most code-words (now codes) ⌝ }
+    ensures { λ _. ⌜ FactsOf (statements p) (now (rows .exit)) (now (codes .exit)) ⌝ }
 {
     let n = p.count;
     let mut s: usize = 0;
     while s < n {
         let e = p.entries[s];
         let i = e.statement;
-        note(i, s, facts);
-        let k = CODE_ROWS + s;
-        let words = code_row(i);
-        facts[k] = words;
+        note(i, s, rows);
+        let words = codes::words_of(codes::statement_code(i));
+        codes[s] = words;
         s += 1;
     }
 }
 
 // Room for a row.
-pub fn blank_row() -> [u64; WORDS]
+pub fn blank_row() -> [u64; ROW_WORDS]
     ensures { λ r. ⌜ Zeros row-words r ⌝ }
 {
-    [0; WORDS]
+    [0; ROW_WORDS]
 }
 
 // The place of statement m, where there is one among n.
@@ -155,34 +170,16 @@ fn copy(from: &[u64], out: &mut [u64])
     }
 }
 
-// Whether the row is the code c. Most differ in the variable.
-fn same_words(c: Code, words: &[u64]) -> bool
-    requires { ⌜ length (now words) ≡ row-words ⌝ }
-    ensures { λ r. ⌜ Decides r (now (words .entry) ≡ codeWords c) ⌝ }
-{
-    if words[1] != c.first {
-        return false;
-    }
-    if words[0] != c.kind {
-        return false;
-    }
-    if words[2] != c.second {
-        return false;
-    }
-    words[3] == c.third
-}
-
 // The places below n at which the statement i stands.
-fn statement_row(i: Statement, n: usize, facts: &[[u64; WORDS]], out: &mut [u64])
-    requires { ⌜ (n ≤ most) × (length (now facts) ≡ fact-rows) × (length (now out) ≡ row-words) ⌝ }
-    ensures { λ _. ⌜ ((P : List StatementOf) → FactsBelow P n (now (facts .entry)) → Labelled n (member (now (out .exit))) (λ s. at P s ≡ i)) ⌝ }
+fn statement_row(i: Statement, n: usize, codes: &[[u64; CODE_WORDS]], out: &mut [u64])
+    requires { ⌜ (n ≤ most) × (length (now codes) ≡ most) × (length (now out) ≡ row-words) ⌝ }
+    ensures { λ _. ⌜ ((P : List StatementOf) (rows : List ℕ) → FactsBelow P n rows (now (codes .entry)) → Labelled n (member (now (out .exit))) (λ s. at P s ≡ i)) ⌝ }
 {
     let c = codes::statement_code(i);
     bits::clear(out);
     let mut s: usize = 0;
     while s < n {
-        let k = CODE_ROWS + s;
-        if same_words(c, &facts[k]) {
+        if codes::same_words(c, &codes[s]) {
             bits::insert(out, s);
             s += 1;
         } else {
@@ -192,43 +189,40 @@ fn statement_row(i: Statement, n: usize, facts: &[[u64; WORDS]], out: &mut [u64]
 }
 
 // The places of `all` at which the operand's variable is not defined.
-fn keeping(a: Operand, all: &[u64], facts: &[[u64; WORDS]], out: &mut [u64])
-    requires { ⌜ ValidOperand a × (length (now facts) ≡ fact-rows) ⌝ }
+fn keeping(a: Operand, all: &[u64], rows: &[u64], out: &mut [u64])
+    requires { ⌜ ValidOperand a × (length (now rows) ≡ fact-words) ⌝ }
     requires { ⌜ (length (now all) ≡ row-words) × (length (now out) ≡ row-words) ⌝ }
-    ensures { λ _. ⌜ ((P : List StatementOf) (n : ℕ) → FactsBelow P n (now (facts .entry)) → ((s : ℕ) → n ≤ s → member (now (all .entry)) s ≡ false) → Labelled n (member (now (out .exit))) (λ s. So (member (now (all .entry))) s × ((x : ℕ) → InOperand x a → Defines (at P s) x → ⊥))) ⌝ }
+    ensures { λ _. ⌜ ((P : List StatementOf) (n : ℕ) (codes : List (List ℕ)) → FactsBelow P n (now (rows .entry)) codes → ((s : ℕ) → n ≤ s → member (now (all .entry)) s ≡ false) → Labelled n (member (now (out .exit))) (λ s. So (member (now (all .entry))) s × ((x : ℕ) → InOperand x a → Defines (at P s) x → ⊥))) ⌝ }
 {
     match a {
-        Operand::Variable(x) => {
-            let k = DEFINED_ROWS + (x as usize);
-            bits::difference(all, &facts[k], out);
-        }
+        Operand::Variable(x) => bits::difference(all, row_at(rows, defined_row(x)), out),
         Operand::Constant(_) => copy(all, out),
     }
 }
 
 // The places below n at which no variable of the expression is defined.
-fn trans_row(e: Expression, n: usize, facts: &[[u64; WORDS]], out: &mut [u64])
-    requires { ⌜ ValidExpression e × (length (now facts) ≡ fact-rows) ⌝ }
+fn trans_row(e: Expression, n: usize, rows: &[u64], out: &mut [u64])
+    requires { ⌜ ValidExpression e × (length (now rows) ≡ fact-words) ⌝ }
     requires { ⌜ (n ≤ most) × (length (now out) ≡ row-words) ⌝ }
-    ensures { λ _. ⌜ ((P : List StatementOf) → FactsBelow P n (now (facts .entry)) → Labelled n (member (now (out .exit))) (λ s. (x : ℕ) → In x e → Defines (at P s) x → ⊥)) ⌝ }
+    ensures { λ _. ⌜ ((P : List StatementOf) (codes : List (List ℕ)) → FactsBelow P n (now (rows .entry)) codes → Labelled n (member (now (out .exit))) (λ s. (x : ℕ) → In x e → Defines (at P s) x → ⊥)) ⌝ }
 {
     let mut places = blank_row();
     bits::below(n, &mut places);
     match e {
-        Expression::Single(a) => keeping(a, &places, facts, out),
+        Expression::Single(a) => keeping(a, &places, rows, out),
         Expression::Binary(a, _, b) => {
             let mut left = blank_row();
-            keeping(a, &places, facts, &mut left);
-            keeping(b, &left, facts, out);
+            keeping(a, &places, rows, &mut left);
+            keeping(b, &left, rows, out);
         }
     }
 }
 
 // The places of the n statements that these are the facts of, at which the atom holds.
-pub fn row(a: Atom, n: usize, facts: &[[u64; WORDS]], out: &mut [u64])
-    requires { ⌜ ValidAtom a × (length (now facts) ≡ fact-rows) ⌝ }
+pub fn row(a: Atom, n: usize, rows: &[u64], codes: &[[u64; CODE_WORDS]], out: &mut [u64])
+    requires { ⌜ ValidAtom a × Sized (now rows) (now codes) ⌝ }
     requires { ⌜ (n ≤ most) × (length (now out) ≡ row-words) ⌝ }
-    ensures { λ _. ⌜ ((P : List StatementOf) → length P ≡ n → FactsOf P (now (facts .entry)) → Labelled n (member (now (out .exit))) (Holds P a)) ⌝ }
+    ensures { λ _. ⌜ ((P : List StatementOf) → length P ≡ n → FactsOf P (now (rows .entry)) (now (codes .entry)) → Labelled n (member (now (out .exit))) (Holds P a)) ⌝ }
 {
     match a {
         Atom::True => bits::below(n, out),
@@ -236,15 +230,9 @@ pub fn row(a: Atom, n: usize, facts: &[[u64; WORDS]], out: &mut [u64])
         Atom::Entry => numbered(1, n, out),
         Atom::Exit => numbered(n, n, out),
         Atom::Node(m) => numbered(m as usize, n, out),
-        Atom::Stmt(i) => statement_row(i, n, facts, out),
-        Atom::Def(x) => {
-            let k = DEFINED_ROWS + (x as usize);
-            copy(&facts[k], out);
-        }
-        Atom::Use(x) => {
-            let k = USED_ROWS + (x as usize);
-            copy(&facts[k], out);
-        }
-        Atom::Trans(e) => trans_row(e, n, facts, out),
+        Atom::Stmt(i) => statement_row(i, n, codes, out),
+        Atom::Def(x) => copy(row_at(rows, defined_row(x)), out),
+        Atom::Use(x) => copy(row_at(rows, used_row(x)), out),
+        Atom::Trans(e) => trans_row(e, n, rows, out),
     }
 }

@@ -3,8 +3,8 @@
 use mathlib.Core.Path.{_≡_}
 use mathlib.Core.List.{List, []}
 use mathlib.Core.Bool.{Bool, true, false}
-use Prim.Native.Nat.{ℕ, zero, suc, _+_, _/_, _%_, _^_, _≤_, _<_}
-use lib.ListN.{length, getD}
+use Prim.Native.Nat.{ℕ, zero, suc, _+_, _*_, _/_, _%_, _^_, _≤_, _<_}
+use lib.ListN.{length, getD, take, drop}
 use lib.Dec.{eqb}
 
 -- the most words of a row whose members are counted, the code's WORDS
@@ -50,3 +50,13 @@ pub record ZeroRows (n k : ℕ) (rows : List (List ℕ)) : Type 0 where
 pub record Alike (a b out : List ℕ) : Type 0 where
   pub left : length a ≡ length out
   pub right : length b ≡ length out
+
+-- row k of words that stand in rows of w words each
+abbrev pub rowOf : ℕ → List ℕ → ℕ → List ℕ
+rowOf w ws k = take w (drop (w * k) ws)
+
+-- the words are as they were, but for the n from `at` on
+pub record Kept (old new : List ℕ) (at n : ℕ) : Type 0 where
+  pub same : length new ≡ length old
+  pub before : (m : ℕ) → m < at → getD new m 0 ≡ getD old m 0
+  pub past : (m : ℕ) → at + n ≤ m → getD new m 0 ≡ getD old m 0

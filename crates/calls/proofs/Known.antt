@@ -12,7 +12,7 @@ use Rattle.flow.specs.FlowOf.{flow-entries, flowAt, FlowOf}
 use Rattle.atoms.specs.Facts.{FactsOf}
 use Rattle.table.specs.Known.{Known}
 
-pub known-program : {t : List ℕ} {p : Program} {facts : List (List ℕ)} {flow : List ℕ} → Taken t (statements p) → Held p → FactsOf (statements p) facts
-    → FlowOf (statements p) (flowAt flow) → length flow ≡ flow-entries → Known (statements p) (p .count) facts flow
+pub known-program : {t : List ℕ} {p : Program} {rows : List ℕ} {codes : List (List ℕ)} {flow : List ℕ} → Taken t (statements p) → Held p → FactsOf (statements p) rows codes
+    → FlowOf (statements p) (flowAt flow) → length flow ≡ flow-entries → Known (statements p) (p .count) rows codes flow
 known-program {p = p} t h f g s =
     record { size = length-held (p .entries) (p .count) (omega (arith, h .room, h .few)); few = t .program .counted .1; found = f; flow-size = s; flows = g }

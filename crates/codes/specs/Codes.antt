@@ -1,4 +1,5 @@
 -- A proof device: statements as numbers, so that two are compared. proofs/Codes.antt takes a statement back from its code.
+use mathlib.Core.List.{List, [], _∷_}
 use Prim.Native.Nat.{ℕ, _+_, _*_}
 use Rattle.language.specs.declared.Operand.{Operand}
 use Rattle.language.specs.declared.Operand.the-variants.{Variable, Constant}
@@ -32,3 +33,10 @@ statementCode (Write x) = record { kind = 1; first = x; second = 0; third = 0 }
 statementCode Skip = record { kind = 2; first = 0; second = 0; third = 0 }
 statementCode (Branch x n m) = record { kind = 3; first = x; second = n; third = m }
 statementCode (Assign x e) = assignCode x e
+
+-- the numbers of a code, the code's CODE_WORDS
+abbrev pub code-words : ℕ
+code-words = 4
+
+abbrev pub codeWords : Code → List ℕ
+codeWords c = c .kind ∷ c .first ∷ c .second ∷ c .third ∷ []

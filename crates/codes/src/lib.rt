@@ -1,8 +1,9 @@
 // Statements compared by a code of four numbers, and the variables that a statement shows as used.
 ghost use mathlib.Core.Path.{_≡_};
+ghost use lib.ListN.{length};
 ghost use Rattle.base.specs.Decides.{Decides};
 ghost use Rattle.truth.specs.Truth.{InOperand, In, Shows};
-ghost use Rattle.codes.specs.Codes.{operandCode, operatorCode, assignCode, statementCode};
+ghost use Rattle.codes.specs.Codes.{operandCode, operatorCode, assignCode, statementCode, code-words, codeWords};
 use language::Expression;
 use language::Operand;
 use language::Operator;
@@ -15,6 +16,9 @@ pub struct Code {
     pub second: u64,
     pub third: u64,
 }
+
+// The numbers of a code.
+pub const CODE_WORDS: usize = 4;
 
 fn operand_code(a: Operand) -> u64
     ensures { λ r. ⌜ r ≡ operandCode a ⌝ }
@@ -86,6 +90,30 @@ pub fn statement_code(s: Statement) -> Code
         },
         Statement::Assign(x, e) => assign_code(x, e),
     }
+}
+
+// The code as words.
+pub fn words_of(c: Code) -> [u64; CODE_WORDS]
+    ensures { λ r. ⌜ r ≡ codeWords c ⌝ }
+{
+    [c.kind, c.first, c.second, c.third]
+}
+
+// Whether the words are those of the code. Most differ in the variable.
+pub fn same_words(c: Code, words: &[u64]) -> bool
+    requires { ⌜ length (now words) ≡ code-words ⌝ }
+    ensures { λ r. ⌜ Decides r (now (words .entry) ≡ codeWords c) ⌝ }
+{
+    if words[1] != c.first {
+        return false;
+    }
+    if words[0] != c.kind {
+        return false;
+    }
+    if words[2] != c.second {
+        return false;
+    }
+    words[3] == c.third
 }
 
 fn same_code(a: Code, b: Code) -> bool

@@ -49,11 +49,12 @@ pub fn judge(program: &[u8], marks: &[u8], verdicts: &mut [u8], text: &mut [u8])
     match checked {
         marks::Checked::Refused(refusal) => JudgeAnswer::Refused(marks::number_of(refusal)),
         marks::Checked::Taken(count) => {
-            let mut facts = atoms::blank();
-            atoms::find(p, &mut facts);
+            let mut rows = atoms::blank();
+            let mut codes = atoms::blank_codes();
+            atoms::find(p, &mut rows, &mut codes);
             let mut flow = flow::blank();
             flow::of(p, &mut flow);
-            verdicts::judge(marks, p, &facts, &flow, verdicts);
+            verdicts::judge(marks, p, &rows, &codes, &flow, verdicts);
             let rewriting = verdicts::rewrite(marks, p, &*verdicts);
             let made = rewriting.program;
             let bytes = program::write(made, text);

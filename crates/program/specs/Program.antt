@@ -1,7 +1,7 @@
 -- What a program is and what its text is: document 01, "The statement language".
 use mathlib.Core.Path.{_≡_}
 use mathlib.Core.List.{List}
-use Prim.Native.Nat.{ℕ, _+_, _*_, _≤_, _<_}
+use Prim.Native.Nat.{ℕ, _+_, _*_, _/_, _≤_, _<_}
 use lib.ListN.{length, getD}
 use Rattle.lines.specs.Lines as lines
 use Rattle.language.specs.Spelling.{spell, Valid}
@@ -35,6 +35,10 @@ line-room = 32
 
 abbrev pub text-room : ℕ
 text-room = most * line-room
+
+-- a set of statements has a bit for each that there can be, so this many words of 64 bits: "64-bit words 4k to 4k+3"; the code's ROW_WORDS
+abbrev pub row-words : ℕ
+row-words = most / 64
 
 -- the statement at place s: places count from 0, and statement n stands at place n - 1
 abbrev pub at : List Statement → ℕ → Statement

@@ -18,6 +18,9 @@ const LINE_ROOM: usize = 32;
 
 pub const TEXT_ROOM: usize = MOST * LINE_ROOM;
 
+// The words of a set of statements: one bit for each.
+pub const ROW_WORDS: usize = MOST / 64;
+
 pub struct Entry {
     pub statement: Statement,
 }

@@ -1,32 +1,40 @@
 -- Proof devices: what it means that rows of published conditions are remembered. No sentence of document 01 stands here.
 use mathlib.Core.Path.{_≡_}
 use mathlib.Core.List.{List, []}
-use Prim.Native.Nat.{ℕ, _+_, _*_, _<_}
+use Prim.Native.Nat.{ℕ, _<_}
 use lib.ListN.{length, getD}
-use Rattle.language.specs.declared.Operand.the-variants.{Variable, Constant}
+use Rattle.language.specs.declared.Expression.the-variants.{Single}
 use Rattle.language.specs.declared.Statement.{Statement}
+use Rattle.language.specs.declared.Statement.the-variants.{Read, Assign, Skip}
+use Rattle.codes.specs.Codes.{statementCode, codeWords}
 use Rattle.table.specs.Known.{Known}
-use Rattle.marks.specs.Marks.{ValidMark}
 use Rattle.marks.specs.declared.Mark.{Mark}
 use Rattle.marks.specs.declared.Mark.the-variants.{Rm, Rpl}
 use Rattle.published_rows.specs.Rows.{RowFor}
 
--- a number for a valid mark's published condition: those of different conditions differ, and none is 0
-abbrev pub keyOf : Mark → ℕ
-keyOf (Rm n x e) = x + 128
-keyOf (Rpl n x (Variable y)) = x + 32 + 128 * y
-keyOf (Rpl n x (Constant k)) = x + 64 + 128 * k
+-- a statement for a mark's published condition: those of different conditions differ, and none is `skip`, whose code an empty slot has
+abbrev pub keyOf : Mark → Statement
+keyOf (Rm n x e) = Read x
+keyOf (Rpl n x a) = Assign x (Single a)
+
+abbrev pub keyWords : Statement → List ℕ
+keyWords s = codeWords (statementCode s)
 
 -- the most rows that are remembered, the code's SLOTS
 abbrev pub slots : ℕ
 slots = 251
 
--- a row beside the key of a valid mark is that of its published condition
-pub record Remembers (P : List Statement) (keys : List ℕ) (rows : List (List ℕ)) : Type 0 where
+-- no key is set
+pub record Unused (keys : List (List ℕ)) : Type 0 where
+  pub many : length keys ≡ slots
+  pub empty : (i : ℕ) → i < slots → getD keys i [] ≡ keyWords Skip
+
+-- a row beside the key of a mark is that of its published condition
+pub record Remembers (P : List Statement) (keys memory : List (List ℕ)) : Type 0 where
   pub many-keys : length keys ≡ slots
-  pub many-rows : length rows ≡ slots
-  pub right : (i : ℕ) → i < slots → (m : Mark) → ValidMark m → getD keys i 0 ≡ keyOf m → RowFor P m (getD rows i [])
+  pub many-rows : length memory ≡ slots
+  pub right : (i : ℕ) → i < slots → (m : Mark) → getD keys i [] ≡ keyWords (keyOf m) → RowFor P m (getD memory i [])
 
 -- the same of every program that the facts and the graph are of
-abbrev pub Remembering : ℕ → List (List ℕ) → List ℕ → List ℕ → List (List ℕ) → Type 0
-Remembering n facts flow keys rows = (P : List Statement) → Known P n facts flow → Remembers P keys rows
+abbrev pub Remembering : ℕ → List ℕ → List (List ℕ) → List ℕ → List (List ℕ) → List (List ℕ) → Type 0
+Remembering n rows codes flow keys memory = (P : List Statement) → Known P n rows codes flow → Remembers P keys memory

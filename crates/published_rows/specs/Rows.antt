@@ -14,9 +14,12 @@ use Rattle.table.specs.Table.{part-words}
 use Rattle.marks.specs.declared.Mark.{Mark}
 use Rattle.lockstep.specs.Rules.{published}
 
--- the words for the parts of a published condition, the code's PUBLISHED_WORDS
+-- the parts of a published condition and their words, the code's PUBLISHED_PARTS and PUBLISHED_WORDS
+abbrev pub published-most : ℕ
+published-most = 10
+
 abbrev pub published-words : ℕ
-published-words = 40
+published-words = part-words * published-most
 
 -- the text is taken as a condition of at most ten parts
 pub record SmallTaken (t : List ℕ) : Type 0 where

@@ -1,6 +1,7 @@
 // The places at which a mark's published condition is true, remembered by the condition.
 ghost use mathlib.Core.Path.{_≡_};
 ghost use mathlib.Core.List.{List};
+ghost use Prim.Native.Nat.{_<_};
 ghost use Rattle.language.specs.declared.Statement.{Statement};
 ghost use Rattle.bits.specs.Row.{Zeros, ZeroRows};
 ghost use Rattle.table.specs.Table.{part-words};
@@ -8,14 +9,19 @@ ghost use Rattle.table.specs.Known.{Known, SomeKnown};
 ghost use Rattle.marks.specs.Marks.{ValidMark};
 ghost use Rattle.published.specs.Published.{published-room};
 ghost use Rattle.published_rows.specs.Rows.{published-words, SmallTaken, RowOf, RowFor};
-ghost use Rattle.published_rows.specs.Memory.{keyOf, slots, Remembering};
-use language::Operand;
+ghost use Rattle.published_rows.specs.Memory.{keyOf, slots, Unused, Remembering};
+use codes::CODE_WORDS;
+use codes::Code;
+use language::Expression;
+use language::Statement as Key;
 use marks::Mark;
 use published::PUBLISHED_ROOM;
 use table::WORDS;
 
-// A published condition has at most ten parts.
-const PUBLISHED_WORDS: usize = 40;
+// The most parts of a published condition, and their words.
+const PUBLISHED_PARTS: usize = 10;
+
+const PUBLISHED_WORDS: usize = WORDS * PUBLISHED_PARTS;
 
 fn blank_text() -> [u8; PUBLISHED_ROOM]
     ensures { λ r. ⌜ Zeros published-room r ⌝ }
@@ -31,10 +37,16 @@ fn blank_rows() -> [u64; PUBLISHED_WORDS]
 
 // The places at which the condition with this text is true, of the n statements that the facts and the graph are of: it is read and
 // tabulated as any other.
-fn row_of(text: &[u8], n: usize, facts: &[[u64; WORDS]], flow: &[u16]) -> [u64; WORDS]
-    requires { ⌜ SomeKnown n (now facts) (now flow) ⌝ }
+fn row_of(
+    text: &[u8],
+    n: usize,
+    rows: &[u64],
+    codes: &[[u64; CODE_WORDS]],
+    flow: &[u16],
+) -> [u64; WORDS]
+    requires { ⌜ SomeKnown n (now rows) (now codes) (now flow) ⌝ }
     requires { ⌜ SmallTaken (now text) ⌝ }
-    ensures { λ r. ⌜ ((P : List Statement) → Known P n (now (facts .entry)) (now (flow .entry)) → RowOf P (now (text .entry)) r) ⌝ }
+    ensures { λ r. ⌜ ((P : List Statement) → Known P n (now (rows .entry)) (now (codes .entry)) (now (flow .entry)) → RowOf P (now (text .entry)) r) ⌝ }
 {
     let reading = condition_reader::read(text);
     let answer = reading.answer;
@@ -43,30 +55,38 @@ fn row_of(text: &[u8], n: usize, facts: &[[u64; WORDS]], flow: &[u16]) -> [u64; 
     };
     let words = reading.words;
     let count = parts as usize;
-    let mut rows = blank_rows();
-    table::fill(text, words, count, n, facts, flow, &mut rows);
+    let mut parts_table = blank_rows();
+    table::fill(text, words, count, n, rows, codes, flow, &mut parts_table);
     let last = count - 1;
-    table::row_of(&rows, last)
+    table::row_of(&parts_table, last)
 }
 
 // The places at which the mark's published condition is true.
-fn published_row(m: Mark, n: usize, facts: &[[u64; WORDS]], flow: &[u16]) -> [u64; WORDS]
-    requires { ⌜ SomeKnown n (now facts) (now flow) ⌝ }
+fn published_row(
+    m: Mark,
+    n: usize,
+    rows: &[u64],
+    codes: &[[u64; CODE_WORDS]],
+    flow: &[u16],
+) -> [u64; WORDS]
+    requires { ⌜ SomeKnown n (now rows) (now codes) (now flow) ⌝ }
     requires { ⌜ ValidMark m ⌝ }
-    ensures { λ r. ⌜ ((P : List Statement) → Known P n (now (facts .entry)) (now (flow .entry)) → RowFor P m r) ⌝ }
+    ensures { λ r. ⌜ ((P : List Statement) → Known P n (now (rows .entry)) (now (codes .entry)) (now (flow .entry)) → RowFor P m r) ⌝ }
 {
     let mut text = blank_text();
     let end = published::write_published(m, &mut text);
-    row_of(&text[..end], n, facts, flow)
+    row_of(&text[..end], n, rows, codes, flow)
 }
 
 // The most rows that are remembered: a prime, so that the keys spread.
 const SLOTS: usize = 251;
 
-pub fn blank_keys() -> [u64; SLOTS]
-    ensures { λ r. ⌜ Zeros slots r ⌝ }
+// Keys of no condition.
+pub fn blank_keys() -> [[u64; CODE_WORDS]; SLOTS]
+    ensures { λ r. ⌜ Unused r ⌝ }
 {
-    [0; SLOTS]
+    let empty = codes::words_of(codes::statement_code(Key::Skip));
+    [empty; SLOTS]
 }
 
 pub fn blank_memory() -> [[u64; WORDS]; SLOTS]
@@ -76,38 +96,49 @@ pub fn blank_memory() -> [[u64; WORDS]; SLOTS]
 }
 
 // The key of the mark's published condition.
-fn key_of(m: Mark) -> u64
+fn key_of(m: Mark) -> Key
     ensures { λ r. ⌜ r ≡ keyOf m ⌝ }
 {
     match m {
-        Mark::Rm(_, x, _) => (x as u64) + 128,
-        Mark::Rpl(_, x, a) => match a {
-            Operand::Variable(y) => (x as u64) + 32 + 128 * (y as u64),
-            Operand::Constant(n) => (x as u64) + 64 + 128 * (n as u64),
-        },
+        Mark::Rm(_, x, _) => Key::Read(x),
+        Mark::Rpl(_, x, a) => Key::Assign(x, Expression::Single(a)),
     }
+}
+
+// The slot of a key.
+fn slot_of(c: Code) -> usize
+    ensures { λ r. ⌜ r < slots ⌝ }
+{
+    let n = SLOTS as u64;
+    let kind = c.kind % n;
+    let first = c.first % n;
+    let second = c.second % n;
+    let third = c.third % n;
+    ((kind + 8 * first + 64 * second + 17 * third) % n) as usize
 }
 
 // The same as `published_row`: equal conditions are labelled once, unless another takes the slot between.
 pub fn remembered_row(
     m: Mark,
     n: usize,
-    facts: &[[u64; WORDS]],
+    rows: &[u64],
+    codes: &[[u64; CODE_WORDS]],
     flow: &[u16],
-    keys: &mut [u64],
-    rows: &mut [[u64; WORDS]],
+    keys: &mut [[u64; CODE_WORDS]],
+    memory: &mut [[u64; WORDS]],
 ) -> [u64; WORDS]
-    requires { ⌜ SomeKnown n (now facts) (now flow) ⌝ }
-    requires { ⌜ ValidMark m × Remembering n (now facts) (now flow) (now keys) (now rows) ⌝ }
-    ensures { λ r. ⌜ ((P : List Statement) → Known P n (now (facts .entry)) (now (flow .entry)) → RowFor P m r) × Remembering n (now (facts .entry)) (now (flow .entry)) (now (keys .exit)) (now (rows .exit)) ⌝ }
+    requires { ⌜ SomeKnown n (now rows) (now codes) (now flow) ⌝ }
+    requires { ⌜ ValidMark m × Remembering n (now rows) (now codes) (now flow) (now keys) (now memory) ⌝ }
+    ensures { λ r. ⌜ ((P : List Statement) → Known P n (now (rows .entry)) (now (codes .entry)) (now (flow .entry)) → RowFor P m r) × Remembering n (now (rows .entry)) (now (codes .entry)) (now (flow .entry)) (now (keys .exit)) (now (memory .exit)) ⌝ }
 {
-    let key = key_of(m);
-    let slot = (key % (SLOTS as u64)) as usize;
-    if keys[slot] == key {
-        return rows[slot];
+    let key = codes::statement_code(key_of(m));
+    let slot = slot_of(key);
+    if codes::same_words(key, &keys[slot]) {
+        return memory[slot];
     }
-    let row = published_row(m, n, facts, flow);
-    keys[slot] = key;
-    rows[slot] = row;
+    let row = published_row(m, n, rows, codes, flow);
+    let words = codes::words_of(key);
+    keys[slot] = words;
+    memory[slot] = row;
     row
 }

@@ -1,14 +1,16 @@
 -- What is left of filling one part. Assumes nothing.
 use mathlib.Core.Path.{_≡_}
-use mathlib.Core.List.{List, _++_}
-use Prim.Native.Nat.{ℕ, _+_, _*_, _-_, _≤_}
+use mathlib.Core.List.{List}
+use Prim.Native.Nat.{ℕ, _+_, _*_, _≤_, _<_}
 use native.Mathlib.Omega.{arith}
-use lib.ListN.{length, take, drop, length-take, length-drop}
+use lib.ListN.{length, getD, set, take, drop, length-drop}
+use lib.Seq.{getD-drop}
 use Rattle.tokens.specs.Parsing.{Parsed, found, misspelled}
 use Rattle.bits.specs.Row.{member}
+use Rattle.bits.proofs.Tables.{replaced, replaced-row, replaced-kept}
+use Rattle.graph.proofs.Lists.{copy-more as entry-copied}
 use Rattle.labelling.specs.Labels.{Labelled}
-use Rattle.table.specs.Table.{part-words, row, Written}
-use Rattle.table.proofs.Splice.{splice-part, splice-kept}
+use Rattle.table.specs.Table.{Written}
 
 -- a text is read in one way
 pub found-same : {A : Type 0} {p : Parsed A} {a b : A} {t u : List ℕ} → p ≡ found a t → p ≡ found b u → a ≡ b
@@ -17,20 +19,12 @@ found-same e f = cc
 pub found-not : {A : Type 0} {p : Parsed A} {a : A} {t : List ℕ} → p ≡ misspelled → p ≡ found a t → ⊥
 found-not e f = let z : _≡_ {A = ℕ} 0 1 = cc in omega arith
 
-module _ (t : List ℕ) (k : ℕ) (fits : part-words * k + part-words ≤ length t) where
-  -- the lent part's length
-  pub part-length : length (take (part-words * k + part-words - part-words * k) (drop (part-words * k) t)) ≡ part-words
-  part-length = simp (length-take, length-drop) (omega arith)
+-- the row that was lent became ys
+pub part-written : (w : ℕ) (t : List ℕ) (k : ℕ) (fits : w * k + w ≤ length t) (ys : List ℕ) (n : ℕ) (X : ℕ → Type 0) → length ys ≡ w → Labelled n (member ys) X
+    → Written w t (replaced w t k fits ys) k n X
+part-written w t k fits ys n X l lab = record { kept = replaced-kept w t k fits ys l; labelled = rw (replaced-row w t k fits ys l) lab }
 
-  pub row-length : length (row t k) ≡ part-words
-  row-length = simp (length-take, length-drop) (omega arith)
-
-  -- the part that was lent became the row ys
-  pub part-written : (ys : List ℕ) (n : ℕ) (X : ℕ → Type 0) → length ys ≡ part-words → Labelled n (member ys) X
-      → Written t (take (part-words * k) t ++ (ys ++ drop (part-words * k + part-words - part-words * k) (drop (part-words * k) t))) k n X
-  part-written ys n X l lab =
-      let d : part-words * k + part-words - part-words * k ≡ part-words = omega arith in
-      record {
-        kept = splice-kept t ys (part-words * k) _ part-words d fits l;
-        labelled = rw (splice-part t ys (part-words * k) (part-words * k + part-words - part-words * k) part-words d fits l) lab;
-      }
+-- one word more of a copy
+pub copy-more : (xs ys : List ℕ) (a i : ℕ) → take i ys ≡ take i (drop a xs) → i < length ys → a + i < length xs
+    → take (i + 1) (set ys i (getD xs (a + i) 0)) ≡ take (i + 1) (drop a xs)
+copy-more xs ys a i e h l = rw (← getD-drop a xs i 0) (entry-copied (drop a xs) ys i e h (rw (length-drop a xs) (omega arith)))

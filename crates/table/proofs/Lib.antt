@@ -1,6 +1,5 @@
 pub mod Rules
 pub mod Rows
-pub mod Splice
 pub mod Lent
 pub mod Operands
 pub mod Parts

@@ -20,20 +20,20 @@ use Rattle.condition.proofs.Words.{unary-code, binary-code}
 use Rattle.atom_reader.specs.Parsing.{parseAtom}
 use Rattle.truth.specs.Truth.{Holds, Sat}
 use Rattle.condition.specs.declared.Atom.{Atom}
-use Rattle.table.specs.Table.{row, partAt, Written}
+use Rattle.table.specs.Table.{part-words, row, partAt, Written}
 use Rattle.table.specs.Rules.{Operation, codeOf, ruleOf, SatRule, flowSteps, BothWays}
 use Rattle.table.specs.Known.{Known}
 use Rattle.table.specs.Fill.{leftOf, Tells, PartReady}
 use Rattle.table.proofs.Operands.{rule-sat, Operands, operands}
 
-written-map : {old new : List ℕ} {k n : ℕ} (X Y : ℕ → Type 0) → ((s : ℕ) → s < n → X s ↔ Y s) → Written old new k n X → Written old new k n Y
+written-map : {v : ℕ} {old new : List ℕ} {k n : ℕ} (X Y : ℕ → Type 0) → ((s : ℕ) → s < n → X s ↔ Y s) → Written v old new k n X → Written v old new k n Y
 written-map X Y f w =
     record {
       kept = w .kept;
       labelled = record { exact = λ s l. Iff·trans (w .labelled .exact s l) (f s l); beyond = w .labelled .beyond };
     }
 
-module _ {P : List Statement} {n : ℕ} {facts : List (List ℕ)} {flow t : List ℕ} {c : Condition} {w : ℕ} {old : List ℕ} {k : ℕ} (r : PartReady P n facts flow t c w old k) where
+module _ {P : List Statement} {n : ℕ} {rows : List ℕ} {codes : List (List ℕ)} {flow t : List ℕ} {c : Condition} {w : ℕ} {old : List ℕ} {k : ℕ} (r : PartReady P n rows codes flow t c w old k) where
   abbrev size : n ≡ length P
   size = sym (r .known .size)
 
@@ -46,39 +46,39 @@ module _ {P : List Statement} {n : ℕ} {facts : List (List ℕ)} {flow t : List
     left-inside = ops .inside
 
     pub left-clear : (s : ℕ) → length P ≤ s → member (row old (leftOf w k)) s ≡ false
-    left-clear s l = r .rows (leftOf w k) (ops .inside) .beyond s l
+    left-clear s l = r .filled (leftOf w k) (ops .inside) .beyond s l
 
     pub before-clear : (s : ℕ) → length P ≤ s → member (row old (k - 1)) s ≡ false
-    before-clear s l = let i = ops .inside in r .rows (k - 1) (omega arith) .beyond s l
+    before-clear s l = let i = ops .inside in r .filled (k - 1) (omega arith) .beyond s l
 
     pub operator-written : (new : List ℕ) (left : ℕ) → left ≡ leftOf w k
-        → ((x : Operation) → codeOf x ≡ codeIn w → Written old new k n (SatRule (flowSteps n (flowAt flow)) (ruleOf x) (So (member (row old left))) (So (member (row old (k - 1))))))
-        → Written old new k (length P) (Sat P (partAt c k))
+        → ((x : Operation) → codeOf x ≡ codeIn w → Written part-words old new k n (SatRule (flowSteps n (flowAt flow)) (ruleOf x) (So (member (row old left))) (So (member (row old (k - 1))))))
+        → Written part-words old new k (length P) (Sat P (partAt c k))
     operator-written new left is h =
         let i = ops .inside in
         let g =
-        subst (λ (j : ℕ). Written old new k (length P) (SatRule (flowSteps (length P) (flowAt flow)) (ruleOf (ops .operation)) (So (member (row old j))) (So (member (row old (k - 1)))))) is
-        (subst (λ (m : ℕ). Written old new k m (SatRule (flowSteps m (flowAt flow)) (ruleOf (ops .operation)) (So (member (row old left))) (So (member (row old (k - 1)))))) size
+        subst (λ (j : ℕ). Written part-words old new k (length P) (SatRule (flowSteps (length P) (flowAt flow)) (ruleOf (ops .operation)) (So (member (row old j))) (So (member (row old (k - 1)))))) is
+        (subst (λ (m : ℕ). Written part-words old new k m (SatRule (flowSteps m (flowAt flow)) (ruleOf (ops .operation)) (So (member (row old left))) (So (member (row old (k - 1)))))) size
         (h (ops .operation) (ops .coded))) in
         written-map _ (Sat P (partAt c k))
         (λ s l. Iff·trans
-        (rule-sat P (flowAt flow) (r .known .flows) _ _ (Sat P (partAt c (leftOf w k))) (Sat P (partAt c (k - 1))) (λ u b. r .rows (leftOf w k) i .exact u b) (λ u b. r .rows (k - 1) (omega arith) .exact u b) (ruleOf (ops .operation)) s l)
+        (rule-sat P (flowAt flow) (r .known .flows) _ _ (Sat P (partAt c (leftOf w k))) (Sat P (partAt c (k - 1))) (λ u b. r .filled (leftOf w k) i .exact u b) (λ u b. r .filled (k - 1) (omega arith) .exact u b) (ruleOf (ops .operation)) s l)
         (ops .sat s))
         g
 
   -- a part with an atom's
   pub atom-written : (new : List ℕ) → codeIn w ≡ 0
-      → ((Q : List Statement) (a : Atom) (rest : List ℕ) → length Q ≡ n → FactsOf Q facts → parseAtom (drop (startIn w) t) ≡ found a rest → Written old new k n (Holds Q a))
-      → Written old new k (length P) (Sat P (partAt c k))
+      → ((Q : List Statement) (a : Atom) (rest : List ℕ) → length Q ≡ n → FactsOf Q rows codes → parseAtom (drop (startIn w) t) ≡ found a rest → Written part-words old new k n (Holds Q a))
+      → Written part-words old new k (length P) (Sat P (partAt c k))
   unfolding Sat
   atom-written new code h = go (partAt c k) refl (r .tells)
     where
-      go : (q : Condition) → partAt c k ≡ q → Tells t c k w q → Written old new k (length P) (Sat P (partAt c k))
-      go (atom a) e d = rw e (subst (λ (m : ℕ). Written old new k m (Holds P a)) size (h P a (d .1) (r .known .size) (r .known .found) (d .2)))
+      go : (q : Condition) → partAt c k ≡ q → Tells t c k w q → Written part-words old new k (length P) (Sat P (partAt c k))
+      go (atom a) e d = rw e (subst (λ (m : ℕ). Written part-words old new k m (Holds P a)) size (h P a (d .1) (r .known .size) (r .known .found) (d .2)))
       go (unary o p) e d = let b = unary-code o in absurd (omega arith)
       go (binary o p q) e d = let b = binary-code o in absurd (omega arith)
 
-pub both-ways : {P : List Statement} {n : ℕ} {facts : List (List ℕ)} {flow : List ℕ} → Known P n facts flow → BothWays n flow
+pub both-ways : {P : List Statement} {n : ℕ} {rows : List ℕ} {codes : List (List ℕ)} {flow : List ℕ} → Known P n rows codes flow → BothWays n flow
 both-ways x = rw (← x .size) (record { size = x .flow-size; ahead = x .flows .forward; behind = x .flows .backward })
 
 -- the parts of the numbers that are lent on

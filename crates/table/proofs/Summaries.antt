@@ -11,24 +11,23 @@ use borrow.Author.Tests.{ltb-true, ltb-false}
 use Rattle.bits.specs.Row.{member, countBelow, First}
 use Rattle.bits.proofs.Counts.{count-ext}
 use Rattle.base.proofs.Bools.{clash}
-use Rattle.table.specs.Table.{part-words}
 use Rattle.table.specs.Summary.{Counts}
 
-module _ (ws row : List ℕ) (is : ws ≡ row) (size : length row ≡ part-words) (satisfied place : ℕ)
+module _ (w : ℕ) (ws row : List ℕ) (is : ws ≡ row) (size : length row ≡ w) (satisfied place : ℕ)
     (counted : satisfied ≡ countBelow (member ws) (length ws * 64)) (first : First (member ws) (length ws * 64) place) where
-  wide : length ws * 64 ≡ part-words * 64
+  wide : length ws * 64 ≡ w * 64
   wide = ap (λ (n : ℕ). n * 64) (ap length is ∙ size)
 
-  count-row : satisfied ≡ countBelow (member row) (part-words * 64)
+  count-row : satisfied ≡ countBelow (member row) (w * 64)
   count-row = rw (wide, is) at counted
 
-  first-row : First (member row) (part-words * 64) place
+  first-row : First (member row) (w * 64) place
   first-row = rw (wide, is) at first
 
-  pub counts-found : place < part-words * 64 → Counts (member row) (part-words * 64) satisfied (place + 1)
+  pub counts-found : place < w * 64 → Counts (member row) (w * 64) satisfied (place + 1)
   counts-found l = record { counted = count-row; earliest = inr (place, refl, l, first-row .found l, first-row .before) }
 
-  pub counts-none : part-words * 64 ≤ place → Counts (member row) (part-words * 64) satisfied 0
+  pub counts-none : w * 64 ≤ place → Counts (member row) (w * 64) satisfied 0
   counts-none l = record { counted = count-row; earliest = inl (refl, λ s h. first-row .before s (omega arith)) }
 
 -- the counts of the same set

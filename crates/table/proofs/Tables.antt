@@ -7,7 +7,8 @@ use borrow.Author.Count.{below-more}
 use lib.ListN.{length, getD, drop}
 use lib.Seq.{ext-getD, getD-take, getD-drop}
 use Rattle.language.specs.declared.Statement.{Statement}
-use Rattle.bits.specs.Row.{member}
+use Rattle.bits.specs.Row.{member, Kept}
+use Rattle.bits.proofs.Tables.{row-kept}
 use Rattle.labelling.specs.Labels.{Labelled}
 use Rattle.condition.specs.Condition.{Condition, atom, unary, binary, spellCondition, parts}
 use Rattle.condition.specs.Words.{codeIn, leftIn}
@@ -15,10 +16,9 @@ use Rattle.condition.specs.Texts.{most-parts}
 use Rattle.truth.specs.Truth.{Sat}
 use Rattle.condition.proofs.Words.{operatorCode, Stands, stands-from, Operands, held-describes}
 use Rattle.atom_reader.proofs.Spelling.{atom-complete}
-use Rattle.table.specs.Table.{part-words, row, partAt, Kept, Written}
+use Rattle.table.specs.Table.{part-words, row, partAt, Written}
 use Rattle.table.specs.Known.{Known, SomeKnown}
 use Rattle.table.specs.Fill.{Tells, RowsRight, PartReady, HeldOf, SomeHeld, TableOf}
-use Rattle.table.proofs.Lent.{row-length}
 
 -- what the reader's words tell
 pub word-tells : {t : List ℕ} {c : Condition} {m : ℕ} {ws : List ℕ} → HeldOf t c m ws → (k : ℕ) → k < m → Tells t c k (getD ws k 0) (partAt c k)
@@ -32,53 +32,43 @@ word-tells {t = t} {c = c} {ws = ws} h k l = let d = held-describes (h .taken) (
         let n : leftIn (getD ws k 0) ≡ o .left = o .named ∙ omega arith in
         (e, rw n (o .earlier), rw n (o .first), o .second)
 
--- a row before the words that were written is kept
+-- the rows before the one that was written are kept
 module _ (old new : List ℕ) (k : ℕ) (kept : Kept old new (part-words * k) part-words) (fits : part-words * k + part-words ≤ length old) where
-  row-kept : (j : ℕ) → j < k → row new j ≡ row old j
-  row-kept j h =
-      let s = kept .same in
-      let a : length (row new j) ≡ part-words = row-length new j (omega arith) in
-      let b : length (row old j) ≡ part-words = row-length old j (omega arith) in
-      ext-getD 0 (row new j) (row old j) (a ∙ sym b)
-      (λ i l. getD-take part-words (drop (part-words * j) new) i 0 (omega arith) ∙ getD-drop (part-words * j) new i 0
-      ∙ kept .before (part-words * j + i) (omega arith)
-      ∙ sym (getD-take part-words (drop (part-words * j) old) i 0 (omega arith) ∙ getD-drop (part-words * j) old i 0))
-
   pub rows-more : (P : List Statement) (c : Condition) → RowsRight P c old k → Labelled (length P) (member (row new k)) (Sat P (partAt c k)) → RowsRight P c new (k + 1)
   rows-more P c r l =
       below-more (λ j. Labelled (length P) (member (row new j)) (Sat P (partAt c j))) k
-      (λ j h. subst (λ (w : List ℕ). Labelled (length P) (member w) (Sat P (partAt c j))) (sym (row-kept j h)) (r j h)) l
+      (λ j h. subst (λ (w : List ℕ). Labelled (length P) (member w) (Sat P (partAt c j))) (sym (row-kept part-words old new k kept j (omega arith) (omega arith))) (r j h)) l
 
 -- the parts before k are filled, and the words from there on are kept
-pub record SoFar (n : ℕ) (facts : List (List ℕ)) (flow t : List ℕ) (m : ℕ) (ws old table : List ℕ) (k : ℕ) : Type 0 where
+pub record SoFar (n : ℕ) (rows : List ℕ) (codes : List (List ℕ)) (flow t : List ℕ) (m : ℕ) (ws old table : List ℕ) (k : ℕ) : Type 0 where
   pub within : k ≤ m
   pub room : part-words * m ≤ length old
   pub same : length table ≡ length old
-  pub rows : (P : List Statement) (c : Condition) → Known P n facts flow → HeldOf t c m ws → RowsRight P c table k
+  pub filled : (P : List Statement) (c : Condition) → Known P n rows codes flow → HeldOf t c m ws → RowsRight P c table k
   pub past : (j : ℕ) → part-words * k ≤ j → getD table j 0 ≡ getD old j 0
 
-module _ {n : ℕ} {facts : List (List ℕ)} {flow t : List ℕ} {m : ℕ} {ws old table : List ℕ} {k : ℕ} (i : SoFar n facts flow t m ws old table k) where
+module _ {n : ℕ} {rows : List ℕ} {codes : List (List ℕ)} {flow t : List ℕ} {m : ℕ} {ws old table : List ℕ} {k : ℕ} (i : SoFar n rows codes flow t m ws old table k) where
   module _ (l : k < m) where
-    pub part-ready : (P : List Statement) (c : Condition) → Known P n facts flow → HeldOf t c m ws → PartReady P n facts flow t c (getD ws k 0) table k
-    part-ready P c x h = record { known = x; room = omega (arith, i .same, i .room); tells = word-tells h k l; rows = i .rows P c x h }
+    pub part-ready : (P : List Statement) (c : Condition) → Known P n rows codes flow → HeldOf t c m ws → PartReady P n rows codes flow t c (getD ws k 0) table k
+    part-ready P c x h = record { known = x; room = omega (arith, i .same, i .room); tells = word-tells h k l; filled = i .filled P c x h }
 
-    pub so-far-more : SomeKnown n facts flow → SomeHeld t m ws → (new : List ℕ)
-        → ((P : List Statement) (c : Condition) → Known P n facts flow → HeldOf t c m ws → Written table new k (length P) (Sat P (partAt c k))) → SoFar n facts flow t m ws old new (k + 1)
+    pub so-far-more : SomeKnown n rows codes flow → SomeHeld t m ws → (new : List ℕ)
+        → ((P : List Statement) (c : Condition) → Known P n rows codes flow → HeldOf t c m ws → Written part-words table new k (length P) (Sat P (partAt c k))) → SoFar n rows codes flow t m ws old new (k + 1)
     so-far-more one some new w =
         let kept = w (one .P) (some .c) (one .known) (some .held) .kept in
         record {
           within = omega arith;
           room = i .room;
           same = kept .same ∙ i .same;
-          rows = λ P c x h. rows-more table new k (w P c x h .kept) (omega (arith, i .same, i .room)) P c (i .rows P c x h) (w P c x h .labelled);
+          filled = λ P c x h. rows-more table new k (w P c x h .kept) (omega (arith, i .same, i .room)) P c (i .filled P c x h) (w P c x h .labelled);
           past = λ j b. kept .past j (omega arith) ∙ i .past j (omega arith);
         }
 
-  pub filled : m ≤ k → (P : List Statement) (c : Condition) → Known P n facts flow → HeldOf t c m ws → TableOf P c old table
-  filled l P c x h =
+  pub all-filled : m ≤ k → (P : List Statement) (c : Condition) → Known P n rows codes flow → HeldOf t c m ws → TableOf P c old table
+  all-filled l P c x h =
       let counted = h .held .counted in
       let b = i .within in
-      record { same = i .same; rows = λ j d. i .rows P c x h j (omega arith); past = λ j d. i .past j (omega arith) }
+      record { same = i .same; rows = λ j d. i .filled P c x h j (omega arith); past = λ j d. i .past j (omega arith) }
 
 -- there are at most as many parts as words
 pub parts-held : {t : List ℕ} {m : ℕ} {ws : List ℕ} → SomeHeld t m ws → m ≤ most-parts

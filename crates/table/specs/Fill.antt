@@ -34,17 +34,17 @@ abbrev pub RowsRight : List Statement → Condition → List ℕ → ℕ → Typ
 RowsRight P c table k = (j : ℕ) → j < k → Labelled (length P) (member (row table j)) (Sat P (partAt c j))
 
 -- part k can be filled
-pub record PartReady (P : List Statement) (n : ℕ) (facts : List (List ℕ)) (flow t : List ℕ) (c : Condition) (w : ℕ) (table : List ℕ) (k : ℕ) : Type 0 where
-  pub known : Known P n facts flow
+pub record PartReady (P : List Statement) (n : ℕ) (rows : List ℕ) (codes : List (List ℕ)) (flow t : List ℕ) (c : Condition) (w : ℕ) (table : List ℕ) (k : ℕ) : Type 0 where
+  pub known : Known P n rows codes flow
   pub room : part-words * k + part-words ≤ length table
   pub tells : Tells t c k w (partAt c k)
-  pub rows : RowsRight P c table k
+  pub filled : RowsRight P c table k
 
 -- the same of some program and condition
-pub record SomeReady (n : ℕ) (facts : List (List ℕ)) (flow t : List ℕ) (w : ℕ) (table : List ℕ) (k : ℕ) : Type 0 where
+pub record SomeReady (n : ℕ) (rows : List ℕ) (codes : List (List ℕ)) (flow t : List ℕ) (w : ℕ) (table : List ℕ) (k : ℕ) : Type 0 where
   pub P : List Statement
   pub c : Condition
-  pub ready : PartReady P n facts flow t c w table k
+  pub ready : PartReady P n rows codes flow t c w table k
 
 -- the text is taken as the condition c, and the first m of the words are those of its parts
 pub record HeldOf (t : List ℕ) (c : Condition) (m : ℕ) (ws : List ℕ) : Type 0 where

@@ -1,30 +1,24 @@
 -- The table of a condition's parts: document 01, "Conditions", last paragraph.
-use mathlib.Core.Path.{_≡_}
 use mathlib.Core.List.{List}
-use Prim.Native.Nat.{ℕ, _+_, _-_, _*_, _≤_, _<_}
-use lib.ListN.{length, getD, take, drop}
-use Rattle.bits.specs.Row.{member}
+use Prim.Native.Nat.{ℕ, _*_}
+use lib.ListN.{getD}
+use Rattle.program.specs.Program.{row-words}
+use Rattle.bits.specs.Row.{member, rowOf, Kept}
 use Rattle.labelling.specs.Labels.{Labelled}
 use Rattle.condition.specs.Condition.{Condition, atom, parts}
 use Rattle.condition.specs.declared.Atom.the-variants.{True}
 
 -- "Part k, counted from 0, fills 64-bit words 4k to 4k+3 of the lent table"
 abbrev pub part-words : ℕ
-part-words = 4
+part-words = row-words
 
 abbrev pub row : List ℕ → ℕ → List ℕ
-row ws k = take part-words (drop (part-words * k) ws)
+row ws k = rowOf part-words ws k
 
--- the table is as it was, but for the n words from `at` on
-pub record Kept (old new : List ℕ) (at n : ℕ) : Type 0 where
-  pub same : length new ≡ length old
-  pub before : (m : ℕ) → m < at → getD new m 0 ≡ getD old m 0
-  pub past : (m : ℕ) → at + n ≤ m → getD new m 0 ≡ getD old m 0
-
--- part k's words now hold the places below n at which X is true; all other words are kept
-pub record Written (old new : List ℕ) (k n : ℕ) (X : ℕ → Type 0) : Type 0 where
-  pub kept : Kept old new (part-words * k) part-words
-  pub labelled : Labelled n (member (row new k)) X
+-- row k, of w words, now holds the places below n at which X is true; all other words are kept
+pub record Written (w : ℕ) (old new : List ℕ) (k n : ℕ) (X : ℕ → Type 0) : Type 0 where
+  pub kept : Kept old new (w * k) w
+  pub labelled : Labelled n (member (rowOf w new k)) X
 
 -- part k of a condition; past its last part nothing is asked
 abbrev pub partAt : Condition → ℕ → Condition

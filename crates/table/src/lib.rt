@@ -14,7 +14,7 @@ ghost use Rattle.table.specs.Known.{Known, SomeKnown};
 ghost use Rattle.table.specs.Fill.{leftOf, PartReady, SomeReady, HeldOf, SomeHeld, TableOf};
 ghost use Rattle.program.specs.Program.{most};
 ghost use Rattle.flow.specs.FlowOf.{flowAt};
-ghost use Rattle.atoms.specs.Facts.{fact-rows, FactsOf};
+ghost use Rattle.atoms.specs.Facts.{FactsOf, Sized};
 ghost use Rattle.condition.specs.Condition.{Condition};
 ghost use Rattle.bits.specs.Row.{member};
 ghost use Rattle.ctl.specs.Paths.{So};
@@ -22,6 +22,7 @@ ghost use Rattle.labelling.specs.Labels.{Labelled, Rows};
 ghost use Rattle.truth.specs.Truth.{Holds, Sat};
 ghost use Rattle.table.specs.Rules.{Operation, codeOf, ruleOf, SatRule, flowSteps, BothWays};
 use atom_reader::AtomRead;
+use codes::CODE_WORDS;
 use condition::FIELD;
 use condition::LEFT;
 use condition::MOST_PARTS;
@@ -29,7 +30,7 @@ use condition::START;
 use labelling::Operator;
 
 // The words of a part: one bit for each statement.
-pub const WORDS: usize = 4;
+pub const WORDS: usize = program::ROW_WORDS;
 
 // How the row of an operator comes from the rows of its operands. A path operator: what is said of a path, of all paths, backward.
 pub enum Rule {
@@ -99,7 +100,7 @@ fn path_row(
 // The row of the operator that the rule is of, from the rows of its operands.
 fn operator_row(rule: Rule, n: usize, flow: &[u16], p: &[u64], q: &[u64], out: &mut [u64])
     requires { ⌜ BothWays n (now flow) ⌝ }
-    requires { ⌜ Rows n (now p) (now q) (now out) × (length (now out) ≡ 4) ⌝ }
+    requires { ⌜ Rows n (now p) (now q) (now out) × (length (now out) ≡ part-words) ⌝ }
     requires { ⌜ ((s : ℕ) → n ≤ s → member (now p) s ≡ false) × ((s : ℕ) → n ≤ s → member (now q) s ≡ false) ⌝ }
     ensures { λ _. ⌜ Labelled n (member (now (out .exit))) (SatRule (flowSteps n (flowAt (now (flow .entry)))) rule (So (member (now (p .entry)))) (So (member (now (q .entry))))) ⌝ }
 {
@@ -131,15 +132,23 @@ pub fn row_of(table: &[u64], k: usize) -> [u64; WORDS]
     words
 }
 
-// Part k becomes the row of an operator, from those of its left operand's part and of the part before it.
-fn fill_operator(code: u64, left: usize, n: usize, flow: &[u16], table: &mut [u64], k: usize)
+// Part k becomes the row of an operator, from those of its operands' parts; of a unary operator the left one counts.
+fn fill_operator(
+    code: u64,
+    left: usize,
+    right: usize,
+    n: usize,
+    flow: &[u16],
+    table: &mut [u64],
+    k: usize,
+)
     requires { ⌜ BothWays n (now flow) × (n ≤ part-words * 64) ⌝ }
-    requires { ⌜ (left < k) × (part-words * k + part-words ≤ length (now table)) ⌝ }
-    requires { ⌜ ((s : ℕ) → n ≤ s → member (row (now table) left) s ≡ false) × ((s : ℕ) → n ≤ s → member (row (now table) (k - 1)) s ≡ false) ⌝ }
-    ensures { λ _. ⌜ ((x : Operation) → codeOf x ≡ code → Written (now (table .entry)) (now (table .exit)) k n (SatRule (flowSteps n (flowAt (now (flow .entry)))) (ruleOf x) (So (member (row (now (table .entry)) left))) (So (member (row (now (table .entry)) (k - 1)))))) ⌝ }
+    requires { ⌜ (left < k) × (right < k) × (part-words * k + part-words ≤ length (now table)) ⌝ }
+    requires { ⌜ ((s : ℕ) → n ≤ s → member (row (now table) left) s ≡ false) × ((s : ℕ) → n ≤ s → member (row (now table) right) s ≡ false) ⌝ }
+    ensures { λ _. ⌜ ((x : Operation) → codeOf x ≡ code → Written part-words (now (table .entry)) (now (table .exit)) k n (SatRule (flowSteps n (flowAt (now (flow .entry)))) (ruleOf x) (So (member (row (now (table .entry)) left))) (So (member (row (now (table .entry)) right))))) ⌝ }
 {
     let p = row_of(&*table, left);
-    let q = row_of(&*table, k - 1);
+    let q = row_of(&*table, right);
     let rule = rule_of(code);
     let at = WORDS * k;
     let end = at + WORDS;
@@ -151,20 +160,21 @@ fn fill_atom(
     text: &[u8],
     start: usize,
     n: usize,
-    facts: &[[u64; WORDS]],
+    rows: &[u64],
+    codes: &[[u64; CODE_WORDS]],
     table: &mut [u64],
     k: usize,
 )
-    requires { ⌜ (n ≤ most) × (length (now facts) ≡ fact-rows) ⌝ }
+    requires { ⌜ (n ≤ most) × Sized (now rows) (now codes) ⌝ }
     requires { ⌜ part-words * k + part-words ≤ length (now table) ⌝ }
-    ensures { λ _. ⌜ ((P : List StatementOf) (a : AtomOf) (rest : List ℕ) → length P ≡ n → FactsOf P (now (facts .entry)) → parseAtom (drop start (now (text .entry))) ≡ found a rest → Written (now (table .entry)) (now (table .exit)) k n (Holds P a)) ⌝ }
+    ensures { λ _. ⌜ ((P : List StatementOf) (a : AtomOf) (rest : List ℕ) → length P ≡ n → FactsOf P (now (rows .entry)) (now (codes .entry)) → parseAtom (drop start (now (text .entry))) ≡ found a rest → Written part-words (now (table .entry)) (now (table .exit)) k n (Holds P a)) ⌝ }
 {
     let AtomRead::Found(a, _) = atom_reader::atom(text, start) else {
         return;
     };
     let at = WORDS * k;
     let end = at + WORDS;
-    atoms::row(a, n, facts, &mut table[at..end]);
+    atoms::row(a, n, rows, codes, &mut table[at..end]);
 }
 
 // The part of the left operand of part k's operator; of a unary operator it is the part before.
@@ -184,21 +194,22 @@ fn fill_part(
     text: &[u8],
     w: u64,
     n: usize,
-    facts: &[[u64; WORDS]],
+    rows: &[u64],
+    codes: &[[u64; CODE_WORDS]],
     flow: &[u16],
     table: &mut [u64],
     k: usize,
 )
-    requires { ⌜ SomeReady n (now facts) (now flow) (now text) w (now table) k ⌝ }
-    ensures { λ _. ⌜ ((P : List StatementOf) (c : Condition) → PartReady P n (now (facts .entry)) (now (flow .entry)) (now (text .entry)) c w (now (table .entry)) k → Written (now (table .entry)) (now (table .exit)) k (length P) (Sat P (partAt c k))) ⌝ }
+    requires { ⌜ SomeReady n (now rows) (now codes) (now flow) (now text) w (now table) k ⌝ }
+    ensures { λ _. ⌜ ((P : List StatementOf) (c : Condition) → PartReady P n (now (rows .entry)) (now (codes .entry)) (now (flow .entry)) (now (text .entry)) c w (now (table .entry)) k → Written part-words (now (table .entry)) (now (table .exit)) k (length P) (Sat P (partAt c k))) ⌝ }
 {
     let code = w % LEFT;
     if code == 0 {
         let start = (w / START % FIELD) as usize;
-        fill_atom(text, start, n, facts, table, k);
+        fill_atom(text, start, n, rows, codes, table, k);
     } else {
         let left = left_of(w, k);
-        fill_operator(code, left, n, flow, table, k);
+        fill_operator(code, left, k - 1, n, flow, table, k);
     }
 }
 
@@ -209,19 +220,20 @@ pub fn fill(
     words: [u64; MOST_PARTS],
     parts: usize,
     n: usize,
-    facts: &[[u64; WORDS]],
+    rows: &[u64],
+    codes: &[[u64; CODE_WORDS]],
     flow: &[u16],
     table: &mut [u64],
 )
-    requires { ⌜ SomeKnown n (now facts) (now flow) ⌝ }
+    requires { ⌜ SomeKnown n (now rows) (now codes) (now flow) ⌝ }
     requires { ⌜ SomeHeld (now text) parts words ⌝ }
     requires { ⌜ part-words * parts ≤ length (now table) ⌝ }
-    ensures { λ _. ⌜ ((P : List StatementOf) (c : Condition) → Known P n (now (facts .entry)) (now (flow .entry)) → HeldOf (now (text .entry)) c parts words → TableOf P c (now (table .entry)) (now (table .exit))) ⌝ }
+    ensures { λ _. ⌜ ((P : List StatementOf) (c : Condition) → Known P n (now (rows .entry)) (now (codes .entry)) (now (flow .entry)) → HeldOf (now (text .entry)) c parts words → TableOf P c (now (table .entry)) (now (table .exit))) ⌝ }
 {
     let mut k: usize = 0;
     while k < parts {
         let w = words[k];
-        fill_part(text, w, n, facts, flow, table, k);
+        fill_part(text, w, n, rows, codes, flow, table, k);
         k += 1;
     }
 }

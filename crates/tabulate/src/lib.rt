@@ -33,11 +33,21 @@ pub fn tabulate(program: &[u8], condition: &[u8], table: &mut [u64]) -> Tabulate
         condition_reader::Answer::Taken(parts) => {
             let words = conditions.words;
             let count = parts as usize;
-            let mut facts = atoms::blank();
-            atoms::find(p, &mut facts);
+            let mut rows = atoms::blank();
+            let mut codes = atoms::blank_codes();
+            atoms::find(p, &mut rows, &mut codes);
             let mut flow = flow::blank();
             flow::of(p, &mut flow);
-            table::fill(condition, words, count, p.count, &facts, &flow, table);
+            table::fill(
+                condition,
+                words,
+                count,
+                p.count,
+                &rows,
+                &codes,
+                &flow,
+                table,
+            );
             let last = count - 1;
             let summary = table::summary_of(&*table, last);
             TabulateAnswer::Filled(parts, summary.satisfied, summary.first)

@@ -32,8 +32,8 @@ decides-inside k n m is l =
     (λ e. let d : k ≤ n = leb-true k n e in (omega (arith, is), omega (arith, is)))
     (λ e i. let d : n < k = leb-false k n e in omega (arith, is, i .1))
 
--- the statement that the mark names is one of P, and one of 256
-pub inside-of : {P : List Statement} {n : ℕ} {facts : List (List ℕ)} {flow : List ℕ} → Known P n facts flow → (m : Mark) → Inside n (names m)
+-- the statement that the mark names is one of P, and one of all that there can be
+pub inside-of : {P : List Statement} {n : ℕ} {rows : List ℕ} {codes : List (List ℕ)} {flow : List ℕ} → Known P n rows codes flow → (m : Mark) → Inside n (names m)
     → Inside (length P) (names m) × Inside most (names m)
 inside-of k m i = ((i .0, omega (arith, i .1, k .size)), (i .0, omega (arith, i .1, k .size, k .few)))
 

@@ -5,7 +5,7 @@ ghost use mathlib.Core.Logic.{_↔_};
 ghost use Prim.Native.Nat.{ℕ, _≤_, _<_};
 ghost use lib.ListN.{length};
 ghost use Rattle.language.specs.declared.Statement.{Statement as StatementOf};
-ghost use Rattle.program.specs.Program.{most as statements-most};
+ghost use Rattle.program.specs.Program.{most as statements-most, row-words};
 ghost use Rattle.base.specs.Decides.{Decides};
 ghost use Rattle.program.specs.Reading.{statements, Held};
 ghost use Rattle.table.specs.Known.{Known, SomeKnown};
@@ -15,6 +15,7 @@ ghost use Rattle.marks.specs.declared.Mark.{Mark as MarkOf};
 ghost use Rattle.rewriting.specs.Verdicts.{Inside, place, Stands};
 ghost use Rattle.published_rows.specs.Memory.{Remembering};
 ghost use Rattle.verdicts.specs.Judging.{JudgedBy, Notes, SomeTaken, VerdictsOf, SomeJudged, RewritingOf};
+use codes::CODE_WORDS;
 use language::Statement;
 use marks::Mark;
 use marks::read::MarkRead;
@@ -36,7 +37,7 @@ fn is_inside(n: usize, m: Mark) -> bool
     k <= n as u32
 }
 
-// The place that the mark names, of the 256 that there can be.
+// The place that the mark names, of all that there can be.
 fn place_of(m: Mark) -> usize
     ensures { λ r. ⌜ (r < statements-most) × (Inside statements-most (names m) → r ≡ place m) ⌝ }
 {
@@ -55,16 +56,17 @@ fn verdict_of(
     m: Mark,
     i: Statement,
     n: usize,
-    facts: &[[u64; WORDS]],
+    rows: &[u64],
+    codes: &[[u64; CODE_WORDS]],
     flow: &[u16],
     named: &[u64],
-    keys: &mut [u64],
-    rows: &mut [[u64; WORDS]],
+    keys: &mut [[u64; CODE_WORDS]],
+    memory: &mut [[u64; WORDS]],
 ) -> Verdict
-    requires { ⌜ SomeKnown n (now facts) (now flow) ⌝ }
-    requires { ⌜ ValidMark m × (length (now named) ≡ 4) ⌝ }
-    requires { ⌜ Remembering n (now facts) (now flow) (now keys) (now rows) ⌝ }
-    ensures { λ r. ⌜ ((P : List StatementOf) → Known P n (now (facts .entry)) (now (flow .entry)) → JudgedBy P m i (now (named .entry)) r) × Remembering n (now (facts .entry)) (now (flow .entry)) (now (keys .exit)) (now (rows .exit)) ⌝ }
+    requires { ⌜ SomeKnown n (now rows) (now codes) (now flow) ⌝ }
+    requires { ⌜ ValidMark m × (length (now named) ≡ row-words) ⌝ }
+    requires { ⌜ Remembering n (now rows) (now codes) (now flow) (now keys) (now memory) ⌝ }
+    ensures { λ r. ⌜ ((P : List StatementOf) → Known P n (now (rows .entry)) (now (codes .entry)) (now (flow .entry)) → JudgedBy P m i (now (named .entry)) r) × Remembering n (now (rows .entry)) (now (codes .entry)) (now (flow .entry)) (now (keys .exit)) (now (memory .exit)) ⌝ }
 {
     let place = place_of(m);
     let missing = !is_inside(n, m);
@@ -78,7 +80,7 @@ fn verdict_of(
     if !rewriting::fits(m, i) {
         return Verdict::Unfit;
     }
-    let row = published_rows::remembered_row(m, n, facts, flow, keys, rows);
+    let row = published_rows::remembered_row(m, n, rows, codes, flow, keys, memory);
     if !bits::contains(&row, place) {
         return Verdict::Unmet;
     }
@@ -87,7 +89,7 @@ fn verdict_of(
 
 // Adds the place that the mark with this verdict names.
 fn note(m: Mark, v: Verdict, named: &mut [u64])
-    requires { ⌜ length (now named) ≡ 4 ⌝ }
+    requires { ⌜ length (now named) ≡ row-words ⌝ }
     ensures { λ _. ⌜ ((n : ℕ) → n ≤ statements-most → Stands v ↔ Inside n (names m) → Notes n m (now (named .entry)) (now (named .exit))) ⌝ }
 {
     if rewriting::stands(v) {
@@ -97,8 +99,15 @@ fn note(m: Mark, v: Verdict, named: &mut [u64])
 }
 
 // Judges each mark of the list on the program, whose facts and control-flow graph are lent: line j's verdict fills byte j.
-pub fn judge(marks: &[u8], p: Program, facts: &[[u64; WORDS]], flow: &[u16], verdicts: &mut [u8])
-    requires { ⌜ Held p × Known (statements p) (p .count) (now facts) (now flow) ⌝ }
+pub fn judge(
+    marks: &[u8],
+    p: Program,
+    rows: &[u64],
+    codes: &[[u64; CODE_WORDS]],
+    flow: &[u16],
+    verdicts: &mut [u8],
+)
+    requires { ⌜ Held p × Known (statements p) (p .count) (now rows) (now codes) (now flow) ⌝ }
     requires { ⌜ SomeTaken (now marks) × (most ≤ length (now verdicts)) ⌝ }
     ensures { λ _. ⌜ ((ms : List MarkOf) → Taken (now (marks .entry)) ms → VerdictsOf (statements p) ms (now (verdicts .entry)) (now (verdicts .exit))) ⌝ }
 {
@@ -106,7 +115,7 @@ pub fn judge(marks: &[u8], p: Program, facts: &[[u64; WORDS]], flow: &[u16], ver
     let mut named = atoms::blank_row();
     bits::clear(&mut named);
     let mut keys = published_rows::blank_keys();
-    let mut rows = published_rows::blank_memory();
+    let mut memory = published_rows::blank_memory();
     let mut j: usize = 0;
     let mut at: usize = 0;
     while at < marks.len() {
@@ -116,7 +125,7 @@ pub fn judge(marks: &[u8], p: Program, facts: &[[u64; WORDS]], flow: &[u16], ver
         let place = place_of(m);
         let e = p.entries[place];
         let i = e.statement;
-        let v = verdict_of(m, i, n, facts, flow, &named, &mut keys, &mut rows);
+        let v = verdict_of(m, i, n, rows, codes, flow, &named, &mut keys, &mut memory);
         verdicts[j] = rewriting::number_of(v);
         note(m, v, &mut named);
         j += 1;

@@ -14,7 +14,7 @@ ghost use Rattle.graph.specs.Graphs.{Turned};
 ghost use Rattle.worklist.specs.Worklist.{Skipped, Rest, Ready, Visited, Gathered, lesser, Space, Visit};
 
 // The first position from `start` on whose target is not in the set, or 0. The targets are places below n.
-fn skip(n: usize, link: &[u16], to: &[u16], start: usize, set: &[u64]) -> usize
+pub fn skip(n: usize, link: &[u16], to: &[u16], start: usize, set: &[u64]) -> usize
     requires { ⌜ From (now link) (now to) n start ⌝ }
     requires { ⌜ n ≤ length (now set) * 64 ⌝ }
     ensures { λ r. ⌜ Skipped (now (link .entry)) (now (to .entry)) (member (now (set .entry))) start r ⌝ }
@@ -32,7 +32,7 @@ fn skip(n: usize, link: &[u16], to: &[u16], start: usize, set: &[u64]) -> usize
 
 // Whether s joins the set, where some step of it leads there; for all paths, whether all steps do. `rest` moves on past the edges
 // that lead into the set, so that none is looked at twice.
-fn joins(
+pub fn joins(
     all: bool,
     head: &[u16],
     link: &[u16],

@@ -1,6 +1,6 @@
 -- `atoms::blank_row` meets its contract. Assumes nothing.
 use Rattle.bits.proofs.Rows.{zeros}
-use Rattle.atoms.specs.Facts.{row-words}
+use Rattle.program.specs.Program.{row-words}
 use Rattle.atoms.proofs.blank_row.Statement.{statement}
 use Rattle.atoms.proofs.blank_row.Tie as tie
 

@@ -1,52 +1,52 @@
--- `atoms::note` meets its contract, statement by statement. A valid statement's variables have rows. Assumes nothing.
-use mathlib.Core.Path.{_∙_}
-use native.Mathlib.Omega.{arith}
-use borrow.Author.Needs.{needs}
+-- `atoms::note` meets its contract: statement by statement. A valid statement's variables have rows. Assumes nothing.
 use Rattle.atoms.proofs.Found.{marked-none, marked-both}
+use native.Mathlib.Omega.{arith}
+use mathlib.Core.Path.{_∙_}
+use borrow.Author.Needs.{needs}
 use Rattle.atoms.proofs.note.Statement.{statement}
 use Rattle.atoms.proofs.note.Tie as tie
 
 mark-requires : tie.Need-mark-requires
 mark-requires c κs =
-    let pre = c .before .before .before .before .pre in
-    let low = rw (c .before .before .i .given .1) at (pre .0) in
-    (omega arith, pre .1, pre .2)
+    let pre = c .before .before .before .before .before .before .pre in
+    let low = rw (c .before .before .before .i .given .1) at (pre .0) in
+    (omega (arith, c .before .defined-row .ensures), pre .1, pre .2)
 
 mark-requires-2 : tie.Need-mark-requires-2
 mark-requires-2 c κs =
-    let pre = c .before .before .before .before .pre in
-    let low = rw (c .before .before .i2 .given .1) at (pre .0) in
-    (omega arith, pre .1, pre .2)
+    let pre = c .before .before .before .before .before .before .pre in
+    let low = rw (c .before .before .before .i2 .given .1) at (pre .0) in
+    (omega (arith, c .before .used-row .ensures), pre .1, pre .2)
 
 mark-requires-3 : tie.Need-mark-requires-3
 mark-requires-3 c κs =
-    let pre = c .before .before .before .before .pre in
-    let low = (rw (c .before .before .i3 .given .1) at (pre .0)) .0 in
-    (omega arith, pre .1, pre .2)
+    let pre = c .before .before .before .before .before .before .pre in
+    let low = (rw (c .before .before .before .i3 .given .1) at (pre .0)) .0 in
+    (omega (arith, c .before .defined-row2 .ensures), pre .1, pre .2)
 
 note-expression-requires : tie.Need-note-expression-requires
 note-expression-requires c κs =
-    let pre = c .before .before .before .before .before .before .before .pre in
-    ((rw (c .before .before .before .before .before .i3 .given .1) at (pre .0)) .1, pre .1, c .before .before .mark3 .ensures .same ∙ pre .2)
+    let pre = c .before .before .before .before .before .before .before .before .before .before .pre in
+    ((rw (c .before .before .before .before .before .before .before .i3 .given .1) at (pre .0)) .1, pre .1, c .before .before .before .mark3 .ensures .same ∙ pre .2)
 
 mark-requires-4 : tie.Need-mark-requires-4
 mark-requires-4 c κs =
-    let pre = c .before .before .before .before .pre in
-    let low = (rw (c .before .before .i4 .given .1) at (pre .0)) .0 in
-    (omega arith, pre .1, pre .2)
+    let pre = c .before .before .before .before .before .before .pre in
+    let low = (rw (c .before .before .before .i4 .given .1) at (pre .0)) .0 in
+    (omega (arith, c .before .used-row2 .ensures), pre .1, pre .2)
 
 returns : tie.Need-returns
-returns c = rw (c .before .before .before .before .i .given .1) (c .before .mark .ensures)
+returns c = rw (c .before .before .before .before .before .before .i .given .1) (rw (c .before .before .before .before .defined-row .ensures) at (c .before .before .mark .ensures))
 
 returns-2 : tie.Need-returns-2
-returns-2 c = rw (c .before .before .before .before .i2 .given .1) (c .before .mark2 .ensures)
+returns-2 c = rw (c .before .before .before .before .before .before .i2 .given .1) (rw (c .before .before .before .before .used-row .ensures) at (c .before .before .mark2 .ensures))
 
 returns-3 : tie.Need-returns-3
 returns-3 c =
-    rw (c .before .before .before .before .before .before .before .i3 .given .1) (marked-both (c .before .before .before .before .mark3 .ensures) (c .before .note-expression .ensures))
+    rw (c .before .before .before .before .before .before .before .before .before .before .i3 .given .1) (marked-both (rw (c .before .before .before .before .before .before .before .before .defined-row2 .ensures) at (c .before .before .before .before .before .before .mark3 .ensures)) (c .before .before .note-expression .ensures))
 
 returns-4 : tie.Need-returns-4
-returns-4 c = rw (c .before .before .before .before .i4 .given .1) (c .before .mark4 .ensures)
+returns-4 c = rw (c .before .before .before .before .before .before .i4 .given .1) (rw (c .before .before .before .before .used-row2 .ensures) at (c .before .before .mark4 .ensures))
 
 returns-5 : tie.Need-returns-5
 returns-5 c = rw (c .enum-told .given .1) (marked-none _ _)
@@ -56,21 +56,17 @@ note-spec =
     tie.close
     (tie.spec
     (λ c. search needs)
-    (λ c. search needs)
-    (λ c. search needs)
+    (λ c κs. search needs)
     mark-requires
     (λ c. search needs)
-    (λ c. search needs)
-    (λ c. search needs)
+    (λ c κs. search needs)
     mark-requires-2
     (λ c. search needs)
-    (λ c. search needs)
-    (λ c. search needs)
+    (λ c κs. search needs)
     mark-requires-3
     note-expression-requires
     (λ c. search needs)
-    (λ c. search needs)
-    (λ c. search needs)
+    (λ c κs. search needs)
     mark-requires-4
     (λ c. search needs)
     (λ c. search needs)

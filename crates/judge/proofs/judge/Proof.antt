@@ -36,38 +36,40 @@ returns-3 c =
     (inr (inl ((tested .before .if1 .left, tested .if2 .left), told .answer .given .0 .0, read .0, c .number-of .ensures)), refl)
 
 find-requires : tie.Need-find-requires
-find-requires c κs = let p = program-taken (c .before .before .before .before .before .before .before) in (p .1, (p .0 .program, c .before .blank .ensures))
+find-requires c κs =
+    let p = program-taken (c .before .before .before .before .before .before .before .before .before) in
+    (p .1, (p .0 .program, (c .before .before .before .blank .ensures, c .before .before .blank-codes .ensures)))
 
 of-requires : tie.Need-of-requires
-of-requires c κs = let p = program-taken (c .before .before .before .before .before .before .before .before .before .before .before) in (p .1, (p .0 .program, c .before .blank2 .ensures .size))
+of-requires c κs = let p = program-taken (c .before .before .before .before .before .before .before .before .before .before .before .before .before .before) in (p .1, (p .0 .program, c .before .blank2 .ensures .size))
 
 judge-requires : tie.Need-judge-requires
 judge-requires c κs =
-    let k = c .before .before .before .before .before .before .before .before .before .before .before .before in
+    let k = c .before .before .before .before .before .before .before .before .before .before .before .before .before .before .before .before in
     let p = program-taken (k .before .before .before .before) in
     let m = marks-taken k in
-    let of = c .before .before .before .before .of in
-    let known = known-program {flow = of .last .1 .0} (p .0) (p .1) (c .before .before .before .before .before .before .before .before .find .ensures) (of .ensures) in
-    ((p .1, known (omega (arith, of .kept, c .before .before .before .before .before .before .blank2 .ensures .size))), (record { ms = m .0; taken = m .1 }, k .before .before .before .before .before .before .before .before .if1 .left))
+    let of = c .before .before .before .before .before .of in
+    let known = known-program {flow = of .last .1 .0} (p .0) (p .1) (c .before .before .before .before .before .before .before .before .before .before .find .ensures) (of .ensures) in
+    ((p .1, known (omega (arith, of .kept, c .before .before .before .before .before .before .before .blank2 .ensures .size))), (record { ms = m .0; taken = m .1 }, k .before .before .before .before .before .before .before .before .if1 .left))
 
 rewrite-requires : tie.Need-rewrite-requires
 rewrite-requires c κs =
-    let k = c .before .before .before .before .before .before .before .before .before .before .before .before .before .before .before .before in
+    let k = c .before .before .before .before .before .before .before .before .before .before .before .before .before .before .before .before .before .before .before .before in
     let p = program-taken (k .before .before .before .before) in
     let m = marks-taken k in
     (p .1, some-judged (p .0) (m .1) (c .before .before .before .judge .ensures (m .0) (m .1)) (k .before .before .before .before .before .before .before .before .if1 .left))
 
 write-requires : tie.Need-write-requires
 write-requires c κs =
-    let k = c .before .before .before .before .before .before .before .before .before .before .before .before .before .before .before .before .before .before .before in
+    let k = c .before .before .before .before .before .before .before .before .before .before .before .before .before .before .before .before .before .before .before .before .before .before .before in
     let p = program-taken (k .before .before .before .before) in
     let m = marks-taken k in
     let w = c .before .before .rewrite .ensures (m .0) (m .1) in
     (w .held, omega (arith, k .before .before .before .before .before .before .before .if2 .left, text-short (p .0) (m .1) (c .before .before .before .before .before .before .judge .ensures (m .0) (m .1)) w))
 
-cast-bytes : tie.Need-cast-t39
-cast-bytes c =
-    let k = c .before .before .before .before .before .before .before .before .before .before .before .before .before .before .before .before .before .before .before .before .before .before in
+cast-t45 : tie.Need-cast-t45
+cast-t45 c =
+    let k = c .before .before .before .before .before .before .before .before .before .before .before .before .before .before .before .before .before .before .before .before .before .before .before .before .before .before in
     let p = program-taken (k .before .before .before .before) in
     let m = marks-taken k in
     omega (arith, c .before .before .write .ensures .after, text-short (p .0) (m .1) (c .before .before .before .before .before .before .before .before .before .judge .ensures (m .0) (m .1)) (c .before .before .before .before .before .rewrite .ensures (m .0) (m .1)))
@@ -83,7 +85,7 @@ returns-4 c =
 
 returns-5 : tie.Need-returns-5
 returns-5 c =
-    let k = c .before .before .before .before .before .before .before .before .before .before .before .before .before .before .before .before .before .before .before .before .before .before in
+    let k = c .before .before .before .before .before .before .before .before .before .before .before .before .before .before .before .before .before .before .before .before .before .before .before .before .before .before in
     let p = program-taken (k .before .before .before .before) in
     let m = marks-taken k in
     let judged = c .before .before .before .before .before .before .before .before .before .judge .ensures (m .0) (m .1) in
@@ -106,6 +108,8 @@ judge-spec =
     (λ c κs. search needs)
     (λ c. search needs)
     (λ c κs. search needs)
+    (λ c κs. search needs)
+    (λ c. search needs)
     (λ c. search needs)
     find-requires
     (λ c κs. search needs)
@@ -113,10 +117,11 @@ judge-spec =
     of-requires
     (λ c. search needs)
     (λ c. search needs)
+    (λ c. search needs)
     judge-requires
     rewrite-requires
     write-requires
-    cast-bytes
+    cast-t45
     returns-4
     (λ c. search needs)
     (λ c. search needs)

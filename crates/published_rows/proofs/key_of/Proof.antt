@@ -1,4 +1,4 @@
--- `key_of` meets its contract: it answers the key. Assumes nothing.
+-- `published_rows::key_of` meets its contract: mark by mark. Assumes nothing.
 use mathlib.Core.Path.{refl}
 use borrow.Author.Needs.{needs}
 use Rattle.published_rows.proofs.key_of.Statement.{statement}
@@ -8,31 +8,7 @@ returns : tie.Need-returns
 returns c = rw (c .before .m .given .1) refl
 
 returns-2 : tie.Need-returns-2
-returns-2 c = rw (c .before .before .before .before .m2 .given .1, c .before .a .given .1) refl
-
-returns-3 : tie.Need-returns-3
-returns-3 c = rw (c .before .before .before .before .m2 .given .1, c .before .a2 .given .1) refl
+returns-2 c = rw (c .before .m2 .given .1) refl
 
 pub key-of-spec : {M : Type 1} → statement M
-key-of-spec =
-    tie.close
-    (tie.spec
-    (λ c. search needs)
-    (λ c. search needs)
-    (λ c. search needs)
-    (λ c. search needs)
-    (λ c. search needs)
-    (λ c. search needs)
-    (λ c. search needs)
-    (λ c. search needs)
-    (λ c. search needs)
-    (λ c. search needs)
-    (λ c. search needs)
-    (λ c. search needs)
-    (λ c. search needs)
-    (λ c. search needs)
-    (λ c. search needs)
-    (λ c. search needs)
-    returns
-    returns-2
-    returns-3)
+key-of-spec = tie.close (tie.spec (λ c. search needs) (λ c. search needs) returns returns-2)

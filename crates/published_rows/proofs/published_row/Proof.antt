@@ -13,8 +13,8 @@ use Rattle.published_rows.proofs.published_row.Statement.{statement}
 use Rattle.published_rows.proofs.published_row.Tie as tie
 
 -- the condition's text has room
-room : (c : tie.After-blank-text) → length (spellCondition (published (c .before .before .args .m))) ≤ length (c .blank-text .result)
-room c = omega (arith, published-short (c .before .before .args .m) (c .before .before .pre .1), c .blank-text .ensures .size)
+room : (c : tie.After-blank-text) → length (spellCondition (published (c .before .before .before .args .m))) ≤ length (c .blank-text .result)
+room c = omega (arith, published-short (c .before .before .before .args .m) (c .before .before .before .pre .1), c .blank-text .ensures .size)
 
 array-share-prefix-text : tie.Need-array-share-prefix-text
 array-share-prefix-text c = put-within (c .before .write-published .ensures) (room (c .before .before .before))
@@ -24,12 +24,12 @@ slice-aggregate-row-of c = sym (length-take-le _ _ (array-share-prefix-text (c .
 
 row-of-requires : tie.Need-row-of-requires
 row-of-requires c κs =
-    let start = c .before .before .before .before .before .before in
+    let start = c .before .before .before .before .before .before .before in
     (start .pre .0, published-small (start .args .m) (start .pre .1) _ (put-front (c .before .before .write-published .ensures) (room (c .before .before .before .before))))
 
 returns : tie.Need-returns
 returns c =
-    let start = c .before .before .before .before .before .before .before in
+    let start = c .before .before .before .before .before .before .before .before in
     let text = put-front (c .before .before .before .write-published .ensures) (room (c .before .before .before .before .before)) in
     λ P k. published-labelled (start .args .m) (start .pre .1) _ text (c .row-of .ensures P k)
 

@@ -1,56 +1,67 @@
--- `remembered_row` meets its contract: the row of the slot where the key stands there, else the labelled one, and that is remembered.
--- Assumes nothing.
-use mathlib.Core.Path.{_∙_}
-use native.Mathlib.Omega.{arith}
-use borrow.Author.Needs.{needs}
-use Rattle.published_rows.specs.Memory.{Remembers}
+-- `published_rows::remembered_row` meets its contract: the row of the slot where the key stands there, else the labelled one, and that is remembered. Assumes nothing.
 use Rattle.published_rows.proofs.Memory.{remembers-more}
+use Rattle.published_rows.specs.Memory.{keyOf, keyWords, Remembers}
+use Rattle.codes.specs.declared.Code.{Code}
+use Rattle.codes.specs.Codes.{statementCode, codeWords}
+use Rattle.base.proofs.Decides.{decided-true}
+use native.Mathlib.Omega.{arith}
+use mathlib.Core.Path.{_≡_, ap, _∙_}
+use borrow.Author.Needs.{needs}
 use Rattle.published_rows.proofs.remembered_row.Statement.{statement}
 use Rattle.published_rows.proofs.remembered_row.Tie as tie
 
 -- what is remembered, of some program
-remembered : (s : tie.Start) → Remembers (s .pre .0 .P) (s .args .keys .now) (s .args .rows .now)
+remembered : (s : tie.Start) → Remembers (s .pre .0 .P) (s .args .keys .now) (s .args .memory .now)
 remembered s = s .pre .1 .1 (s .pre .0 .P) (s .pre .0 .known)
 
-slice-read-if1 : tie.Need-slice-read-if1
-slice-read-if1 c = omega (arith, remembered (c .before .before .before .before) .many-keys)
+-- the code is that of the mark's key
+key : (c : tie.After-statement-code) → c .statement-code .result ≡ statementCode (keyOf (c .before .before .before .before .args .m))
+key c = c .statement-code .ensures ∙ ap statementCode (c .before .key-of .ensures)
+
+index-1-same-words : tie.Need-index-1-same-words
+index-1-same-words c = omega (arith, c .slot-of .ensures, remembered (c .before .before .before .before .before) .many-keys)
 
 slice-copy-out-result : tie.Need-slice-copy-out-result
-slice-copy-out-result c = omega (arith, remembered (c .before .before .before .before .before) .many-rows)
+slice-copy-out-result c = omega (arith, c .before .before .before .before .slot-of .ensures, remembered (c .before .before .before .before .before .before .before .before .before) .many-rows)
 
 returns : tie.Need-returns
 returns c =
-    let start = c .before .before .before .before .before .before in
+    let start = c .before .before .before .before .before .before .before .before .before .before in
     let i = start .pre .1 in
-    (λ P k. i .1 P k .right _ (omega arith) (start .args .m) (i .0) (c .before .if1 .taken ∙ c .before .before .before .key-of .ensures), i .1)
+    let same = decided-true _ (c .before .if1 .taken) (c .before .before .same-words .ensures) in
+    (λ P k. i .1 P k .right _ (c .before .before .before .before .before .slot-of .ensures) (start .args .m) (same ∙ ap codeWords (key (c .before .before .before .before .before .before))), i .1)
 
-slice-write-keys : tie.Need-slice-write-keys
-slice-write-keys c = omega (arith, remembered (c .before .before .before .before .before .before) .many-keys)
+slice-set-from-words : tie.Need-slice-set-from-words
+slice-set-from-words c = omega (arith, c .before .before .before .before .before .before .slot-of .ensures, remembered (c .before .before .before .before .before .before .before .before .before .before .before) .many-keys)
 
 slice-set-from-row : tie.Need-slice-set-from-row
-slice-set-from-row c = omega (arith, remembered (c .before .before .before .before .before .before) .many-rows)
+slice-set-from-row c = omega (arith, c .before .before .before .before .before .before .slot-of .ensures, remembered (c .before .before .before .before .before .before .before .before .before .before .before) .many-rows)
 
 returns-2 : tie.Need-returns-2
 returns-2 c =
-    let start = c .before .before .before .before .before .before in
+    let start = c .before .before .before .before .before .before .before .before .before .before .before in
     let i = start .pre .1 in
-    let r = c .published-row .ensures in
-    (r, λ P k. remembers-more (i .1 P k) (start .args .m) (i .0) _ (c .before .before .before .key-of .ensures) _ (omega arith) _ (r P k))
+    let r = c .before .published-row .ensures in
+    (r, λ P k. remembers-more (i .1 P k) (start .args .m) _ (c .words-of .ensures ∙ ap codeWords (key (c .before .before .before .before .before .before .before))) _ (c .before .before .before .before .before .before .slot-of .ensures) _ (r P k))
 
 pub remembered-row-spec : {M : Type 1} → statement M
 remembered-row-spec =
     tie.close
     (tie.spec
     (λ c κs. search needs)
-    (λ c. search needs)
-    (λ c. search needs)
-    slice-read-if1
-    (λ c. search needs)
-    slice-copy-out-result
-    returns
+    (λ c κs. search needs)
     (λ c κs. search needs)
     (λ c. search needs)
-    slice-write-keys
+    index-1-same-words
+    (λ c κs. search needs)
+    (λ c. search needs)
+    slice-copy-out-result
+    (λ c. search needs)
+    returns
+    (λ c κs. search needs)
+    (λ c κs. search needs)
+    (λ c. search needs)
+    slice-set-from-words
     (λ c. search needs)
     slice-set-from-row
     (λ c. search needs)

@@ -7,10 +7,10 @@ use Rattle.published_rows.proofs.row_of.Statement.{statement}
 use Rattle.published_rows.proofs.row_of.Tie as tie
 
 returns : tie.Need-returns
-returns c = absurd (not-refused (c .before .before .before .before .before .before .pre .1) _ _ (c .before .before .before .read .ensures) _ (c .before .enum-told .given .1))
+returns c = absurd (not-refused (c .before .before .before .before .before .before .before .pre .1) _ _ (c .before .before .before .read .ensures) _ (c .before .enum-told .given .1))
 
 abbrev start : tie.After-answer → tie.Start
-start c = c .before .before .before .before .before
+start c = c .before .before .before .before .before .before
 
 -- the words that were read hold the condition
 held : (c : tie.After-answer) → HeldOf (start c .args .text .now) (start c .pre .1 .c) (c .answer .given .0 .0) (c .before .before .read .result .words)
@@ -18,7 +18,7 @@ held c = read-held (start c .pre .1) _ _ (c .before .before .read .ensures) _ (c
 
 fill-requires : tie.Need-fill-requires
 fill-requires c κs =
-    let i = c .before .before .before .before .before .before .before .before .before .pre in
+    let i = c .before .before .before .before .before .before .before .before .before .before .pre in
     (i .0, (record { c = i .1 .c; held = held (c .before .before .before .before) }, omega (arith, held-room (i .1) (held (c .before .before .before .before)))))
 
 sub-last : tie.Need-sub-last
@@ -26,13 +26,13 @@ sub-last c = omega (arith, held-some (held (c .before .before .before .before .b
 
 row-of-requires : tie.Need-row-of-requires
 row-of-requires c κs =
-    let i = c .before .before .before .before .before .before .before .before .before .before .before .before .pre in
+    let i = c .before .before .before .before .before .before .before .before .before .before .before .before .before .pre in
     let h = held (c .before .before .before .before .before .before .before) in
     omega (arith, held-room (i .1) h, held-some h, c .before .before .fill .ensures (i .0 .P) (i .1 .c) (i .0 .known) h .same, c .before .before .before .before .blank-rows .ensures .size)
 
 returns-2 : tie.Need-returns-2
 returns-2 c =
-    let i = c .before .before .before .before .before .before .before .before .before .before .before .before .before .pre in
+    let i = c .before .before .before .before .before .before .before .before .before .before .before .before .before .before .pre in
     let h = held (c .before .before .before .before .before .before .before .before) in
     λ P k.
     let t = c .before .before .before .fill .ensures P (i .1 .c) k h in

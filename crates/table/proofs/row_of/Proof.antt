@@ -6,7 +6,7 @@ use borrow.Author.Needs.{needs}
 use lib.ListN.{length, take, drop, length-set}
 use lib.Seq.{take-all}
 use Rattle.table.specs.Table.{part-words}
-use Rattle.table.proofs.Splice.{copy-more}
+use Rattle.table.proofs.Lent.{copy-more}
 use Rattle.table.proofs.row_of.Statement.{statement}
 use Rattle.table.proofs.row_of.Tie as tie
 

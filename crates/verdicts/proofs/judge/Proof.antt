@@ -11,18 +11,19 @@ use Rattle.published_rows.specs.Memory.{Remembers, Remembering}
 use Rattle.marks.proofs.Walk.{line-of, line-further}
 use Rattle.marks.specs.declared.Mark.{Mark}
 use Rattle.marks.specs.Reading.{most, Taken}
+use Rattle.program.specs.Program.{row-words}
 use Rattle.program.specs.Reading.{statements}
 use Rattle.verdicts.proofs.judge.Statement.{statement}
 use Rattle.verdicts.proofs.judge.Tie as tie
 
 abbrev Inv-loop : tie.InvT-loop
-Inv-loop marks facts flow verdicts₀ p n named₀ keys₀ rows₀ j₀ at₀ verdicts named keys rows j at =
-    (length verdicts ≡ length verdicts₀) × (length named ≡ 4)
+Inv-loop marks rows codes flow verdicts₀ p n named₀ keys₀ memory₀ j₀ at₀ verdicts named keys memory j at =
+    (length verdicts ≡ length verdicts₀) × (length named ≡ row-words)
     × ((ms : List Mark) → Taken marks ms → JudgedSoFar (statements p) marks ms verdicts₀ verdicts named j at)
-    × Remembering n facts flow keys rows
+    × Remembering n rows codes flow keys memory
 
 abbrev μ-loop : tie.MeasureT-loop
-μ-loop marks facts flow verdicts₀ p n named₀ keys₀ rows₀ j₀ at₀ verdicts named keys rows j at = length marks - at
+μ-loop marks rows codes flow verdicts₀ p n named₀ keys₀ memory₀ j₀ at₀ verdicts named keys memory j at = length marks - at
 
 loop-holds : tie.Need-loop-holds Inv-loop μ-loop
 loop-holds c =
@@ -44,19 +45,19 @@ abbrev Marked : Type 0
 Marked = tie.After-m Inv-loop μ-loop
 
 abbrev start : Marked → tie.Start Inv-loop μ-loop
-start c = c .before .before .before .before .before .before .before .before .before .before .before .before .before .before
+start c = c .before .before .before .before .before .before .before .before .before .before .before .before .before .before .before
 
 abbrev loop : Marked → tie.At-loop Inv-loop μ-loop
 loop c = c .before .before .before .before
 
--- its line is one of at most 256
+-- its line is one of those that there can be
 below : (c : Marked) → loop c .loop .j < most
 below c =
     let list = start c .pre .1 .0 in
     line-below (loop c .loop .inv .2 (list .ms) (list .taken) .begins) (list .taken) (c .m .given .1) (c .before .before .line .ensures)
 
 -- the rows that are remembered so far
-remembered : (c : Marked) → Remembers (statements (start c .args .t2)) (loop c .loop .keys) (loop c .loop .rows)
+remembered : (c : Marked) → Remembers (statements (start c .args .t2)) (loop c .loop .keys) (loop c .loop .memory)
 remembered c = loop c .loop .inv .3 _ (start c .pre .0 .1)
 
 slice-aggregate-verdict-of-2 : tie.Need-slice-aggregate-verdict-of-2 Inv-loop μ-loop

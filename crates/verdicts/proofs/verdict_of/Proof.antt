@@ -20,7 +20,7 @@ use Rattle.verdicts.proofs.verdict_of.Tie as tie
 -- ---- what the tests say, one after the other, of every program that the facts and the graph are of
 
 abbrev Of : tie.Start → List Statement → Type 0
-Of s P = Known P (s .args .n) (s .args .facts .now) (s .args .flow .now)
+Of s P = Known P (s .args .n) (s .args .rows .now) (s .args .codes .now) (s .args .flow .now)
 
 abbrev start : tie.Else1 → tie.Start
 start c = c .before .before .before .before .before .before .before
@@ -71,15 +71,15 @@ returns-3 c =
 
 contains-requires-2 : tie.Need-contains-requires-2
 contains-requires-2 c κs =
-    let k = c .before .before .before .before .before .before .before .before .before .before .before .before .before .before .before .before .before .pre .0 in
-    let row = c .before .before .before .before .remembered-row in
-    omega (arith, c .before .before .before .before .before .before .before .before .before .before .before .before .before .place-of .ensures .0, row .ensures .0 (k .P) (k .known) .1)
+    let k = c .before .before .before .before .before .before .before .before .before .before .before .before .before .before .before .before .pre .0 in
+    let row = c .before .before .before .remembered-row in
+    omega (arith, c .before .before .before .before .before .before .before .before .before .before .before .before .place-of .ensures .0, row .ensures .0 (k .P) (k .known) .1)
 
 returns-4 : tie.Need-returns-4
 returns-4 c =
-    let fit = c .before .before .before .before .before .before .before .before .before in
+    let fit = c .before .before .before .before .before .before .before .before in
     let tested = fit .before .before .before in
-    let r = c .before .before .before .before .before .before .remembered-row .ensures in (
+    let r = c .before .before .before .before .before .remembered-row .ensures in (
       λ P k. judged-unmet P (start tested .args .m) (start tested .args .i) _ (inside tested k .0) (unnamed (fit .before .before) k) (fits fit) (r .0 P k .0)
           (rw (← placed tested k) (sym (c .before .contains2 .ensures) ∙ not-true _ (c .if4 .taken))),
       r .1,
@@ -87,9 +87,9 @@ returns-4 c =
 
 returns-5 : tie.Need-returns-5
 returns-5 c =
-    let fit = c .before .before .before .before .before .before .before .before .before in
+    let fit = c .before .before .before .before .before .before .before .before in
     let tested = fit .before .before .before in
-    let r = c .before .before .before .before .before .before .remembered-row .ensures in (
+    let r = c .before .before .before .before .before .remembered-row .ensures in (
       λ P k. judged-accepted P (start tested .args .m) (start tested .args .i) _ (inside tested k .0) (unnamed (fit .before .before) k) (fits fit) (r .0 P k .0)
           (rw (← placed tested k) (sym (c .before .contains2 .ensures) ∙ not-false _ (c .if4 .left))),
       r .1,

@@ -1,12 +1,12 @@
--- `atoms::same_words` meets its contract: four words are compared, and there are no more. Assumes nothing.
+-- `codes::same_words` meets its contract: four words are compared, and there are no more. Assumes nothing.
 use mathlib.Core.Path.{ap}
 use mathlib.Core.List.{List}
 use Prim.Native.Nat.{ℕ}
 use borrow.Author.Needs.{needs}
 use lib.ListN.{getD}
-use Rattle.atoms.proofs.Words.{decides-words}
-use Rattle.atoms.proofs.same_words.Statement.{statement}
-use Rattle.atoms.proofs.same_words.Tie as tie
+use Rattle.codes.proofs.Words.{decides-words}
+use Rattle.codes.proofs.same_words.Statement.{statement}
+use Rattle.codes.proofs.same_words.Tie as tie
 
 returns : tie.Need-returns
 returns c = λ e. c .if1 .taken (ap (λ (l : List ℕ). getD l 1 0) e)
