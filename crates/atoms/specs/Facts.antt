@@ -1,7 +1,7 @@
 -- What is found once of a program's statements, so that the row of an atom comes from it without another look at them. A proof
 -- device: no sentence of document 01 stands here.
 use mathlib.Core.Path.{_≡_}
-use mathlib.Core.Bool.{Bool, false, _&&_, _||_}
+use mathlib.Core.Bool.{Bool, true, false, _&&_, _||_}
 use mathlib.Core.List.{List, []}
 use Prim.Native.Nat.{ℕ, _+_, _*_, _<_}
 use lib.Dec.{eqb}
@@ -20,11 +20,15 @@ use Rattle.truth.specs.Truth.{Defines, Uses}
 use Rattle.codes.specs.Codes.{statementCode, codeWords}
 
 -- a variable x has two rows, one after the other: the places that define it, and those that use it
+abbrev pub rowNumber : ℕ → Bool → ℕ
+rowNumber x false = 2 * x
+rowNumber x true = 2 * x + 1
+
 abbrev pub definedRow : ℕ → ℕ
-definedRow x = 2 * x
+definedRow x = rowNumber x false
 
 abbrev pub usedRow : ℕ → ℕ
-usedRow x = 2 * x + 1
+usedRow x = rowNumber x true
 
 -- the rows of all variables and their words, the code's FACT_WORDS
 abbrev pub fact-rows : ℕ

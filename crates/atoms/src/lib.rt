@@ -15,7 +15,7 @@ ghost use Rattle.labelling.specs.Labels.{Labelled};
 ghost use Rattle.condition.specs.Condition.{ValidAtom};
 ghost use Rattle.truth.specs.Truth.{InOperand, In, Defines, Holds};
 ghost use Rattle.codes.specs.Codes.{code-words};
-ghost use Rattle.atoms.specs.Facts.{definedRow, usedRow, fact-rows, fact-words, placed, FactsBelow, FactsOf, Sized, notedOperand, notedExpression, noted, Marked};
+ghost use Rattle.atoms.specs.Facts.{rowNumber, fact-rows, fact-words, placed, FactsBelow, FactsOf, Sized, notedOperand, notedExpression, noted, Marked};
 use codes::CODE_WORDS;
 use condition::Atom;
 use language::Expression;
@@ -41,18 +41,11 @@ pub fn blank_codes() -> [[u64; CODE_WORDS]; MOST]
     [[0; CODE_WORDS]; MOST]
 }
 
-// The row of the places that define a variable.
-fn defined_row(x: u8) -> usize
-    ensures { λ r. ⌜ r ≡ definedRow x ⌝ }
+// The row of the places that define a variable, or of those that use it.
+fn row_number(x: u8, uses: bool) -> usize
+    ensures { λ r. ⌜ r ≡ rowNumber x uses ⌝ }
 {
-    2 * (x as usize)
-}
-
-// The row of the places that use a variable.
-fn used_row(x: u8) -> usize
-    ensures { λ r. ⌜ r ≡ usedRow x ⌝ }
-{
-    2 * (x as usize) + 1
+    if uses { 2 * (x as usize) + 1 } else { 2 * (x as usize) }
 }
 
 // The words of row k.
@@ -81,7 +74,7 @@ fn note_operand(a: Operand, s: usize, rows: &mut [u64])
     ensures { λ _. ⌜ Marked (now (rows .entry)) (now (rows .exit)) (notedOperand a) s ⌝ }
 {
     match a {
-        Operand::Variable(x) => mark(used_row(x), s, rows),
+        Operand::Variable(x) => mark(row_number(x, true), s, rows),
         Operand::Constant(_) => {}
     }
 }
@@ -106,13 +99,13 @@ fn note(i: Statement, s: usize, rows: &mut [u64])
     ensures { λ _. ⌜ Marked (now (rows .entry)) (now (rows .exit)) (noted i) s ⌝ }
 {
     match i {
-        Statement::Read(x) => mark(defined_row(x), s, rows),
-        Statement::Write(x) => mark(used_row(x), s, rows),
+        Statement::Read(x) => mark(row_number(x, false), s, rows),
+        Statement::Write(x) => mark(row_number(x, true), s, rows),
         Statement::Assign(x, e) => {
-            mark(defined_row(x), s, rows);
+            mark(row_number(x, false), s, rows);
             note_expression(e, s, rows);
         }
-        Statement::Branch(x, _, _) => mark(used_row(x), s, rows),
+        Statement::Branch(x, _, _) => mark(row_number(x, true), s, rows),
         Statement::Skip => {}
     }
 }
@@ -195,7 +188,7 @@ fn keeping(a: Operand, all: &[u64], rows: &[u64], out: &mut [u64])
     ensures { λ _. ⌜ ((P : List StatementOf) (n : ℕ) (codes : List (List ℕ)) → FactsBelow P n (now (rows .entry)) codes → ((s : ℕ) → n ≤ s → member (now (all .entry)) s ≡ false) → Labelled n (member (now (out .exit))) (λ s. So (member (now (all .entry))) s × ((x : ℕ) → InOperand x a → Defines (at P s) x → ⊥))) ⌝ }
 {
     match a {
-        Operand::Variable(x) => bits::difference(all, row_at(rows, defined_row(x)), out),
+        Operand::Variable(x) => bits::difference(all, row_at(rows, row_number(x, false)), out),
         Operand::Constant(_) => copy(all, out),
     }
 }
@@ -231,8 +224,8 @@ pub fn row(a: Atom, n: usize, rows: &[u64], codes: &[[u64; CODE_WORDS]], out: &m
         Atom::Exit => numbered(n, n, out),
         Atom::Node(m) => numbered(m as usize, n, out),
         Atom::Stmt(i) => statement_row(i, n, codes, out),
-        Atom::Def(x) => copy(row_at(rows, defined_row(x)), out),
-        Atom::Use(x) => copy(row_at(rows, used_row(x)), out),
+        Atom::Def(x) => copy(row_at(rows, row_number(x, false)), out),
+        Atom::Use(x) => copy(row_at(rows, row_number(x, true)), out),
         Atom::Trans(e) => trans_row(e, n, rows, out),
     }
 }

@@ -13,7 +13,7 @@ row-at-requires : tie.Need-row-at-requires
 row-at-requires c κs =
     let pre = c .before .before .before .before .before .before .before .pre in
     let low = rw (c .before .before .a .given .1) at (pre .0 .0) in
-    (omega (arith, c .defined-row .ensures), pre .0 .1)
+    (omega (arith, c .row-number .ensures), pre .0 .1)
 
 difference-requires : tie.Need-difference-requires
 difference-requires c κs =
@@ -27,7 +27,7 @@ returns c =
     let a = c .before .before .before .before .before .before .before .a .given in
     let low = rw (a .1) at (g .pre .0 .0) in
     rw (a .1) (λ P n codes f clear. variable-row P n (g .args .rows .now) codes f (member (g .args .all .now)) _ clear (a .0 .0) low
-    (λ j. rw (c .before .before .before .before .row-at .ensures, c .before .before .before .before .before .defined-row .ensures) at (c .before .before .difference .ensures j)))
+    (λ j. rw (c .before .before .before .before .row-at .ensures, c .before .before .before .before .before .row-number .ensures) at (c .before .before .difference .ensures j)))
 
 returns-2 : tie.Need-returns-2
 returns-2 c =

@@ -10,19 +10,19 @@ mark-requires : tie.Need-mark-requires
 mark-requires c κs =
     let pre = c .before .before .before .before .before .before .pre in
     let low = rw (c .before .before .before .i .given .1) at (pre .0) in
-    (omega (arith, c .before .defined-row .ensures), pre .1, pre .2)
+    (omega (arith, c .before .row-number .ensures), pre .1, pre .2)
 
 mark-requires-2 : tie.Need-mark-requires-2
 mark-requires-2 c κs =
     let pre = c .before .before .before .before .before .before .pre in
     let low = rw (c .before .before .before .i2 .given .1) at (pre .0) in
-    (omega (arith, c .before .used-row .ensures), pre .1, pre .2)
+    (omega (arith, c .before .row-number2 .ensures), pre .1, pre .2)
 
 mark-requires-3 : tie.Need-mark-requires-3
 mark-requires-3 c κs =
     let pre = c .before .before .before .before .before .before .pre in
     let low = (rw (c .before .before .before .i3 .given .1) at (pre .0)) .0 in
-    (omega (arith, c .before .defined-row2 .ensures), pre .1, pre .2)
+    (omega (arith, c .before .row-number3 .ensures), pre .1, pre .2)
 
 note-expression-requires : tie.Need-note-expression-requires
 note-expression-requires c κs =
@@ -33,20 +33,20 @@ mark-requires-4 : tie.Need-mark-requires-4
 mark-requires-4 c κs =
     let pre = c .before .before .before .before .before .before .pre in
     let low = (rw (c .before .before .before .i4 .given .1) at (pre .0)) .0 in
-    (omega (arith, c .before .used-row2 .ensures), pre .1, pre .2)
+    (omega (arith, c .before .row-number4 .ensures), pre .1, pre .2)
 
 returns : tie.Need-returns
-returns c = rw (c .before .before .before .before .before .before .i .given .1) (rw (c .before .before .before .before .defined-row .ensures) at (c .before .before .mark .ensures))
+returns c = rw (c .before .before .before .before .before .before .i .given .1) (rw (c .before .before .before .before .row-number .ensures) at (c .before .before .mark .ensures))
 
 returns-2 : tie.Need-returns-2
-returns-2 c = rw (c .before .before .before .before .before .before .i2 .given .1) (rw (c .before .before .before .before .used-row .ensures) at (c .before .before .mark2 .ensures))
+returns-2 c = rw (c .before .before .before .before .before .before .i2 .given .1) (rw (c .before .before .before .before .row-number2 .ensures) at (c .before .before .mark2 .ensures))
 
 returns-3 : tie.Need-returns-3
 returns-3 c =
-    rw (c .before .before .before .before .before .before .before .before .before .before .i3 .given .1) (marked-both (rw (c .before .before .before .before .before .before .before .before .defined-row2 .ensures) at (c .before .before .before .before .before .before .mark3 .ensures)) (c .before .before .note-expression .ensures))
+    rw (c .before .before .before .before .before .before .before .before .before .before .i3 .given .1) (marked-both (rw (c .before .before .before .before .before .before .before .before .row-number3 .ensures) at (c .before .before .before .before .before .before .mark3 .ensures)) (c .before .before .note-expression .ensures))
 
 returns-4 : tie.Need-returns-4
-returns-4 c = rw (c .before .before .before .before .before .before .i4 .given .1) (rw (c .before .before .before .before .used-row2 .ensures) at (c .before .before .mark4 .ensures))
+returns-4 c = rw (c .before .before .before .before .before .before .i4 .given .1) (rw (c .before .before .before .before .row-number4 .ensures) at (c .before .before .mark4 .ensures))
 
 returns-5 : tie.Need-returns-5
 returns-5 c = rw (c .enum-told .given .1) (marked-none _ _)

@@ -9,10 +9,10 @@ mark-requires : tie.Need-mark-requires
 mark-requires c κs =
     let pre = c .before .before .before .before .before .before .pre in
     let low = rw (c .before .before .before .a .given .1) at (pre .0) in
-    (omega (arith, c .before .used-row .ensures), pre .1, pre .2)
+    (omega (arith, c .before .row-number .ensures), pre .1, pre .2)
 
 returns : tie.Need-returns
-returns c = rw (c .before .before .before .before .before .before .a .given .1) (rw (c .before .before .before .before .used-row .ensures) at (c .before .before .mark .ensures))
+returns c = rw (c .before .before .before .before .before .before .a .given .1) (rw (c .before .before .before .before .row-number .ensures) at (c .before .before .mark .ensures))
 
 returns-2 : tie.Need-returns-2
 returns-2 c = rw (c .enum-told .given .1) (marked-none _ _)

@@ -15,7 +15,7 @@ row-at-requires : tie.Need-row-at-requires
 row-at-requires c κs =
     let pre = c .before .before .before .before .before .before .pre in
     let low = rw (c .before .before .a3 .given .1) at (pre .0 .0) in
-    (omega (arith, c .defined-row .ensures), pre .0 .1 .many)
+    (omega (arith, c .row-number .ensures), pre .0 .1 .many)
 
 copy-requires : tie.Need-copy-requires
 copy-requires c κs =
@@ -27,7 +27,7 @@ row-at-requires-2 : tie.Need-row-at-requires-2
 row-at-requires-2 c κs =
     let pre = c .before .before .before .before .before .before .pre in
     let low = rw (c .before .before .a4 .given .1) at (pre .0 .0) in
-    (omega (arith, c .used-row .ensures), pre .0 .1 .many)
+    (omega (arith, c .row-number2 .ensures), pre .0 .1 .many)
 
 copy-requires-2 : tie.Need-copy-requires-2
 copy-requires-2 c κs =
@@ -62,13 +62,13 @@ returns-7 : tie.Need-returns-7
 returns-7 c =
     let a = c .before .before .before .before .before .before .before .a3 .given in
     let low = rw (a .1) at (c .before .before .before .before .before .before .before .before .before .before .before .pre .0 .0) in
-    rw (a .1) (λ P size f. label-same _ _ _ _ (λ j. rw (c .before .before .before .before .row-at .ensures, c .before .before .before .before .before .defined-row .ensures) at (c .before .before .copy .ensures j)) (sized P _ _ _ size f .defined (a .0 .0) low))
+    rw (a .1) (λ P size f. label-same _ _ _ _ (λ j. rw (c .before .before .before .before .row-at .ensures, c .before .before .before .before .before .row-number .ensures) at (c .before .before .copy .ensures j)) (sized P _ _ _ size f .defined (a .0 .0) low))
 
 returns-8 : tie.Need-returns-8
 returns-8 c =
     let a = c .before .before .before .before .before .before .before .a4 .given in
     let low = rw (a .1) at (c .before .before .before .before .before .before .before .before .before .before .before .pre .0 .0) in
-    rw (a .1) (λ P size f. label-same _ _ _ _ (λ j. rw (c .before .before .before .before .row-at2 .ensures, c .before .before .before .before .before .used-row .ensures) at (c .before .before .copy2 .ensures j)) (sized P _ _ _ size f .used (a .0 .0) low))
+    rw (a .1) (λ P size f. label-same _ _ _ _ (λ j. rw (c .before .before .before .before .row-at2 .ensures, c .before .before .before .before .before .row-number2 .ensures) at (c .before .before .copy2 .ensures j)) (sized P _ _ _ size f .used (a .0 .0) low))
 
 returns-9 : tie.Need-returns-9
 returns-9 c = rw (c .before .before .before .before .before .a5 .given .1) (λ P size f. c .before .before .trans-row .ensures P _ (sized P _ _ _ size f))
