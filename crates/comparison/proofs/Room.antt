@@ -11,11 +11,12 @@ use mir.Val.{toZ}
 use Rattle.language.specs.Spelling.{spellVariable, spell, Valid}
 use Rattle.base.specs.Pick.{pick}
 use Rattle.language.specs.declared.Statement.{Statement}
-use Rattle.language.proofs.Lengths.{digits-length, variable-length}
+use Rattle.language.proofs.Lengths.{variable-most}
 use Rattle.program.specs.Program.{most, Targets}
 use Rattle.desk.specs.Columns.{padded, signedDigits}
 use Rattle.trace.specs.Trace.{stepHead}
-use Rattle.trace.proofs.Room.{signed-most, text-most, head-most}
+use Rattle.desk.proofs.Lengths.{signed-most}
+use Rattle.trace.proofs.Room.{text-most, head-most}
 use Rattle.trace.proofs.Series.{Parts, parts-most}
 use Rattle.comparison.specs.Lines.{pairText, difference, differences, pairLine}
 use Rattle.comparison.specs.Stepping.{pair-room, line-room}
@@ -25,7 +26,7 @@ unfolding pairText
 pair-length x v w = simp length-append (omega arith)
 
 pub pair-most : (x v w : ℕ) → x < 32 → length (pairText x v w) ≤ pair-room
-pair-most x v w h = omega (arith, pair-length x v w, variable-length x, digits-length 1 x (omega arith), signed-most v, signed-most w)
+pair-most x v w h = omega (arith, pair-length x v w, variable-most x h, signed-most v, signed-most w)
 
 difference-most : (x : ℕ) (vs ws : List ℕ) → x < 32 → length (difference x vs ws) ≤ pair-room
 unfolding difference

@@ -24,5 +24,5 @@ lines-parts vs =
       short = λ n h. omega (arith, length-append (valueText n (getD vs n 0)) (10 ∷ []), value-most n (getD vs n 0) h);
     }
 
-pub refused-most : (n line : ℕ) → n < 1000 → line < 2 ^ 32 → length (refusalText n line) ≤ outcome-room
-refused-most n line h l = omega (arith, refusal-most n line h (omega arith))
+pub refused-most : (n line : ℕ) → n < 2 ^ 8 → line < 2 ^ 32 → length (refusalText n line) ≤ outcome-room
+refused-most n line h l = omega (arith, refusal-most n line h l)

@@ -58,7 +58,7 @@ refuses-number (inl h) = rw (h .2) (program-number (h .0))
 refuses-number (inr h) = rw (h .4) (marks-number (h .2))
 
 pub refused-room : {t u : List ℕ} {n : ℕ} → Refuses t u n → length (refusedLine n) ≤ report-room
-refused-room {n = n} h = omega (arith, refused-length n, digits-length 1 n (refuses-number h))
+refused-room {n = n} h = omega (arith, refused-length n, digits-length 2 n (omega arith) (refuses-number h))
 
 pub refused-printed : {t u o p : List ℕ} {n k : ℕ} → Refuses t u n → report-room ≤ length o → Put o 0 (refusedLine n) p k → Printed (PrintsRefusal t u) o p k
 refused-printed {n = n} h room put =

@@ -8,7 +8,7 @@ use lib.ListN.{length, drop, getD, length-append}
 use lib.Seq.{getD-drop}
 use Rattle.language.specs.Spelling.{largest}
 use Rattle.language.specs.declared.Statement.{Statement}
-use Rattle.language.proofs.Lengths.{digits-length}
+use Rattle.language.proofs.Lengths.{digits-length, number-most}
 use Rattle.program.specs.Program.{text}
 use Rattle.bits.proofs.Counts.{count-le}
 use Rattle.marks.specs.declared.Mark.{Mark}
@@ -23,10 +23,10 @@ use Rattle.report.specs.Report.{countsLine, verdictLine, verdictLines, r
 use Rattle.report.proofs.Lines.{counts-length, verdict-length}
 
 counts-most : (m a : ℕ) → m ≤ most → a ≤ m → length (countsLine m a) ≤ 23
-counts-most m a h k = omega (arith, counts-length m a, digits-length 2 m (omega arith), digits-length 2 a (omega arith))
+counts-most m a h k = omega (arith, counts-length m a, digits-length 3 m (omega arith) (omega arith), digits-length 3 a (omega arith) (omega arith))
 
 verdict-most : (n v : ℕ) → n ≤ largest → v < 100 → length (verdictLine n v) ≤ 14
-verdict-most n v h k = omega (arith, verdict-length n v, digits-length 9 n (omega arith), digits-length 1 v (omega arith))
+verdict-most n v h k = omega (arith, verdict-length n v, number-most n (omega arith), digits-length 2 v (omega arith) (omega arith))
 
 names-valid : (m : Mark) → ValidMark m → names m ≤ largest
 names-valid (Rm n x e) v = v .0

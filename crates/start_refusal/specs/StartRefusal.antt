@@ -3,6 +3,7 @@ use mathlib.Core.List.{List, [], _∷_, _++_}
 use Prim.Native.Nat.{ℕ, _+_}
 use lib.Dec.{eqb}
 use Rattle.language.specs.Spelling.{digits}
+use Rattle.language.specs.Room.{number-digits}
 use Rattle.base.specs.Pick.{pick}
 use Rattle.base.specs.Bytes.{bytes}
 use Rattle.start.specs.declared.Answer.{Answer}
@@ -27,7 +28,7 @@ abbrev pub range-room : ℕ
 range-room = 52
 
 abbrev pub words-room : ℕ
-words-room = 15 + range-room
+words-room = 5 + (number-digits + range-room)
 
 abbrev pub start-room : ℕ
 start-room = 26 + words-room

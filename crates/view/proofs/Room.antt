@@ -7,10 +7,10 @@ use native.Mathlib.Omega.{arith}
 use lib.ListN.{length, length-append}
 use Rattle.language.specs.Spelling.{spell}
 use Rattle.language.specs.declared.Statement.{Statement}
-use Rattle.language.specs.declared.Statement.the-variants.{Read, Write, Assign, Branch, Skip}
-use Rattle.language.proofs.Lengths.{Near, line-most, digits-length}
-use Rattle.program.specs.Program.{most, at, Targets, WellFormed}
+use Rattle.language.proofs.Lengths.{digits-length}
+use Rattle.program.specs.Program.{most, at, WellFormed}
 use Rattle.program.proofs.Held.{at-valid}
+use Rattle.program.proofs.Lengths.{statement-short}
 use Rattle.bits.proofs.Counts.{count-le}
 use Rattle.condition.specs.Condition.{Condition, spellCondition, parts}
 use Rattle.condition.specs.Texts.{most-bytes, most-parts, Taken}
@@ -27,14 +27,7 @@ part-most : {u : List ℕ} {c : Condition} {n : ℕ} {ws : List ℕ} → Taken u
 part-most {c = c} a d k h =
     let e = d .counted in
     let f = a .few in
-    omega (arith, part-length k (spellCondition (partAt c k)), wide-length 2 (k + 1), digits-length 1 (k + 1) (omega arith), stands-short (held-describes a d k h .stands), a .short)
-
-near : (N : ℕ) (s : Statement) → N ≤ most → Targets N s → Near s
-near N (Read x) h t = tt
-near N (Write x) h t = tt
-near N (Assign x e) h t = tt
-near N (Branch x n m) h t = (omega arith, omega arith)
-near N Skip h t = tt
+    omega (arith, part-length k (spellCondition (partAt c k)), wide-length 2 (k + 1), digits-length 2 (k + 1) (omega arith) (omega arith), stands-short (held-describes a d k h .stands), a .short)
 
 head-most : (f : ℕ → ℕ) (n : ℕ) → n ≤ most-parts → length (headRow f n) ≤ margin + most-parts + 3
 head-most f n h = omega (arith, head-length f n, columns-length f n)
@@ -42,8 +35,8 @@ head-most f n h = omega (arith, head-length f n, columns-length f n)
 row-most : {P : List Statement} (truth : ℕ → ℕ → Bool) (n s : ℕ) → WellFormed P → n ≤ most-parts → s < length P → length (row truth n s (at P s)) ≤ margin + most-parts + 3
 row-most {P = P} truth n s w h l =
     let c = w .counted in
-    let m = line-most (at P s) (at-valid P s (w .valid) l) (near (length P) (at P s) (c .1) (w .aimed s l)) in
-    omega (arith, row-length truth n s (at P s), wide-length 3 (s + 1), digits-length 2 (s + 1) (omega arith), padded-length 30 (spell (at P s)), columns-length (λ k. mark (truth k s)) n)
+    let m = statement-short (length P) (at P s) (c .1) (at-valid P s (w .valid) l) (w .aimed s l) in
+    omega (arith, row-length truth n s (at P s), wide-length 3 (s + 1), digits-length 3 (s + 1) (omega arith) (omega arith), padded-length 30 (spell (at P s)), columns-length (λ k. mark (truth k s)) n)
 
 first-most : {truth : ℕ → Bool} {satisfied first : ℕ} → Counts truth (part-words * 64) satisfied first → first < 1000
 first-most c = ⊎-elim (λ e. omega (arith, e .0)) (λ e. omega (arith, e .1, e .2)) (c .earliest)
@@ -63,4 +56,4 @@ view-most {P = P} {c = c} {n = n} {satisfied = satisfied} {first = first} truth 
     let y = upto-most (λ i. row truth m i (at P i)) (margin + most-parts + 3) (length P) (λ i h. row-most truth m i w f h) in
     let z = last-length m satisfied first in
     simp length-append
-    (omega (arith, head-most tens m f, head-most units m f, digits-length 1 m (omega arith), digits-length 2 satisfied (satisfied-most s), digits-length 2 first (first-most s)))
+    (omega (arith, head-most tens m f, head-most units m f, digits-length 2 m (omega arith) (omega arith), digits-length 3 satisfied (omega arith) (satisfied-most s), digits-length 3 first (omega arith) (first-most s)))
