@@ -7,6 +7,13 @@ use Rattle.base.specs.Bytes.{byte, bytes}
 use Rattle.language.specs.Spelling.{digits}
 use Rattle.language.specs.Room.{number-digits}
 
+-- the columns of a statement's number, and those of its text, in which the longest statement of a program has room
+abbrev pub number-columns : ℕ
+number-columns = 3
+
+abbrev pub statement-columns : ℕ
+statement-columns = 30
+
 abbrev pub spaces : ℕ → List ℕ
 spaces n = replicate n (byte " ")
 
