@@ -13,7 +13,7 @@ use Rattle.start.specs.declared.Answer.the-variants.{Taken, Few, Many, Line}
 unfoldable pub lineRange : ℕ → List ℕ
 lineRange n = pick (eqb n 2) (bytes " isn't a whole number from 0 to 2147483647") (bytes " isn't a whole number from -2147483648 to 2147483647")
 
--- what is wrong with a start, in words
+-- what is wrong with a start, in words; their figures are `start`'s fewest and most, as text
 unfoldable pub startWords : Answer → List ℕ
 startWords Taken = []
 startWords Few = bytes "under 2 lines"
