@@ -1,11 +1,21 @@
 //! What the desk's programs print: the viewer, the runner, and the comparison of two runs.
 
 use crate::condition::{Checker, Condition};
-use crate::machine::{self, Outcome, Run, State, Values};
+use crate::machine::{self, Outcome, Run, State, Values, VALUES};
 use crate::marks::{self, TEXT_BYTES, VERDICT_BYTES};
 use crate::program::{Program, Statement};
 use crate::steps::Steps;
 use std::ops::RangeInclusive;
+
+/// The columns of a statement's number and of its text.
+const NUMBER_COLUMNS: usize = 3;
+const STATEMENT_COLUMNS: usize = 30;
+/// The columns before the marks of a row.
+const MARGIN: usize = NUMBER_COLUMNS + 2 + STATEMENT_COLUMNS + 2;
+/// The columns of a step's number.
+const STEP_COLUMNS: usize = 7;
+/// The most lines of a start.
+const START_LINES: usize = 2 + VALUES;
 
 // Refusals in words
 
@@ -83,12 +93,13 @@ pub fn view(program: &[u8], condition: &[u8]) -> String {
     }
     let digit = |number: usize| char::from(b'0' + (number % 10) as u8);
     let tens = |part| if part < 9 { ' ' } else { digit((part + 1) / 10) };
-    text += &format!("{:37}{}\n", "", columns(parts, tens));
-    text += &format!("{:37}{}\n", "", columns(parts, |part| digit(part + 1)));
+    text += &format!("{:MARGIN$}{}\n", "", columns(parts, tens));
+    text += &format!("{:MARGIN$}{}\n", "", columns(parts, |part| digit(part + 1)));
     let mut satisfied = Vec::new();
     for (at, statement) in given.statements().iter().enumerate() {
         let marks = columns(parts, |part| if checker.holds(part, at) { '*' } else { '.' });
-        text += &format!("{:3}  {:30}  {marks}\n", at + 1, statement.to_string());
+        let (number, statement) = (at + 1, statement.to_string());
+        text += &format!("{number:NUMBER_COLUMNS$}  {statement:STATEMENT_COLUMNS$}  {marks}\n");
         if marks.ends_with('*') {
             satisfied.push(at + 1);
         }
@@ -119,7 +130,7 @@ fn read_start(text: &[u8]) -> Result<Start, String> {
     let refused = |words: String| format!("refused start\nthe start: {words}\n");
     let mut numbers = Vec::new();
     for (at, line) in text.split_inclusive(|&byte| byte == b'\n').enumerate() {
-        if at == 34 {
+        if at == START_LINES {
             return Err(refused("over 34 lines".into()));
         }
         let range = if at == 1 { BUDGETS } else { INTEGERS };
@@ -130,7 +141,7 @@ fn read_start(text: &[u8]) -> Result<Start, String> {
     if numbers.len() < 2 {
         return Err(refused("under 2 lines".into()));
     }
-    let mut values = [0; 32];
+    let mut values = [0; VALUES];
     values[..numbers.len() - 2].copy_from_slice(&numbers[2..]);
     Ok(Start { input: numbers[0], budget: numbers[1], values })
 }
@@ -157,6 +168,11 @@ fn spelled(program: &Program, statement: u32) -> String {
     program.statements()[statement as usize - 1].to_string()
 }
 
+/// The step's number, and the number and the text of its statement.
+fn head(step: usize, at: u32, statement: &str) -> String {
+    format!("{step:STEP_COLUMNS$}  {at:NUMBER_COLUMNS$}  {statement:STATEMENT_COLUMNS$}")
+}
+
 /// What the runner prints for a program and a start, with every step if `trace` says so.
 pub fn run(program: &[u8], start: &[u8], trace: bool) -> String {
     let start = match read_start(start) {
@@ -171,8 +187,8 @@ pub fn run(program: &[u8], start: &[u8], trace: bool) -> String {
     let mut text = String::new();
     if trace {
         for (k, (at, before, after)) in walk(&given, &start).iter().enumerate() {
-            text += &format!("{:7}  {at:3}  {:30}", k + 1, spelled(&given, *at));
-            for x in (0..32).filter(|&x| before[x] != after[x]) {
+            text += &head(k + 1, *at, &spelled(&given, *at));
+            for x in (0..VALUES).filter(|&x| before[x] != after[x]) {
                 text += &format!("  i{x} = {}", after[x] as i32);
             }
             text.push('\n');
@@ -213,8 +229,8 @@ pub fn compare(program: &[u8], list: &[u8], start: &[u8]) -> String {
     let both = walk(&given, &start).into_iter().zip(walk(&rewritten, &start));
     for (k, ((at, _, one), (there, _, other))) in both.enumerate() {
         let (old, new) = (spelled(&given, at), spelled(&rewritten, there));
-        text += &format!("{:7}  {at:3}  {old:30}  {new:30}", k + 1);
-        for x in (0..32).filter(|&x| one[x] != other[x]) {
+        text += &format!("{}  {new:STATEMENT_COLUMNS$}", head(k + 1, at, &old));
+        for x in (0..VALUES).filter(|&x| one[x] != other[x]) {
             text += &format!("  i{x} {} {}", one[x] as i32, other[x] as i32);
         }
         text.push('\n');

@@ -2,8 +2,11 @@
 
 use crate::program::{Expression, Operand, Operator, Program, Statement};
 
+/// The number of variables.
+pub const VALUES: usize = 32;
+
 /// The values of `i0` to `i31`.
-pub type Values = [u32; 32];
+pub type Values = [u32; VALUES];
 
 /// The largest budget that isn't refused.
 pub const LARGEST_BUDGET: u32 = 1_000_000;

@@ -3,7 +3,11 @@ ghost use Prim.Native.Nat.{_≤_, _+_};
 ghost use lib.ListN.{length};
 ghost use Rattle.statement_writer.specs.Writing.{Put};
 ghost use Rattle.answer_line.specs.AnswerLine.{answerLine, answer-room, spent-room, lineRoom};
+use language::NUMBER_DIGITS;
 use machine::Answer;
+
+// The line of a run that is spent has room in this many bytes.
+pub const SPENT_ROOM: usize = 9 + NUMBER_DIGITS + 1;
 
 // `ended 9 steps 12`
 fn ended(out: &mut [u8], at: usize, v: i32, k: u32) -> usize

@@ -7,6 +7,7 @@ use native.Mathlib.Omega.{arith}
 use lib.ListN.{length, take}
 use Rattle.judge.specs.Judge.{text-bytes}
 use Rattle.trace.proofs.Series.{put-length}
+use Rattle.files.specs.Files.{chunk-room}
 use Rattle.side_by_side.specs.SideBySide.{atStage, HandedAt, Handed, aheadAt, ahead, Prints, Next}
 use Rattle.side_by_side.specs.declared.Stage.{Stage}
 use Rattle.side_by_side.specs.declared.Stage.the-variants.{Begin, Steps, Closing, Ended, Refused}
@@ -22,16 +23,16 @@ pub record Printing (t m u : List ℕ) (p : Position) (w o : List ℕ) : Type 0 
   pub handed : Handed t m u p w b
   pub going : 0 < ahead p
   pub new : length w ≡ text-bytes
-  pub out : length o ≡ 16384
+  pub out : length o ≡ chunk-room
 
-pub begins : (t m u : List ℕ) {p : Position} {w o : List ℕ} → p ≡ atStage Begin → length w ≡ text-bytes → length o ≡ 16384 → Printing t m u p w o
+pub begins : (t m u : List ℕ) {p : Position} {w o : List ℕ} → p ≡ atStage Begin → length w ≡ text-bytes → length o ≡ chunk-room → Printing t m u p w o
 begins t m u e l k = rw e (record { b = []; handed = (refl, refl); going = omega arith; new = l; out = k })
 
 module _ {t m u : List ℕ} {p : Position} {w v o q : List ℕ} {r : Piece} (i : Printing t m u p w o) (x : Next t m u p w v o q r) where
   printed : Prints t m u p w v o q r
   printed = x .prints (omega (arith, i .out)) (omega (arith, i .new))
 
-  out-length : length q ≡ 16384
+  out-length : length q ≡ chunk-room
   out-length = omega (arith, put-length (printed .put), i .out)
 
   new-length : length v ≡ text-bytes

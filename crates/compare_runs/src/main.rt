@@ -1,7 +1,6 @@
 // Runs a program and its rewritten one side by side: compare_runs [PROGRAM [MARKS [START]]], files that default to `given`, `marks` and
 // `start`. Prints what crate `side_by_side` makes of their bytes, piece by piece.
 ghost use mathlib.Core.Path.{_≡_};
-ghost use lib.ListN.{length};
 ghost use Rattle.compare_runs.specs.Printing.{endAt, Printed};
 use files::FileRead;
 use files::REFUSAL;
@@ -10,9 +9,6 @@ use files::UNREAD;
 use files::UNWRITTEN;
 use libc::STDERR_FILENO;
 use side_by_side::Stage;
-
-// Pieces are written from this many bytes.
-const CHUNK: usize = 16384;
 
 // Whether more is to be printed, or all is told, with this status.
 enum End {
@@ -32,18 +28,12 @@ fn end_at(stage: Stage) -> End
     }
 }
 
-fn chunk() -> [u8; CHUNK]
-    ensures { λ r. ⌜ length r ≡ 16384 ⌝ }
-{
-    [0; CHUNK]
-}
-
 // Prints all, and answers the status.
 fn print(program: &[u8], marks: &[u8], start: &[u8]) -> u8
     ensures { λ r. ⌜ Printed (now (program .entry)) (now (marks .entry)) (now (start .entry)) r ⌝ }
 {
     let mut new = judge::text_buffer();
-    let mut out = chunk();
+    let mut out = files::chunk();
     let mut from = side_by_side::first();
     loop {
         let piece = side_by_side::next(program, marks, start, from, &mut new, &mut out);

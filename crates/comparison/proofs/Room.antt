@@ -1,4 +1,4 @@
--- How long the parts of a line of two traces are, and that a line has room in 1,008 bytes. Assumes nothing.
+-- How long the parts of a line of two traces are, and that a line has room in line-room bytes. Assumes nothing.
 use mathlib.Core.Path.{_≡_, refl}
 use mathlib.Core.List.{List, []}
 use mathlib.Core.Bool.{Bool, true, false}
@@ -8,14 +8,15 @@ use lib.Dec.{eqb}
 use lib.ListN.{length, getD, length-append}
 use mir.Syntax.{w32}
 use mir.Val.{toZ}
-use Rattle.language.specs.Spelling.{spellVariable, spell, Valid}
+use Rattle.language.specs.Spelling.{variables, spellVariable, ValidVariable, spell, Valid}
 use Rattle.base.specs.Pick.{pick}
 use Rattle.language.specs.declared.Statement.{Statement}
-use Rattle.language.proofs.Lengths.{digits-length, variable-length}
+use Rattle.language.proofs.Lengths.{variable-most}
 use Rattle.program.specs.Program.{most, Targets}
-use Rattle.desk.specs.Columns.{padded, signedDigits}
+use Rattle.desk.specs.Columns.{statement-columns, padded, signedDigits}
 use Rattle.trace.specs.Trace.{stepHead}
-use Rattle.trace.proofs.Room.{signed-most, text-most, head-most}
+use Rattle.desk.proofs.Lengths.{signed-most}
+use Rattle.trace.proofs.Room.{text-most, head-most}
 use Rattle.trace.proofs.Series.{Parts, parts-most}
 use Rattle.comparison.specs.Lines.{pairText, difference, differences, pairLine}
 use Rattle.comparison.specs.Stepping.{pair-room, line-room}
@@ -24,10 +25,10 @@ pub pair-length : (x v w : ℕ) → length (pairText x v w) ≡ 2 + (length (spe
 unfolding pairText
 pair-length x v w = simp length-append (omega arith)
 
-pub pair-most : (x v w : ℕ) → x < 32 → length (pairText x v w) ≤ pair-room
-pair-most x v w h = omega (arith, pair-length x v w, variable-length x, digits-length 1 x (omega arith), signed-most v, signed-most w)
+pub pair-most : (x v w : ℕ) → ValidVariable x → length (pairText x v w) ≤ pair-room
+pair-most x v w h = omega (arith, pair-length x v w, variable-most x h, signed-most v, signed-most w)
 
-difference-most : (x : ℕ) (vs ws : List ℕ) → x < 32 → length (difference x vs ws) ≤ pair-room
+difference-most : (x : ℕ) (vs ws : List ℕ) → ValidVariable x → length (difference x vs ws) ≤ pair-room
 unfolding difference
 difference-most x vs ws h = go (eqb (getD vs x 0) (getD ws x 0))
   where
@@ -40,11 +41,11 @@ unfolding differences
 differences-parts vs ws = record { none = refl; more = λ n. refl; short = λ n h. difference-most n vs ws h }
 
 line-length : (k s : ℕ) (x y : Statement) (vs ws : List ℕ)
-    → length (pairLine k s x y vs ws) ≡ length (stepHead k s x) + (2 + (length (padded 30 (spell y)) + (length (differences 32 vs ws) + 1)))
+    → length (pairLine k s x y vs ws) ≡ length (stepHead k s x) + (2 + (length (padded statement-columns (spell y)) + (length (differences variables vs ws) + 1)))
 unfolding pairLine
 line-length k s x y vs ws = simp length-append (omega arith)
 
 pub line-most : (k s : ℕ) (x y : Statement) (vs ws : List ℕ) → k < 2 ^ 32 → s < most → Valid x × Targets most x → Valid y × Targets most y
     → length (pairLine k s x y vs ws) ≤ line-room
 line-most k s x y vs ws h l a b =
-    omega (arith, line-length k s x y vs ws, head-most k s x h l (a .0) (a .1), text-most y (b .0) (b .1), parts-most (differences-parts vs ws) 32 (omega arith))
+    omega (arith, line-length k s x y vs ws, head-most k s x h l (a .0) (a .1), text-most y (b .0) (b .1), parts-most (differences-parts vs ws) variables (omega arith))

@@ -11,7 +11,7 @@ use Rattle.base.specs.Pick.{pick}
 use Rattle.language.specs.declared.Statement.{Statement}
 use Rattle.program.specs.Program.{at}
 use Rattle.machine.specs.Machine.{State, before, ended, perform, after}
-use Rattle.desk.specs.Columns.{spaces, padded, signedDigits}
+use Rattle.desk.specs.Columns.{statement-columns, spaces, padded, signedDigits}
 use Rattle.trace.specs.Trace.{stepHead, valuesIn}
 
 -- two spaces, the variable and its two values: `i2 7 0`
@@ -29,7 +29,7 @@ differences (suc n) vs ws = differences n vs ws ++ difference n vs ws
 
 -- step k performs x at place s of the given program, and y of the rewritten one; vs and ws are the values after it
 unfoldable pub pairLine : ℕ → ℕ → Statement → Statement → List ℕ → List ℕ → List ℕ
-pairLine k s x y vs ws = stepHead k s x ++ (spaces 2 ++ (padded 30 (spell y) ++ (differences variables vs ws ++ 10 ∷ [])))
+pairLine k s x y vs ws = stepHead k s x ++ (spaces 2 ++ (padded statement-columns (spell y) ++ (differences variables vs ws ++ 10 ∷ [])))
 
 -- the line of step k where both runs stand before a statement
 abbrev pub bothLine : List Statement → List Statement → ℕ → ℕ → State → State → List ℕ

@@ -6,22 +6,25 @@ use mathlib.Core.Bool.{Bool, true, false}
 use Prim.Native.Nat.{ℕ, suc, _+_, _*_, _≤_, _<_}
 use lib.ListN.{length, take}
 use Rattle.language.specs.Spelling.{variables}
+use Rattle.language.specs.Room.{variable-room}
 use Rattle.statement_writer.specs.Writing.{Put}
 use Rattle.language.specs.declared.Statement.{Statement}
 use Rattle.machine.specs.Machine.{Final, before, ended, after}
 use Rattle.lockstep.specs.Lockstep.{Together}
+use Rattle.desk.specs.Columns.{statement-columns, signed-room}
+use Rattle.trace.specs.Stepping.{head-room}
 use Rattle.comparison.specs.Lines.{bothLines}
 use Rattle.comparison.specs.declared.Progress.{Progress}
 
 -- a variable and its two values have room in this many bytes, and every line in this many
 abbrev pub pair-room : ℕ
-pair-room = 29
+pair-room = 2 + (variable-room + (1 + (signed-room + (1 + signed-room))))
 
 abbrev pub pairs-room : ℕ
 pairs-room = variables * pair-room
 
 abbrev pub line-room : ℕ
-line-room = 80 + pairs-room
+line-room = head-room + (2 + (statement-columns + (pairs-room + 1)))
 
 -- demand 3's runs: from every start, after every number of steps, both stand before the same statement or have ended alike
 abbrev pub InStep : List Statement → List Statement → Type 0

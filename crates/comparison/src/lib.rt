@@ -8,17 +8,19 @@ ghost use Rattle.program.specs.Program.{most, Targets, WellFormed};
 ghost use Rattle.program.specs.Reading.{statements};
 ghost use Rattle.comparison.specs.Lines.{pairText, difference as differenceBytes, differences as differencesBytes, pairLine};
 ghost use Rattle.comparison.specs.Stepping.{pair-room, pairs-room, line-room, Stepped};
+use desk::columns::SIGNED_ROOM;
+use desk::columns::STATEMENT_COLUMNS;
 use language::Statement;
+use language::VARIABLE_ROOM;
 use machine::Next;
 use machine::VALUES;
 use program::Program;
+use trace::HEAD_ROOM;
 
-// Columns of a statement's text.
-const TEXT_COLUMNS: usize = 30;
 // A variable and its two values have room in this many bytes, and a line in this many.
-const PAIR_ROOM: usize = 29;
+const PAIR_ROOM: usize = 2 + VARIABLE_ROOM + 1 + SIGNED_ROOM + 1 + SIGNED_ROOM;
 
-pub const LINE_ROOM: usize = 80 + VALUES * PAIR_ROOM;
+pub const LINE_ROOM: usize = HEAD_ROOM + 2 + STATEMENT_COLUMNS + VALUES * PAIR_ROOM + 1;
 
 // `  i2 7 0`
 fn pair(out: &mut [u8], at: usize, x: u8, v: u32, w: u32) -> usize
@@ -76,7 +78,7 @@ fn line(
 {
     let k1 = trace::head(out, at, k, place, s);
     let k2 = desk::columns::spaces(out, k1, 2);
-    let k3 = desk::columns::statement(out, k2, TEXT_COLUMNS, t);
+    let k3 = desk::columns::statement(out, k2, STATEMENT_COLUMNS, t);
     let k4 = differences(out, k3, a, b);
     statement_writer::byte(out, k4, 10)
 }

@@ -1,4 +1,5 @@
 -- Refusals in words: document 01, "Numbers for a refused call or mark". Whose mistake it is comes first.
+-- The figures of sizes in the words are text.
 use mathlib.Core.List.{List, [], _∷_, _++_}
 use Prim.Native.Nat.{ℕ}
 use Prim.Native.String.{String}

@@ -6,7 +6,15 @@ ghost use Prim.Native.Nat.{_≤_, _+_, _-_};
 ghost use Rattle.language.specs.Spelling.{digits, spell};
 ghost use Rattle.statement_writer.specs.Writing.{Put};
 ghost use Rattle.desk.specs.Columns.{spaces as blanks, wide, padded, signedDigits};
+use language::NUMBER_DIGITS;
 use language::Statement;
+
+// The columns of a statement's number, and of its text.
+pub const NUMBER_COLUMNS: usize = 3;
+
+pub const STATEMENT_COLUMNS: usize = 30;
+// A value of 32 bits with its sign has room in this many bytes.
+pub const SIGNED_ROOM: usize = 1 + NUMBER_DIGITS;
 
 pub fn spaces(out: &mut [u8], at: usize, n: usize) -> usize
     requires { ⌜ at + n ≤ length (now out) ⌝ }

@@ -19,7 +19,7 @@ fn on_line(out: &mut [u8], at: usize, before: &[u8], line: u32, after: &[u8]) ->
     statement_writer::word(out, k2, after)
 }
 
-// The words of the refusal with number n.
+// The words of the refusal with number n. The figures of sizes in them are text, as in the definitions.
 pub fn words(out: &mut [u8], at: usize, n: u8, line: u32) -> usize
     requires { ⌜ at + length (refusalWords n line) ≤ length (now out) ⌝ }
     ensures { λ r. ⌜ Put (now (out .entry)) at (refusalWords n line) (now (out .exit)) r ⌝ }

@@ -20,6 +20,10 @@ use Rattle.files.specs.declared.Ended.the-variants as ended
 abbrev pub file-room : ℕ
 file-room = 65536
 
+-- pieces of what is printed are written from this many bytes
+abbrev pub chunk-room : ℕ
+chunk-room = 16384
+
 -- an open file's descriptor isn't negative
 abbrev pub Opens : Opened → Type 0
 Opens (opened.File d) = T (nonNeg d)

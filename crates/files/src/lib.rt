@@ -1,14 +1,18 @@
 // A program's arguments, the files that they name, its standard output and its status. What can't be read or written is told in a line on
 // standard error.
+ghost use mathlib.Core.Path.{_≡_};
 ghost use Prim.Native.Nat.{_≤_};
+ghost use lib.ListN.{length};
 ghost use Rattle.io.specs.Counts.{Counts};
-ghost use Rattle.files.specs.Files.{Opens, Takes, Ends, Reads, Settles};
+ghost use Rattle.files.specs.Files.{chunk-room, Opens, Takes, Ends, Reads, Settles};
 use libc::STDERR_FILENO;
 use libc::STDOUT_FILENO;
 use tokens::WordRead;
 
 // A file has at most 65,535 bytes; one byte more is lent, by which a longer one is told.
 const FILE_ROOM: usize = 65536;
+// Pieces of what is printed are written from this many bytes.
+pub const CHUNK: usize = 16384;
 // What a program tells of how it went: a result, a refusal, usage or a file that can't be read, output that wasn't written.
 pub const RESULT: u8 = 0;
 
@@ -45,6 +49,12 @@ enum Ended {
     Whole(usize),
     Full,
     Failed,
+}
+
+pub fn chunk() -> [u8; CHUNK]
+    ensures { λ r. ⌜ length r ≡ chunk-room ⌝ }
+{
+    [0; CHUNK]
 }
 
 // Whether the first argument is `--status`.

@@ -13,7 +13,7 @@ use Rattle.language.specs.declared.Statement.{Statement}
 use Rattle.base.proofs.Bools.{or-left, or-right}
 use Rattle.program.specs.declared.Entry.{Entry}
 use Rattle.program.specs.declared.Program.{Program}
-use Rattle.program.specs.Program.{at, WellFormed}
+use Rattle.program.specs.Program.{at, most, WellFormed}
 use Rattle.program.specs.Reading.{statementIn, statements, Held}
 use Rattle.program.proofs.Held.{held, at-held, length-held}
 use Rattle.graph.specs.Graphs.{places}
@@ -29,6 +29,10 @@ pub follow-next : (s t a b : ℕ) → (a ≡ s) × (b ≡ s) → (eqb a t || eqb
 follow-next s t a b e = follow-only s t a b e ∙ sym (or-false (eqb s t))
 
 -- ---- from the first on
+
+-- a graph has a place for each statement of a program; `graph` stands below `program`, so its figure is one of its own
+pub graph-room : (n : ℕ) → n ≤ most → n ≤ places
+graph-room n h = omega arith
 
 pub count-fits : (p : Program) → Held p → p .count ≤ length (p .entries)
 count-fits p h = omega (arith, h .room, h .few)
@@ -66,16 +70,16 @@ module _ (p : Program) (h : Held p) (first₀ second₀ : List ℕ) (first-room 
       here : Follow (at (map statementIn (take n es)) s) s (getD (set first s a) s 0) (getD (set second s b) s 0)
       here =
           rw (
-            getD-set-same first s a 0 (omega (arith, l .first-size, h .few)),
-            getD-set-same second s b 0 (omega (arith, l .second-size, h .few)),
+            getD-set-same first s a 0 (omega (arith, l .first-size, graph-room n (h .few))),
+            getD-set-same second s b 0 (omega (arith, l .second-size, graph-room n (h .few))),
             at-held es n s (rw (length-held es n fits) low),
           )
           f
 
   pub listed-all : n ≤ s → Successors (statements p) first second
   listed-all past = record {
-    first-room = rw (length-held es n fits) (omega (arith, l .first-size, h .few));
-    second-room = rw (length-held es n fits) (omega (arith, l .second-size, h .few));
+    first-room = rw (length-held es n fits) (omega (arith, l .first-size, graph-room n (h .few)));
+    second-room = rw (length-held es n fits) (omega (arith, l .second-size, graph-room n (h .few)));
     exact = λ j t k. l .follow j (omega (arith, length-held es n fits)) t;
   }
 

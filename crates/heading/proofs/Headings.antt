@@ -6,7 +6,7 @@ use Prim.Native.Nat.{ℕ, _≤_, _<_, _^_}
 use native.Mathlib.Omega.{arith}
 use lib.ListN.{length}
 use Rattle.statement_writer.specs.Writing.{Put}
-use Rattle.language.proofs.Lengths.{digits-length}
+use Rattle.language.proofs.Lengths.{number-most}
 use Rattle.run.specs.Run.{most-steps, budget-number}
 use Rattle.judge.specs.Judge.{Room, Lent, JudgeAnswers}
 use Rattle.judge.specs.declared.JudgeAnswer.{JudgeAnswer}
@@ -20,7 +20,7 @@ use Rattle.blame.proofs.Blames.{blamed, no-number}
 use Rattle.heading.specs.Heading.{HeadRefused, HeadJudged}
 
 pub counts-most : (m a : ℕ) → m < 2 ^ 32 → a < 2 ^ 32 → length (countsLine m a) ≤ refusal-room
-counts-most m a h k = omega (arith, counts-length m a, digits-length 9 m (omega arith), digits-length 9 a (omega arith))
+counts-most m a h k = omega (arith, counts-length m a, number-most m h, number-most a k)
 
 pub budget-refused : {t u o q : List ℕ} {budget n : ℕ} → most-steps < budget → length (refusalText budget-number 0) ≤ length o
     → Put o 0 (refusalText budget-number 0) q n → HeadRefused t u budget o q n

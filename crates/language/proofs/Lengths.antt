@@ -1,4 +1,4 @@
--- How long a line can be.
+-- How long what is spelled is, and how long it can be. Assumes nothing.
 use mathlib.Core.Path.{_≡_, refl, ap, sym, _∙_}
 use mathlib.Core.List.{List, [], _∷_, _++_}
 use mathlib.Core.Bool.{Bool, true, false}
@@ -14,16 +14,23 @@ use Rattle.language.specs.declared.Expression.{Expression}
 use Rattle.language.specs.declared.Expression.the-variants.{Single, Binary}
 use Rattle.language.specs.declared.Statement.{Statement}
 use Rattle.language.specs.declared.Statement.the-variants.{Read, Write, Assign, Branch, Skip}
-use Rattle.language.specs.Spelling.{largest, digits, spellVariable, spellOperand, spellExpression, spell, ValidOperand, ValidExpression, Valid}
+use Rattle.language.specs.Spelling.{largest, digits, spellVariable, spellOperand, spellExpression, spell, ValidVariable, ValidOperand, ValidExpression, Valid}
+use Rattle.language.specs.Room.{number-digits, variable-digits, target-digits, variable-room, operand-room, expression-room, statement-room}
 use Rattle.language.proofs.Digits.{digits-small, digits-next}
 
-pub digits-length : (k n : ℕ) → n < 10 ^ suc k → length (digits n) ≤ suc k
-digits-length zero n h = omega (arith, ap length (digits-small n h))
-digits-length (suc k) n h = go (ltb n 10) refl (digits-length k (n / 10))
+-- a number below 10 ^ d has at most d digits
+pub digits-length : (d n : ℕ) → 0 < d → n < 10 ^ d → length (digits n) ≤ d
+digits-length zero n p h = absurd (omega arith)
+digits-length (suc zero) n p h = omega (arith, ap length (digits-small n h))
+digits-length (suc (suc k)) n p h = go (ltb n 10) refl (digits-length (suc k) (n / 10))
   where
-    go : (b : Bool) → ltb n 10 ≡ b → (n / 10 < 10 ^ suc k → length (digits (n / 10)) ≤ suc k) → length (digits n) ≤ suc (suc k)
+    go : (b : Bool) → ltb n 10 ≡ b → (0 < suc k → n / 10 < 10 ^ suc k → length (digits (n / 10)) ≤ suc k) → length (digits n) ≤ suc (suc k)
     go true e ih = omega (arith, ap length (digits-small n (ltb-true n 10 e)))
-    go false e ih = omega (arith, ap length (digits-next n (ltb-false n 10 e)), length-append (digits (n / 10)) ((48 + n % 10) ∷ []), ih (omega arith))
+    go false e ih = omega (arith, ap length (digits-next n (ltb-false n 10 e)), length-append (digits (n / 10)) ((48 + n % 10) ∷ []), ih (omega arith) (omega arith))
+
+-- a number of 32 bits
+pub number-most : (n : ℕ) → n < 2 ^ 32 → length (digits n) ≤ number-digits
+number-most n h = digits-length number-digits n (omega arith) (omega arith)
 
 -- how long a text is, from its parts
 pub variable-length : (x : ℕ) → length (spellVariable x) ≡ 1 + length (digits x)
@@ -42,31 +49,33 @@ pub branch-length : (x n m : ℕ) → length (spell (Branch x n m)) ≡ 3 + (len
 unfolding spell
 branch-length x n m = simp length-append (omega arith)
 
-variable-most : (x : ℕ) → x < 32 → length (spellVariable x) ≤ 3
-variable-most x h = omega (arith, variable-length x, digits-length 1 x (omega arith))
+-- how long it can be
+pub variable-most : (x : ℕ) → ValidVariable x → length (spellVariable x) ≤ variable-room
+variable-most x h = omega (arith, variable-length x, digits-length variable-digits x (omega arith) (omega arith))
 
-operand-most : (a : Operand) → ValidOperand a → length (spellOperand a) ≤ 10
+pub operand-most : (a : Operand) → ValidOperand a → length (spellOperand a) ≤ operand-room
 unfolding spellOperand
 operand-most (Variable x) v = omega (arith, variable-most x v)
-operand-most (Constant n) v = digits-length 9 n (omega arith)
+operand-most (Constant n) v = number-most n (omega arith)
 
-expression-most : (e : Expression) → ValidExpression e → length (spellExpression e) ≤ 23
+pub expression-most : (e : Expression) → ValidExpression e → length (spellExpression e) ≤ expression-room
 unfolding spellExpression
 expression-most (Single a) v = omega (arith, operand-most a v)
 expression-most (Binary a o b) v = omega (arith, binary-length a o b, operand-most a (v .0), operand-most b (v .1))
 
--- a branch's targets have three digits at most
+-- a branch's targets have few digits
 abbrev pub Near : Statement → Type 0
 Near (Read x) = Unit
 Near (Write x) = Unit
 Near (Assign x e) = Unit
-Near (Branch x n m) = (n < 1000) × (m < 1000)
+Near (Branch x n m) = (n < 10 ^ target-digits) × (m < 10 ^ target-digits)
 Near Skip = Unit
 
-pub line-most : (s : Statement) → Valid s → Near s → length (spell s) ≤ 30
+pub statement-most : (s : Statement) → Valid s → Near s → length (spell s) ≤ statement-room
 unfolding spell
-line-most (Read x) v n = omega (arith, variable-most x v)
-line-most (Write x) v n = omega (arith, variable-most x v)
-line-most (Assign x e) v n = omega (arith, assign-length x e, variable-most x (v .0), expression-most e (v .1))
-line-most (Branch x a b) v n = omega (arith, branch-length x a b, variable-most x (v .0), digits-length 2 a (omega arith), digits-length 2 b (omega arith))
-line-most Skip v n = omega arith
+statement-most (Read x) v n = omega (arith, variable-most x v)
+statement-most (Write x) v n = omega (arith, variable-most x v)
+statement-most (Assign x e) v n = omega (arith, assign-length x e, variable-most x (v .0), expression-most e (v .1))
+statement-most (Branch x a b) v n =
+    omega (arith, branch-length x a b, variable-most x (v .0), digits-length target-digits a (omega arith) (n .0), digits-length target-digits b (omega arith) (n .1))
+statement-most Skip v n = omega arith

@@ -4,6 +4,10 @@
 pub const VARIABLES: u32 = 32;
 // The largest constant and statement number.
 pub const LARGEST: u64 = 2147483647;
+// A number of 32 bits has at most this many digits, and a variable's text this many bytes.
+pub const NUMBER_DIGITS: usize = 10;
+
+pub const VARIABLE_ROOM: usize = 3;
 
 pub enum Operand {
     Variable(u8),

@@ -16,7 +16,7 @@ use language::Statement;
 use program::Program;
 
 // One value for each variable.
-pub const VALUES: usize = 32;
+pub const VALUES: usize = language::VARIABLES as usize;
 
 // Where a step leads: before the statement at a place, or out of the program with a value.
 pub enum Next {

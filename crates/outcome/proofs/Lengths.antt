@@ -9,13 +9,13 @@ use Rattle.desk.proofs.Rooms.{refusal-most}
 use Rattle.trace.specs.Trace.{valueText}
 use Rattle.trace.proofs.Room.{value-most}
 use Rattle.trace.proofs.Series.{Parts}
-use Rattle.outcome.specs.Outcome.{valueLines, value-room, outcome-room}
+use Rattle.outcome.specs.Outcome.{valueLines, value-line-room, outcome-room}
 
 -- a line for each variable
 abbrev pub valueLine : List ℕ → ℕ → List ℕ
 valueLine vs n = valueText n (getD vs n 0) ++ 10 ∷ []
 
-pub lines-parts : (vs : List ℕ) → Parts (λ n. valueLines n vs) (valueLine vs) value-room
+pub lines-parts : (vs : List ℕ) → Parts (λ n. valueLines n vs) (valueLine vs) value-line-room
 unfolding valueLines
 lines-parts vs =
     record {
@@ -24,5 +24,5 @@ lines-parts vs =
       short = λ n h. omega (arith, length-append (valueText n (getD vs n 0)) (10 ∷ []), value-most n (getD vs n 0) h);
     }
 
-pub refused-most : (n line : ℕ) → n < 1000 → line < 2 ^ 32 → length (refusalText n line) ≤ outcome-room
-refused-most n line h l = omega (arith, refusal-most n line h (omega arith))
+pub refused-most : (n line : ℕ) → n < 2 ^ 8 → line < 2 ^ 32 → length (refusalText n line) ≤ outcome-room
+refused-most n line h l = omega (arith, refusal-most n line h l)

@@ -18,6 +18,7 @@ use Rattle.start.specs.declared.Answer as start
 use Rattle.start.specs.declared.Answer.the-variants.{Taken}
 use Rattle.start_refusal.specs.StartRefusal.{startText}
 use Rattle.trace.specs.Trace.{valueText}
+use Rattle.trace.specs.Stepping.{value-room}
 use Rattle.answer_line.specs.AnswerLine.{answerLine, spent-room}
 use Rattle.outcome.specs.declared.Told.{Told}
 use Rattle.outcome.specs.declared.Told.the-variants.{Written, Refused, NoRoom}
@@ -83,12 +84,12 @@ pub record Runs (t u : List ℕ) (P : List Statement) (vs : List ℕ) (input bud
   pub allowed : budget ≤ most-steps
   pub taken : program.Taken t P
 
--- room for a line as long as `i31 = -2147483648`, and for every output
-abbrev pub value-room : ℕ
-value-room = 18
+-- room for the line of a value, and for every output
+abbrev pub value-line-room : ℕ
+value-line-room = value-room + 1
 
 abbrev pub outcome-room : ℕ
-outcome-room = spent-room + variables * value-room
+outcome-room = spent-room + variables * value-line-room
 
 -- a text of which the claim holds stands at the front of the lent bytes o, all others are kept, and n is its length
 pub record Printed (Claim : List ℕ → Type 0) (o q : List ℕ) (n : ℕ) : Type 0 where

@@ -3,15 +3,17 @@ ghost use Prim.Native.Nat.{_≤_, _+_, _*_};
 ghost use lib.ListN.{length};
 ghost use Rattle.language.specs.Spelling.{variables};
 ghost use Rattle.statement_writer.specs.Writing.{Put};
-ghost use Rattle.outcome.specs.Outcome.{valueLines, answerText, value-room, outcome-room, Prints, RunPrints};
+ghost use Rattle.outcome.specs.Outcome.{valueLines, answerText, value-line-room, outcome-room, Prints, RunPrints};
+use answer_line::SPENT_ROOM;
 use machine::Answer;
 use machine::VALUES;
 use run::RunAnswer;
+use trace::VALUE_ROOM;
 
-// A line `i31 = -2147483648` has room in this many bytes, and every outcome in this many.
-const VALUE_ROOM: usize = 18;
+// The line of a value has room in this many bytes, and every outcome in this many.
+const VALUE_LINE_ROOM: usize = VALUE_ROOM + 1;
 
-const OUTCOME_ROOM: usize = 20 + VALUES * VALUE_ROOM;
+const OUTCOME_ROOM: usize = SPENT_ROOM + VALUES * VALUE_LINE_ROOM;
 
 // The number of bytes: Written, of a result; Refused, of a refusal's text. NoRoom: under OUTCOME_ROOM bytes are lent.
 pub enum Told {
@@ -22,7 +24,7 @@ pub enum Told {
 
 // A line `i0 = 2` for each variable.
 fn value_lines(out: &mut [u8], at: usize, values: &[u32; VALUES]) -> usize
-    requires { ⌜ at + variables * value-room ≤ length (now out) ⌝ }
+    requires { ⌜ at + variables * value-line-room ≤ length (now out) ⌝ }
     ensures { λ r. ⌜ Put (now (out .entry)) at (valueLines variables (now (values .entry))) (now (out .exit)) r ⌝ }
 {
     let mut to = at;

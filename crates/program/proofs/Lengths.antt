@@ -4,19 +4,24 @@ use Prim.Native.Nat.{ℕ, suc, _*_, _≤_, _<_}
 use native.Mathlib.Omega.{arith}
 use lib.ListN.{length, length-append}
 use Rattle.lines.specs.Lines as lines
-use Rattle.language.specs.Spelling.{spell}
+use Rattle.language.specs.Spelling.{spell, Valid}
+use Rattle.language.specs.Room.{statement-room}
 use Rattle.language.specs.declared.Statement.{Statement}
 use Rattle.language.specs.declared.Statement.the-variants.{Read, Write, Assign, Branch, Skip}
-use Rattle.language.proofs.Lengths.{Near, line-most}
+use Rattle.language.proofs.Lengths.{Near, statement-most}
 use Rattle.program.specs.Program.{at, text, AllValid, most, line-room, text-room, Targets, WellFormed}
 
--- targets within a program of 256 lines have three digits at most
-near : (N : ℕ) (s : Statement) → N ≤ most → Targets N s → Near s
+-- targets within a program have few digits
+pub near : (N : ℕ) (s : Statement) → N ≤ most → Targets N s → Near s
 near N (Read x) h t = tt
 near N (Write x) h t = tt
 near N (Assign x e) h t = tt
 near N (Branch x n m) h t = (omega arith, omega arith)
 near N Skip h t = tt
+
+-- a statement of a program
+pub statement-short : (N : ℕ) (s : Statement) → N ≤ most → Valid s → Targets N s → length (spell s) ≤ statement-room
+statement-short N s h v t = statement-most s v (near N s h t)
 
 -- each line has room in line-room bytes
 lines-most : (N : ℕ) (P : List Statement) → N ≤ most → AllValid P → ((s : ℕ) → s < length P → Targets N (at P s)) → length (text P) ≤ line-room * length P
@@ -24,7 +29,7 @@ unfolding lines.text
 lines-most N [] h v t = omega arith
 lines-most N (s ∷ P) h v t =
     let a = length-append (spell s) (10 ∷ text P) in
-    let b = line-most s (v .0) (near N s h (t 0 (omega arith))) in
+    let b = statement-short N s h (v .0) (t 0 (omega arith)) in
     let c = lines-most N P h (v .1) (λ i l. t (suc i) (omega arith)) in
     omega arith
 

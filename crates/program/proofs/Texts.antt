@@ -63,7 +63,7 @@ module _ {t : List ℕ} {n : ℕ} {es : List Entry} (k : Kept t n es) where
   pub count-refused : (fewest ≤ n → n ≤ most → ⊥) → Refused t Refusal.LineCount
   count-refused f = (k .P, k .spells, λ c. f (omega arith) (omega arith))
 
-  -- at most 256 lines are kept whole
+  -- no more than `most` lines are kept whole
   module _ (low : fewest ≤ n) (high : n ≤ most) where
     kept-statements : map statementIn (take n es) ≡ k .P
     kept-statements =

@@ -6,18 +6,18 @@ use Prim.Native.Nat.{ℕ, _+_, _≤_}
 use native.Mathlib.Omega.{arith}
 use lib.ListN.{length, length-append}
 use Rattle.language.specs.Spelling.{spellVariable, ValidVariable, spellOperand, ValidOperand, spellExpression, spell}
+use Rattle.language.specs.Room.{variable-room, operand-room}
 use Rattle.language.specs.declared.Operand.{Operand}
-use Rattle.language.specs.declared.Operand.the-variants.{Variable, Constant}
 use Rattle.language.specs.declared.Expression.the-variants.{Single}
 use Rattle.language.specs.declared.Statement.the-variants.{Assign}
-use Rattle.language.proofs.Lengths.{digits-length, assign-length}
+use Rattle.language.proofs.Lengths.{assign-length, variable-most, operand-most}
 use Rattle.condition.specs.Condition.{spellCondition, spellAtom, ValidCondition, parts}
 use Rattle.condition.specs.Texts.{Taken}
 use Rattle.marks.specs.Marks.{ValidMark}
 use Rattle.marks.specs.declared.Mark.{Mark}
 use Rattle.marks.specs.declared.Mark.the-variants.{Rm, Rpl}
 use Rattle.lockstep.specs.Rules.{unneeded, copiedBefore, published}
-use Rattle.published.specs.Published.{published-room}
+use Rattle.published.specs.Published.{published-room, published-most, copy-room}
 
 -- the words between the variables: `!EX E[!def(`, `) U use(`, `)]`
 abbrev pub unneeded-open : List ℕ
@@ -50,30 +50,21 @@ pub copied-text : (x : ℕ) (a : Operand)
 unfolding spellCondition spellAtom spellExpression
 copied-text x a = simp append-assoc
 
--- a valid variable has at most 3 bytes, a valid operand at most 10
-pub variable-most : (x : ℕ) → ValidVariable x → length (spellVariable x) ≤ 3
-unfolding spellVariable
-variable-most x h = let l = digits-length 1 x (omega arith) in omega arith
-
-operand-most : (a : Operand) → ValidOperand a → length (spellOperand a) ≤ 10
-unfolding spellOperand
-operand-most (Variable x) h = let l = variable-most x h in omega arith
-operand-most (Constant n) h = digits-length 9 n (omega arith)
-
-assign-most : (x : ℕ) (a : Operand) → ValidVariable x → ValidOperand a → length (spell (Assign x (Single a))) ≤ 17
+-- the copy `X := A`
+assign-most : (x : ℕ) (a : Operand) → ValidVariable x → ValidOperand a → length (spell (Assign x (Single a))) ≤ copy-room
 unfolding spellExpression
-assign-most x a v o = let l = assign-length x (Single a) in let k = variable-most x v in let j = operand-most a o in omega arith
+assign-most x a v o = omega (arith, assign-length x (Single a), variable-most x v, operand-most a o)
 
 pub record CopiedLengths (x : ℕ) (a : Operand) : Type 0 where
-  pub variable : length (spellVariable x) ≤ 3
-  pub operand : length (spellOperand a) ≤ 10
-  pub assign : length (spell (Assign x (Single a))) ≤ 17
+  pub variable : length (spellVariable x) ≤ variable-room
+  pub operand : length (spellOperand a) ≤ operand-room
+  pub assign : length (spell (Assign x (Single a))) ≤ copy-room
 
 pub copied-lengths : (x : ℕ) (a : Operand) → ValidVariable x → ValidOperand a → CopiedLengths x a
 copied-lengths x a v o = record { variable = variable-most x v; operand = operand-most a o; assign = assign-most x a v o }
 
 -- the parts and the text of a published condition are few enough for a reader, and what it names is valid
-pub published-parts : (m : Mark) → length (parts (published m)) ≤ 10
+pub published-parts : (m : Mark) → length (parts (published m)) ≤ published-most
 unfolding parts
 published-parts (Rm n x e) = omega arith
 published-parts (Rpl n x a) = omega arith

@@ -17,7 +17,7 @@ words-length n line = simp length-append
 
 -- numbers of a byte and lines of 32 bits
 pub words-most : (n line m : ℕ) → n < 2 ^ 8 → line < 2 ^ 32 → refusal-room ≤ m → length (wordsLine n line) ≤ m
-words-most n line m h l r = omega (arith, words-length n line, refusal-length n line, refusal-most n line (omega arith) (omega arith))
+words-most n line m h l r = omega (arith, words-length n line, refusal-length n line, refusal-most n line h l)
 
 -- the words end within the lent bytes
 pub words-within : (t u o q : List ℕ) {r : Worded} {n : ℕ} → r ≡ Written n → Words t u o q r → n ≤ length q

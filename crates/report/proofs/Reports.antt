@@ -2,7 +2,7 @@
 use mathlib.Core.Path.{_≡_, refl, ap}
 use mathlib.Core.Logic.{inl, inr, ⊎-elim}
 use mathlib.Core.List.{List, _++_}
-use Prim.Native.Nat.{ℕ, _≤_, _<_}
+use Prim.Native.Nat.{ℕ, _^_, _≤_, _<_}
 use native.Mathlib.Omega.{arith}
 use lib.ListN.{length, take}
 use Rattle.statement_writer.specs.Writing.{Put}
@@ -21,7 +21,7 @@ use Rattle.statement_writer.proofs.Puts.{put-front, put-within}
 use Rattle.judge.specs.Judge.{text-bytes, Room, Lent, JudgeRefused, JudgeFinished, JudgeAnswers}
 use Rattle.judge.specs.declared.JudgeAnswer.{JudgeAnswer}
 use Rattle.judge.specs.declared.JudgeAnswer.the-variants.{Refused, Finished}
-use Rattle.report.specs.Report.{refusedLine, countsLine, verdictLines, reportText, Refuses, PrintsReport, PrintsRefusal, report-room, Printed, Reports}
+use Rattle.report.specs.Report.{refusedLine, countsLine, verdictLines, reportText, Refuses, PrintsReport, PrintsRefusal, verdict-digits, report-room, Printed, Reports}
 use Rattle.report.specs.declared.Reported.{Reported}
 use Rattle.report.specs.declared.Reported.the-variants as reported
 use Rattle.report.specs.declared.Reported.the-variants.{Written}
@@ -43,22 +43,22 @@ module _ (t u : List ℕ) (o q : Lent) {r : JudgeAnswer} (a : JudgeAnswers t u o
   pub answer-finished : {count accepted bytes : ℕ} → r ≡ Finished count accepted bytes → JudgeFinished t u o q count accepted bytes
   answer-finished is = rw is at a
 
-program-number : (r : program-refusal.Refusal) → program.number r < 100
+program-number : (r : program-refusal.Refusal) → program.number r < 10 ^ verdict-digits
 program-number Misspelled = omega arith
 program-number LineCount = omega arith
 program-number Placement = omega arith
 program-number Target = omega arith
 
-marks-number : (r : marks-refusal.Refusal) → marks.number r < 100
+marks-number : (r : marks-refusal.Refusal) → marks.number r < 10 ^ verdict-digits
 marks-number of-marks.Misspelled = omega arith
 marks-number of-marks.LineCount = omega arith
 
-refuses-number : {t u : List ℕ} {n : ℕ} → Refuses t u n → n < 100
+refuses-number : {t u : List ℕ} {n : ℕ} → Refuses t u n → n < 10 ^ verdict-digits
 refuses-number (inl h) = rw (h .2) (program-number (h .0))
 refuses-number (inr h) = rw (h .4) (marks-number (h .2))
 
 pub refused-room : {t u : List ℕ} {n : ℕ} → Refuses t u n → length (refusedLine n) ≤ report-room
-refused-room {n = n} h = omega (arith, refused-length n, digits-length 1 n (refuses-number h))
+refused-room {n = n} h = omega (arith, refused-length n, digits-length verdict-digits n (omega arith) (refuses-number h))
 
 pub refused-printed : {t u o p : List ℕ} {n k : ℕ} → Refuses t u n → report-room ≤ length o → Put o 0 (refusedLine n) p k → Printed (PrintsRefusal t u) o p k
 refused-printed {n = n} h room put =

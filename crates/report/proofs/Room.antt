@@ -1,14 +1,14 @@
--- A report has room in 11,799 bytes, whatever the program and the list. Assumes nothing.
+-- A report has room in report-room bytes, whatever the program and the list. Assumes nothing.
 use mathlib.Core.Path.{_≡_}
 use mathlib.Core.List.{List, [], _∷_}
-use Prim.Native.Nat.{ℕ, suc, _+_, _*_, _≤_, _<_}
+use Prim.Native.Nat.{ℕ, suc, _+_, _*_, _^_, _≤_, _<_}
 use native.Mathlib.Omega.{arith}
 use lib.Dec.{eqb}
 use lib.ListN.{length, drop, getD, length-append}
 use lib.Seq.{getD-drop}
 use Rattle.language.specs.Spelling.{largest}
 use Rattle.language.specs.declared.Statement.{Statement}
-use Rattle.language.proofs.Lengths.{digits-length}
+use Rattle.language.proofs.Lengths.{digits-length, number-most}
 use Rattle.program.specs.Program.{text}
 use Rattle.bits.proofs.Counts.{count-le}
 use Rattle.marks.specs.declared.Mark.{Mark}
@@ -19,20 +19,20 @@ use Rattle.rewriting.specs.declared.Verdict.{Verdict}
 use Rattle.rewriting.specs.declared.Verdict.the-variants.{Accepted, Missing, Repeated, Unfit, Unmet}
 use Rattle.rewriting.specs.Verdicts.{number, Verdicts, acceptedCount}
 use Rattle.judge.specs.Judge.{text-bytes}
-use Rattle.report.specs.Report.{countsLine, verdictLine, verdictLines, reportText, report-room}
+use Rattle.report.specs.Report.{countsLine, verdictLine, verdictLines, reportText, count-digits, verdict-digits, counts-room, verdict-room, report-room}
 use Rattle.report.proofs.Lines.{counts-length, verdict-length}
 
-counts-most : (m a : ℕ) → m ≤ most → a ≤ m → length (countsLine m a) ≤ 23
-counts-most m a h k = omega (arith, counts-length m a, digits-length 2 m (omega arith), digits-length 2 a (omega arith))
+counts-most : (m a : ℕ) → m ≤ most → a ≤ m → length (countsLine m a) ≤ counts-room
+counts-most m a h k = omega (arith, counts-length m a, digits-length count-digits m (omega arith) (omega arith), digits-length count-digits a (omega arith) (omega arith))
 
-verdict-most : (n v : ℕ) → n ≤ largest → v < 100 → length (verdictLine n v) ≤ 14
-verdict-most n v h k = omega (arith, verdict-length n v, digits-length 9 n (omega arith), digits-length 1 v (omega arith))
+verdict-most : (n v : ℕ) → n ≤ largest → v < 10 ^ verdict-digits → length (verdictLine n v) ≤ verdict-room
+verdict-most n v h k = omega (arith, verdict-length n v, number-most n (omega arith), digits-length verdict-digits v (omega arith) k)
 
 names-valid : (m : Mark) → ValidMark m → names m ≤ largest
 names-valid (Rm n x e) v = v .0
 names-valid (Rpl n x a) v = v .0
 
-verdicts-most : (ms : List Mark) (vs : List ℕ) → AllValid ms → ((j : ℕ) → j < length ms → getD vs j 0 < 100) → length (verdictLines ms vs) ≤ length ms * 14
+verdicts-most : (ms : List Mark) (vs : List ℕ) → AllValid ms → ((j : ℕ) → j < length ms → getD vs j 0 < 10 ^ verdict-digits) → length (verdictLines ms vs) ≤ length ms * verdict-room
 unfolding verdictLines
 verdicts-most [] vs v h = omega arith
 verdicts-most (m ∷ ms) vs v h =
@@ -40,7 +40,7 @@ verdicts-most (m ∷ ms) vs v h =
     let k = verdicts-most ms (drop 1 vs) (v .1) (λ j i. let e : 1 + j ≡ suc j = omega arith in rw (getD-drop 1 vs j 0, e) (h (suc j) (omega arith))) in
     simp length-append (omega arith)
 
-number-small : (v : Verdict) → number v < 100
+number-small : (v : Verdict) → number v < 10 ^ verdict-digits
 number-small Accepted = omega arith
 number-small Missing = omega arith
 number-small Repeated = omega arith

@@ -6,6 +6,7 @@ use Prim.Native.Nat.{ℕ, _+_, _*_, _≤_, _<_}
 use lib.ListN.{length, getD, drop}
 use Rattle.base.specs.Bytes.{byte, bytes}
 use Rattle.language.specs.Spelling.{digits}
+use Rattle.language.specs.Room.{number-digits}
 use Rattle.statement_writer.specs.Writing.{Put}
 use Rattle.language.specs.declared.Statement.{Statement}
 use Rattle.program.specs.Program.{text, Taken}
@@ -77,9 +78,23 @@ pub record PrintsReport (t u w : List ℕ) : Type 0 where
 abbrev pub Output : List ℕ → List ℕ → List ℕ → Type 0
 Output t u w = PrintsRefusal t u w ⊎ PrintsReport t u w
 
--- room for every output: a line as long as `marks 256 accepted 256`, 256 as long as `2147483647 14`, and the new text
+-- the digits of the number of marks, and of a verdict or a refusal
+abbrev pub count-digits : ℕ
+count-digits = 3
+
+abbrev pub verdict-digits : ℕ
+verdict-digits = 2
+
+-- room for a line as long as `marks 256 accepted 256`, and for one as long as `2147483647 14`
+abbrev pub counts-room : ℕ
+counts-room = 6 + (count-digits + (10 + (count-digits + 1)))
+
+abbrev pub verdict-room : ℕ
+verdict-room = number-digits + (1 + (verdict-digits + 1))
+
+-- room for every output: the counts, a line for each mark, and the new text
 abbrev pub report-room : ℕ
-report-room = 23 + (marks.most * 14 + text-bytes)
+report-room = counts-room + (marks.most * verdict-room + text-bytes)
 
 -- such an output stands at the front of the lent bytes o, all others are kept, and n is its length
 pub record Printed (Says : List ℕ → Type 0) (o q : List ℕ) (n : ℕ) : Type 0 where

@@ -12,10 +12,19 @@ ghost use Rattle.report.specs.Writing.{VerdictsFit, ReportFits};
 use desk::refusals::REFUSAL_ROOM;
 use judge::JudgeAnswer;
 use judge::TEXT_BYTES;
+use language::NUMBER_DIGITS;
 use marks::read::MarkRead;
 
-// Every output has room in this many bytes.
-pub const REPORT_ROOM: usize = 23 + marks::MOST * 14 + TEXT_BYTES;
+// The digits of the number of marks, and of a verdict.
+const COUNT_DIGITS: usize = 3;
+
+const VERDICT_DIGITS: usize = 2;
+// The line of the counts and that of a verdict have room in this many bytes, and every output in this many.
+const COUNTS_ROOM: usize = 6 + COUNT_DIGITS + 10 + COUNT_DIGITS + 1;
+
+const VERDICT_ROOM: usize = NUMBER_DIGITS + 1 + VERDICT_DIGITS + 1;
+
+pub const REPORT_ROOM: usize = COUNTS_ROOM + marks::MOST * VERDICT_ROOM + TEXT_BYTES;
 
 // Written: the number of bytes of the report. Refused: the same of the line of a refused call. NoRoom: under REPORT_ROOM bytes are lent.
 pub enum Reported {

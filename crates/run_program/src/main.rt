@@ -1,24 +1,13 @@
 // Runs a program from a start: run_program [PROGRAM [START [trace]]], files that default to `given` and `start`. Prints the outcome or the
 // refusal in words, and with the word `trace` a line for each step before it.
-ghost use mathlib.Core.Path.{_≡_};
-ghost use lib.ListN.{length};
 use files::FileRead;
 use libc::STDERR_FILENO;
 use tokens::WordRead;
 use transcript::Stage;
 
-// Pieces of the output are written from this many bytes.
-const CHUNK: usize = 16384;
-
-fn chunk() -> [u8; CHUNK]
-    ensures { λ r. ⌜ length r ≡ 16384 ⌝ }
-{
-    [0; CHUNK]
-}
-
 // Writes all pieces, and answers the status.
 fn print(program: &[u8], start: &[u8], trace: bool) -> u8 {
-    let mut out = chunk();
+    let mut out = files::chunk();
     let mut at = transcript::first();
     while !transcript::over(at) {
         let piece = transcript::next(program, start, trace, at, &mut out);

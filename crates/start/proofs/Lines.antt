@@ -9,6 +9,7 @@ use borrow.Author.Count.{below-more}
 use lib.Seq.{getD-set-same, getD-set-other, getD-append-seam}
 use Rattle.lines.specs.Lines.{LineOf}
 use Rattle.lines.proofs.Walk.{line-further}
+use Rattle.language.specs.Spelling.{variables}
 use Rattle.tokens.specs.declared.NumberRead.{NumberRead}
 use Rattle.tokens.specs.declared.NumberRead.the-variants.{Found, Misspelled}
 use Rattle.start.specs.Start.{spellLine, RightLine, startLines, AllRight, fewest, most, Begins, StartTaken, WrongLine, LineRead}
@@ -116,7 +117,7 @@ module _ {t ns : List ℕ} {at k : ℕ} (i : SoFar t ns at k) where
     pub too-few : {X : Type 0} → k < fewest → X → (ls : List ℕ) × Begins t ls [] × (length ls < fewest) × X
     too-few f z = (i .ls, all-read, omega (arith, i .counted), z)
 
-    pub taken : (vs : List ℕ) → fewest ≤ k → (length vs ≡ 32) × ((x : ℕ) → x < 32 → getD vs x 0 ≡ getD ns (2 + x) 0) → StartTaken t (getD ns 0 0) (getD ns 1 0) vs
+    pub taken : (vs : List ℕ) → fewest ≤ k → (length vs ≡ variables) × ((x : ℕ) → x < variables → getD vs x 0 ≡ getD ns (2 + x) 0) → StartTaken t (getD ns 0 0) (getD ns 1 0) vs
     taken vs f v =
         record {
           ls = i .ls;
@@ -130,11 +131,11 @@ module _ {t ns : List ℕ} {at k : ℕ} (i : SoFar t ns at k) where
 
 -- the numbers from the third on are copied, up to value x
 pub record Copied (ns vs : List ℕ) (x : ℕ) : Type 0 where
-  pub size : length vs ≡ 32
-  pub within : x ≤ 32
+  pub size : length vs ≡ variables
+  pub within : x ≤ variables
   pub same : (j : ℕ) → j < x → getD vs j 0 ≡ getD ns (2 + j) 0
 
-pub copied-more : {ns vs : List ℕ} {x : ℕ} → Copied ns vs x → x < 32 → Copied ns (set vs x (getD ns (2 + x) 0)) (x + 1)
+pub copied-more : {ns vs : List ℕ} {x : ℕ} → Copied ns vs x → x < variables → Copied ns (set vs x (getD ns (2 + x) 0)) (x + 1)
 copied-more {ns = ns} {vs = vs} {x = x} i h =
     let v = getD ns (2 + x) 0 in
     record {

@@ -10,12 +10,12 @@ use machine::VALUES;
 use tokens::NumberRead;
 use tokens::WordRead;
 
-// A start has 2 to 34 lines.
+// A start has at least the input and the budget, and at most a value for each variable behind them.
 pub const FEWEST: usize = 2;
 
 pub const MOST: usize = 2 + VALUES;
 
-// Few: under 2 lines. Many: more text after 34 right lines. Line: the number of the first line that is wrong.
+// Few: under FEWEST lines. Many: more text after MOST right lines. Line: the number of the first line that is wrong.
 pub enum Answer {
     Taken,
     Few,
@@ -108,7 +108,7 @@ pub fn no_values() -> [u32; VALUES]
 
 // The numbers after the input and the budget.
 fn values_of(numbers: [u32; MOST]) -> [u32; VALUES]
-    ensures { λ r. ⌜ (length r ≡ 32) × ((x : ℕ) → x < 32 → getD r x 0 ≡ getD numbers (2 + x) 0) ⌝ }
+    ensures { λ r. ⌜ (length r ≡ variables) × ((x : ℕ) → x < variables → getD r x 0 ≡ getD numbers (2 + x) 0) ⌝ }
 {
     let mut values = no_values();
     let mut x: usize = 0;

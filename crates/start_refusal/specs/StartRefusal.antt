@@ -3,6 +3,7 @@ use mathlib.Core.List.{List, [], _∷_, _++_}
 use Prim.Native.Nat.{ℕ, _+_}
 use lib.Dec.{eqb}
 use Rattle.language.specs.Spelling.{digits}
+use Rattle.language.specs.Room.{number-digits}
 use Rattle.base.specs.Pick.{pick}
 use Rattle.base.specs.Bytes.{bytes}
 use Rattle.start.specs.declared.Answer.{Answer}
@@ -12,7 +13,7 @@ use Rattle.start.specs.declared.Answer.the-variants.{Taken, Few, Many, Line}
 unfoldable pub lineRange : ℕ → List ℕ
 lineRange n = pick (eqb n 2) (bytes " isn't a whole number from 0 to 2147483647") (bytes " isn't a whole number from -2147483648 to 2147483647")
 
--- what is wrong with a start, in words
+-- what is wrong with a start, in words; their figures are `start`'s fewest and most, as text
 unfoldable pub startWords : Answer → List ℕ
 startWords Taken = []
 startWords Few = bytes "under 2 lines"
@@ -27,7 +28,7 @@ abbrev pub range-room : ℕ
 range-room = 52
 
 abbrev pub words-room : ℕ
-words-room = 15 + range-room
+words-room = 5 + (number-digits + range-room)
 
 abbrev pub start-room : ℕ
 start-room = 26 + words-room

@@ -20,7 +20,7 @@ fn line_range(out: &mut [u8], at: usize, n: u32) -> usize
     )
 }
 
-// What is wrong with a start.
+// What is wrong with a start. The figures in the words are `start::FEWEST` and `start::MOST`, as text.
 fn words(out: &mut [u8], at: usize, a: Answer) -> usize
     requires { ⌜ at + words-room ≤ length (now out) ⌝ }
     ensures { λ r. ⌜ Put (now (out .entry)) at (startWords a) (now (out .exit)) r × (r ≤ at + words-room) ⌝ }

@@ -6,7 +6,7 @@ use Prim.Native.Nat.{ℕ, zero, suc, _+_, _-_, _*_, _/_, _%_, _≤_, _<_}
 use native.Mathlib.Omega.{arith}
 use lib.Dec.{ltb, leb, eqb}
 use borrow.Author.Tests.{le-ltb, lt-ltb, le-leb, lt-leb, leb-true, leb-false, ltb-true, ltb-false}
-use Rattle.language.specs.Spelling.{largest, digits, spellVariable}
+use Rattle.language.specs.Spelling.{variables, largest, digits, spellVariable, ValidVariable}
 use Rattle.language.proofs.Digits.{digits-small, digits-more, digits-next}
 use Rattle.tokens.specs.declared.Digit.{Digit}
 use Rattle.tokens.specs.declared.Digit.the-variants.{Value, Other}
@@ -108,16 +108,16 @@ number-complete zero rest p h = rw (digits-small 0 (omega arith), digit-of 0 (om
 number-complete (suc v) rest p h = number-more (suc (suc v)) (suc v) rest (omega arith) (omega arith) p ∙ more-ends (suc v) rest h
 
 -- variables
-pub variable-complete : (x : ℕ) (rest : List ℕ) → x < 32 → NoDigit rest → parseVariable (spellVariable x ++ rest) ≡ found x rest
+pub variable-complete : (x : ℕ) (rest : List ℕ) → ValidVariable x → NoDigit rest → parseVariable (spellVariable x ++ rest) ≡ found x rest
 unfolding parseVariable spellVariable parseWord
-variable-complete x rest p h = rw (number-complete x rest (omega arith) h, lt-ltb x 32 p)
+variable-complete x rest p h = rw (number-complete x rest (omega arith) h, lt-ltb x variables p)
 
-pub variable-sound : (l : List ℕ) (x : ℕ) (u : List ℕ) → parseVariable l ≡ found x u → (l ≡ spellVariable x ++ u) × (x < 32)
+pub variable-sound : (l : List ℕ) (x : ℕ) (u : List ℕ) → parseVariable l ≡ found x u → (l ≡ spellVariable x ++ u) × ValidVariable x
 unfolding parseVariable spellVariable
 variable-sound l x u e =
     after-inv (parseWord (105 ∷ []) l) _ e λ _ t e₁ f₁.
     after-inv (parseNumber t) _ f₁ λ n v e₂ f₂.
-    where-inv (ltb n 32) (found n v) f₂ λ lt f₃.
+    where-inv (ltb n variables) (found n v) f₂ λ lt f₃.
     let p : n ≡ x = cc in
     let q : v ≡ u = cc in
-    (rw (skip-sound (105 ∷ []) l e₁, number-sound t n v e₂ .0, p, q), rw (← p) (ltb-true n 32 lt))
+    (rw (skip-sound (105 ∷ []) l e₁, number-sound t n v e₂ .0, p, q), rw (← p) (ltb-true n variables lt))

@@ -1,43 +1,33 @@
--- How long the parts of a trace's line are, and that a line has room in 656 bytes. Assumes nothing.
-use mathlib.Core.Path.{_≡_, refl, ap}
+-- How long the parts of a trace's line are, and that a line has room in line-room bytes. Assumes nothing.
+use mathlib.Core.Path.{_≡_, refl}
 use mathlib.Core.List.{List, [], _++_}
 use mathlib.Core.Bool.{Bool, true, false}
-use Prim.Native.Nat.{ℕ, suc, _+_, _-_, _^_, _≤_, _<_}
+use Prim.Native.Nat.{ℕ, _+_, _^_, _≤_, _<_}
 use native.Mathlib.Omega.{arith}
-use lib.Dec.{ltb, eqb}
+use lib.Dec.{eqb}
 use lib.ListN.{length, getD, length-append}
 use mir.Syntax.{w32}
 use mir.Val.{toZ}
-use borrow.Author.Tests.{lt-ltb, le-ltb, ltb-true, ltb-false}
-use Rattle.language.specs.Spelling.{digits, spellVariable, spell, Valid}
+use Rattle.language.specs.Spelling.{variables, spellVariable, ValidVariable, spell, Valid}
 use Rattle.base.specs.Pick.{pick}
 use Rattle.language.specs.declared.Statement.{Statement}
-use Rattle.language.specs.declared.Statement.the-variants.{Read, Write, Assign, Branch, Skip}
-use Rattle.language.proofs.Lengths.{Near, digits-length, line-most as statement-most, variable-length}
+use Rattle.language.proofs.Lengths.{digits-length, number-most, variable-most}
 use Rattle.program.specs.Program.{most, Targets}
-use Rattle.desk.specs.Columns.{spaces, wide, padded, signedDigits}
-use Rattle.desk.proofs.Lengths.{wide-length, padded-length}
-use Rattle.trace.specs.Trace.{valueText, change, changes, stepHead, lineText}
-use Rattle.trace.specs.Stepping.{change-room, line-room}
+use Rattle.desk.specs.Columns.{number-columns, statement-columns, spaces, wide, padded, signedDigits}
+use Rattle.program.proofs.Lengths.{statement-short}
+use Rattle.desk.proofs.Lengths.{wide-length, padded-length, signed-most}
+use Rattle.trace.specs.Trace.{valueText, change, changes, step-columns, stepHead, lineText}
+use Rattle.trace.specs.Stepping.{head-room, value-room, change-room, line-room}
 use Rattle.trace.proofs.Series.{Parts, parts-most}
 
 pub value-length : (x v : ℕ) → length (valueText x v) ≡ length (spellVariable x) + (3 + length (signedDigits (toZ w32 v)))
 unfolding valueText
 value-length x v = simp length-append (omega arith)
 
--- 32 bits have at most ten digits and a sign
-pub signed-most : (v : ℕ) → length (signedDigits (toZ w32 v)) ≤ 11
-unfolding signedDigits
-signed-most v = go (ltb v (2 ^ 31)) refl
-  where
-    go : (b : Bool) → ltb v (2 ^ 31) ≡ b → length (signedDigits (toZ w32 v)) ≤ 11
-    go true e = let h = ltb-true v (2 ^ 31) e in rw (lt-ltb v (2 ^ 31) h) (omega (arith, digits-length 9 v (omega arith)))
-    go false e = let h = ltb-false v (2 ^ 31) e in rw (le-ltb v (2 ^ 31) h) (omega (arith, digits-length 9 (suc (2 ^ 32 - suc v)) (omega arith)))
+pub value-most : (x v : ℕ) → ValidVariable x → length (valueText x v) ≤ value-room
+value-most x v h = omega (arith, value-length x v, variable-most x h, signed-most v)
 
-pub value-most : (x v : ℕ) → x < 32 → length (valueText x v) ≤ 17
-value-most x v h = omega (arith, value-length x v, variable-length x, digits-length 1 x (omega arith), signed-most v)
-
-change-most : (x : ℕ) (vs us : List ℕ) → x < 32 → length (change x vs us) ≤ change-room
+change-most : (x : ℕ) (vs us : List ℕ) → ValidVariable x → length (change x vs us) ≤ change-room
 unfolding change
 change-most x vs us h = go (eqb (getD vs x 0) (getD us x 0))
   where
@@ -49,28 +39,20 @@ pub changes-parts : (vs us : List ℕ) → Parts (λ n. changes n vs us) (λ n. 
 unfolding changes
 changes-parts vs us = record { none = refl; more = λ n. refl; short = λ n h. change-most n vs us h }
 
-pub head-length : (k s : ℕ) (x : Statement) → length (stepHead k s x) ≡ length (wide 7 k) + (2 + (length (wide 3 (s + 1)) + (2 + length (padded 30 (spell x)))))
+pub head-length : (k s : ℕ) (x : Statement) → length (stepHead k s x) ≡ length (wide step-columns k) + (2 + (length (wide number-columns (s + 1)) + (2 + length (padded statement-columns (spell x)))))
 unfolding stepHead
 head-length k s x = simp length-append (omega arith)
 
--- targets within a program of 256 lines have three digits at most
-near : (x : Statement) → Targets most x → Near x
-near (Read x) t = tt
-near (Write x) t = tt
-near (Assign x e) t = tt
-near (Branch x n m) t = (omega arith, omega arith)
-near Skip t = tt
+pub text-most : (x : Statement) → Valid x → Targets most x → length (padded statement-columns (spell x)) ≤ statement-columns
+text-most x v t = omega (arith, padded-length statement-columns (spell x), statement-short most x (omega arith) v t)
 
-pub text-most : (x : Statement) → Valid x → Targets most x → length (padded 30 (spell x)) ≤ 30
-text-most x v t = omega (arith, padded-length 30 (spell x), statement-most x v (near x t))
-
-pub head-most : (k s : ℕ) (x : Statement) → k < 2 ^ 32 → s < most → Valid x → Targets most x → length (stepHead k s x) ≤ 47
+pub head-most : (k s : ℕ) (x : Statement) → k < 2 ^ 32 → s < most → Valid x → Targets most x → length (stepHead k s x) ≤ head-room
 head-most k s x h l v t =
-    omega (arith, head-length k s x, wide-length 7 k, wide-length 3 (s + 1), digits-length 9 k (omega arith), digits-length 2 (s + 1) (omega arith), text-most x v t)
+    omega (arith, head-length k s x, wide-length step-columns k, wide-length number-columns (s + 1), number-most k h, digits-length number-columns (s + 1) (omega arith) (omega arith), text-most x v t)
 
-pub line-length : (k s : ℕ) (x : Statement) (vs us : List ℕ) → length (lineText k s x vs us) ≡ length (stepHead k s x) + (length (changes 32 vs us) + 1)
+pub line-length : (k s : ℕ) (x : Statement) (vs us : List ℕ) → length (lineText k s x vs us) ≡ length (stepHead k s x) + (length (changes variables vs us) + 1)
 unfolding lineText
 line-length k s x vs us = simp length-append (omega arith)
 
 pub line-most : (k s : ℕ) (x : Statement) (vs us : List ℕ) → k < 2 ^ 32 → s < most → Valid x → Targets most x → length (lineText k s x vs us) ≤ line-room
-line-most k s x vs us h l v t = omega (arith, line-length k s x vs us, head-most k s x h l v t, parts-most (changes-parts vs us) 32 (omega arith))
+line-most k s x vs us h l v t = omega (arith, line-length k s x vs us, head-most k s x h l v t, parts-most (changes-parts vs us) variables (omega arith))

@@ -7,6 +7,7 @@ use native.Mathlib.Omega.{arith}
 use native.Mathlib.Numerals.{add-one}
 use lib.ListN.{length, length-append}
 use lib.Seq.{length-sets}
+use Rattle.language.specs.Spelling.{variables}
 use Rattle.statement_writer.specs.Writing.{Put}
 use Rattle.statement_writer.proofs.Puts.{put-then}
 
@@ -17,10 +18,10 @@ put-length {o = o} {w = w} {at = at} p = ap length (p .text) ∙ length-sets o a
 pub record Parts (text part : ℕ → List ℕ) (size : ℕ) : Type 0 where
   pub none : text 0 ≡ []
   pub more : (n : ℕ) → text (suc n) ≡ text n ++ part n
-  pub short : (n : ℕ) → n < 32 → length (part n) ≤ size
+  pub short : (n : ℕ) → n < variables → length (part n) ≤ size
 
 module _ {text part : ℕ → List ℕ} {size : ℕ} (s : Parts text part size) where
-  pub parts-most : (n : ℕ) → n ≤ 32 → length (text n) ≤ n * size
+  pub parts-most : (n : ℕ) → n ≤ variables → length (text n) ≤ n * size
   parts-most zero h = omega (arith, ap length (s .none))
   parts-most (suc n) h =
       omega (arith, ap length (s .more n), length-append (text n) (part n), s .short n (omega arith), parts-most n (omega arith), suc-mul n size)
@@ -28,22 +29,22 @@ module _ {text part : ℕ → List ℕ} {size : ℕ} (s : Parts text part size) 
 -- the first x parts stand in q from `at` on, up to `to`
 pub record Written (text : ℕ → List ℕ) (size : ℕ) (o : List ℕ) (at : ℕ) (q : List ℕ) (to x : ℕ) : Type 0 where
   pub put : Put o at (text x) q to
-  pub within : x ≤ 32
-  pub room : at + 32 * size ≤ length o
+  pub within : x ≤ variables
+  pub room : at + variables * size ≤ length o
 
 module _ {text part : ℕ → List ℕ} {size : ℕ} (s : Parts text part size) {o : List ℕ} {at : ℕ} where
-  pub none-written : at + 32 * size ≤ length o → Written text size o at o at 0
+  pub none-written : at + variables * size ≤ length o → Written text size o at o at 0
   none-written h = record { put = rw (s .none) (record { text = refl; after = omega arith }); within = omega arith; room = h }
 
   module _ {q : List ℕ} {to x : ℕ} (i : Written text size o at q to x) where
-    pub part-room : x < 32 → to + size ≤ length q
+    pub part-room : x < variables → to + size ≤ length q
     part-room h =
-        let a : suc x * size ≤ 32 * size = mul-le-mul-right size (omega arith) in
+        let a : suc x * size ≤ variables * size = mul-le-mul-right size (omega arith) in
         omega (arith, i .put .after, put-length (i .put), parts-most s x (i .within), i .room, suc-mul x size, a)
 
-    pub one-written : {p : List ℕ} {next : ℕ} → x < 32 → Put q to (part x) p next → Written text size o at p next (x + 1)
+    pub one-written : {p : List ℕ} {next : ℕ} → x < variables → Put q to (part x) p next → Written text size o at p next (x + 1)
     one-written h w = record { put = rw (add-one, s .more x) (put-then (i .put) w); within = omega arith; room = i .room }
 
 -- no variable is left
-pub all-written : {text : ℕ → List ℕ} {size : ℕ} {o : List ℕ} {at : ℕ} {q : List ℕ} {to x : ℕ} → Written text size o at q to x → 32 ≤ x → Put o at (text 32) q to
-all-written {text = text} {x = x} i h = let e : x ≡ 32 = omega (arith, i .within) in rw e at (i .put)
+pub all-written : {text : ℕ → List ℕ} {size : ℕ} {o : List ℕ} {at : ℕ} {q : List ℕ} {to x : ℕ} → Written text size o at q to x → variables ≤ x → Put o at (text variables) q to
+all-written {text = text} {x = x} i h = let e : x ≡ variables = omega (arith, i .within) in rw e at (i .put)

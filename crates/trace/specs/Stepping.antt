@@ -6,23 +6,32 @@ use mathlib.Core.Bool.{Bool, true, false}
 use Prim.Native.Nat.{ℕ, _+_, _*_, _≤_, _<_}
 use lib.ListN.{length}
 use Rattle.language.specs.Spelling.{variables}
+use Rattle.language.specs.Room.{number-digits, variable-room}
 use Rattle.statement_writer.specs.Writing.{Put}
 use Rattle.language.specs.declared.Statement.{Statement}
 use Rattle.machine.specs.Machine.{Final, before, after}
 use Rattle.machine.specs.Answer.{Ends}
+use Rattle.desk.specs.Columns.{number-columns, statement-columns, signed-room}
 use Rattle.trace.specs.Trace.{stepLines}
 use Rattle.trace.specs.declared.Progress.{Progress}
 
--- a changed value has room in this many bytes: two spaces, the variable, ` = ` and the value
+-- what stands before the changed values has room in this many bytes: a step's number may have more digits than its columns
+abbrev pub head-room : ℕ
+head-room = number-digits + (2 + (number-columns + (2 + statement-columns)))
+
+-- a value: the variable, ` = ` and the number; a changed one: two spaces more
+abbrev pub value-room : ℕ
+value-room = variable-room + (3 + signed-room)
+
 abbrev pub change-room : ℕ
-change-room = 19
+change-room = 2 + value-room
 
 abbrev pub changes-room : ℕ
 changes-room = variables * change-room
 
--- every line has room in this many bytes: up to the statement's text, the changed values, and byte 10
+-- every line: up to the statement's text, the changed values, and byte 10
 abbrev pub line-room : ℕ
-line-room = 48 + changes-room
+line-room = head-room + (changes-room + 1)
 
 -- the run ended with step k: before it the run stood before place s with the values vs
 pub record Over (P : List Statement) (start : List ℕ) (input k s : ℕ) (vs : List ℕ) : Type 0 where

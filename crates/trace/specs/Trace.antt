@@ -11,7 +11,7 @@ use Rattle.base.specs.Pick.{pick}
 use Rattle.language.specs.declared.Statement.{Statement}
 use Rattle.program.specs.Program.{at}
 use Rattle.machine.specs.Machine.{State, before, ended, perform, after}
-use Rattle.desk.specs.Columns.{spaces, wide, padded, signedDigits}
+use Rattle.desk.specs.Columns.{number-columns, statement-columns, spaces, wide, padded, signedDigits}
 
 -- `i3 = 9`: variable x has the 32 bits v
 unfoldable pub valueText : ℕ → ℕ → List ℕ
@@ -26,9 +26,13 @@ unfoldable pub changes : ℕ → List ℕ → List ℕ → List ℕ
 changes zero vs us = []
 changes (suc n) vs us = changes n vs us ++ change n vs us
 
--- step k performs the statement x at place s: the step's number in 7 columns, the statement's in 3, its text in 30
+-- the columns of a step's number
+abbrev pub step-columns : ℕ
+step-columns = 7
+
+-- step k performs the statement x at place s: the step's number, the statement's, and its text, each in its columns
 unfoldable pub stepHead : ℕ → ℕ → Statement → List ℕ
-stepHead k s x = wide 7 k ++ (spaces 2 ++ (wide 3 (s + 1) ++ (spaces 2 ++ padded 30 (spell x))))
+stepHead k s x = wide step-columns k ++ (spaces 2 ++ (wide number-columns (s + 1) ++ (spaces 2 ++ padded statement-columns (spell x))))
 
 -- and what it changed of the values vs, if us are those after it
 unfoldable pub lineText : ℕ → ℕ → Statement → List ℕ → List ℕ → List ℕ

@@ -7,21 +7,26 @@ ghost use Rattle.program.specs.Program.{most, Targets, WellFormed};
 ghost use Rattle.program.specs.Reading.{statements};
 ghost use Rattle.trace.specs.Trace.{valueText as valueBytes, change as changeBytes, changes as changesBytes, stepHead, lineText};
 ghost use Rattle.trace.specs.Stepping.{Traced, change-room, changes-room, line-room};
+use desk::columns::NUMBER_COLUMNS;
+use desk::columns::SIGNED_ROOM;
+use desk::columns::STATEMENT_COLUMNS;
+use language::NUMBER_DIGITS;
 use language::Statement;
+use language::VARIABLE_ROOM;
 use machine::Next;
 use machine::VALUES;
 use program::Program;
 
-// Columns of the step's number, of the statement's number and of its text.
+// The columns of a step's number.
 const STEP_COLUMNS: usize = 7;
+// What stands before the changed values has room in this many bytes: a step's number may have more digits than its columns.
+pub const HEAD_ROOM: usize = NUMBER_DIGITS + 2 + NUMBER_COLUMNS + 2 + STATEMENT_COLUMNS;
+// A value, a changed value, and a line.
+pub const VALUE_ROOM: usize = VARIABLE_ROOM + 3 + SIGNED_ROOM;
 
-const NUMBER_COLUMNS: usize = 3;
+const CHANGE_ROOM: usize = 2 + VALUE_ROOM;
 
-const TEXT_COLUMNS: usize = 30;
-// A changed value has room in this many bytes, and a line in this many.
-const CHANGE_ROOM: usize = 19;
-
-pub const LINE_ROOM: usize = 48 + VALUES * CHANGE_ROOM;
+pub const LINE_ROOM: usize = HEAD_ROOM + VALUES * CHANGE_ROOM + 1;
 
 // `i3 = 9`
 pub fn value(out: &mut [u8], at: usize, x: u8, v: u32) -> usize
@@ -69,7 +74,7 @@ pub fn head(out: &mut [u8], at: usize, k: u32, place: u32, s: Statement) -> usiz
     let k2 = desk::columns::spaces(out, k1, 2);
     let k3 = desk::columns::number(out, k2, NUMBER_COLUMNS, place + 1);
     let k4 = desk::columns::spaces(out, k3, 2);
-    desk::columns::statement(out, k4, TEXT_COLUMNS, s)
+    desk::columns::statement(out, k4, STATEMENT_COLUMNS, s)
 }
 
 // The line of a step, by the values before and after it.

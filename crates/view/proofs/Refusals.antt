@@ -17,7 +17,7 @@ use Rattle.view.specs.Writing.{RefusalPut}
 
 -- numbers of a byte and lines of 32 bits
 pub text-fits : (n line m : ℕ) → n < 2 ^ 8 → line < 2 ^ 32 → refusal-room ≤ m → length (refusalText n line) ≤ m
-text-fits n line m h l r = omega (arith, refusal-most n line (omega arith) (omega arith))
+text-fits n line m h l r = omega (arith, refusal-most n line h l)
 
 pub text-room : (n line m : ℕ) → n < 2 ^ 8 → line < 2 ^ 32 → refusal-room ≤ m → 0 + length (refusalText n line) ≤ m
 text-room n line m h l r = omega (arith, text-fits n line m h l r)

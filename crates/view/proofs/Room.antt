@@ -1,54 +1,48 @@
--- A view has room in 92,721 bytes, whatever the program and the condition. Assumes nothing.
+-- A view has room in view-room bytes, whatever the program and the condition. Assumes nothing.
 use mathlib.Core.Bool.{Bool}
 use mathlib.Core.Logic.{⊎-elim}
 use mathlib.Core.List.{List}
-use Prim.Native.Nat.{ℕ, _+_, _-_, _*_, _≤_, _<_}
+use Prim.Native.Nat.{ℕ, _+_, _-_, _*_, _^_, _≤_, _<_}
 use native.Mathlib.Omega.{arith}
 use lib.ListN.{length, length-append}
 use Rattle.language.specs.Spelling.{spell}
 use Rattle.language.specs.declared.Statement.{Statement}
-use Rattle.language.specs.declared.Statement.the-variants.{Read, Write, Assign, Branch, Skip}
-use Rattle.language.proofs.Lengths.{Near, line-most, digits-length}
-use Rattle.program.specs.Program.{most, at, Targets, WellFormed}
+use Rattle.language.proofs.Lengths.{digits-length}
+use Rattle.program.specs.Program.{at, WellFormed}
 use Rattle.program.proofs.Held.{at-valid}
+use Rattle.program.proofs.Lengths.{statement-short}
 use Rattle.bits.proofs.Counts.{count-le}
 use Rattle.condition.specs.Condition.{Condition, spellCondition, parts}
-use Rattle.condition.specs.Texts.{most-bytes, most-parts, Taken}
+use Rattle.condition.specs.Texts.{most-parts, Taken}
 use Rattle.condition.specs.Words.{Held}
 use Rattle.table.specs.Table.{part-words, partAt}
 use Rattle.table.specs.Summary.{Counts}
+use Rattle.desk.specs.Columns.{number-columns, statement-columns}
 use Rattle.desk.proofs.Lengths.{wide-length, padded-length}
-use Rattle.view.specs.View.{margin, partLine, partLines, headRow, tens, units, mark, row, rows, viewText, view-room}
+use Rattle.view.specs.View.{part-columns, partLine, partLines, headRow, tens, units, mark, row, rows, viewText, part-room, row-room, view-room}
 use Rattle.view.proofs.Texts.{upto-most, columns-length, part-length, head-length, row-length, last-length}
 use Rattle.condition.proofs.Words.{stands-short, held-describes}
 
 part-most : {u : List ℕ} {c : Condition} {n : ℕ} {ws : List ℕ} → Taken u c → Held c n ws → (k : ℕ) → k < n
-    → length (partLine k (spellCondition (partAt c k))) ≤ most-bytes + 5
+    → length (partLine k (spellCondition (partAt c k))) ≤ part-room
 part-most {c = c} a d k h =
     let e = d .counted in
     let f = a .few in
-    omega (arith, part-length k (spellCondition (partAt c k)), wide-length 2 (k + 1), digits-length 1 (k + 1) (omega arith), stands-short (held-describes a d k h .stands), a .short)
+    omega (arith, part-length k (spellCondition (partAt c k)), wide-length part-columns (k + 1), digits-length part-columns (k + 1) (omega arith) (omega arith), stands-short (held-describes a d k h .stands), a .short)
 
-near : (N : ℕ) (s : Statement) → N ≤ most → Targets N s → Near s
-near N (Read x) h t = tt
-near N (Write x) h t = tt
-near N (Assign x e) h t = tt
-near N (Branch x n m) h t = (omega arith, omega arith)
-near N Skip h t = tt
-
-head-most : (f : ℕ → ℕ) (n : ℕ) → n ≤ most-parts → length (headRow f n) ≤ margin + most-parts + 3
+head-most : (f : ℕ → ℕ) (n : ℕ) → n ≤ most-parts → length (headRow f n) ≤ row-room
 head-most f n h = omega (arith, head-length f n, columns-length f n)
 
-row-most : {P : List Statement} (truth : ℕ → ℕ → Bool) (n s : ℕ) → WellFormed P → n ≤ most-parts → s < length P → length (row truth n s (at P s)) ≤ margin + most-parts + 3
+row-most : {P : List Statement} (truth : ℕ → ℕ → Bool) (n s : ℕ) → WellFormed P → n ≤ most-parts → s < length P → length (row truth n s (at P s)) ≤ row-room
 row-most {P = P} truth n s w h l =
     let c = w .counted in
-    let m = line-most (at P s) (at-valid P s (w .valid) l) (near (length P) (at P s) (c .1) (w .aimed s l)) in
-    omega (arith, row-length truth n s (at P s), wide-length 3 (s + 1), digits-length 2 (s + 1) (omega arith), padded-length 30 (spell (at P s)), columns-length (λ k. mark (truth k s)) n)
+    let m = statement-short (length P) (at P s) (c .1) (at-valid P s (w .valid) l) (w .aimed s l) in
+    omega (arith, row-length truth n s (at P s), wide-length number-columns (s + 1), digits-length number-columns (s + 1) (omega arith) (omega arith), padded-length statement-columns (spell (at P s)), columns-length (λ k. mark (truth k s)) n)
 
-first-most : {truth : ℕ → Bool} {satisfied first : ℕ} → Counts truth (part-words * 64) satisfied first → first < 1000
+first-most : {truth : ℕ → Bool} {satisfied first : ℕ} → Counts truth (part-words * 64) satisfied first → first < 10 ^ number-columns
 first-most c = ⊎-elim (λ e. omega (arith, e .0)) (λ e. omega (arith, e .1, e .2)) (c .earliest)
 
-satisfied-most : {truth : ℕ → Bool} {satisfied first : ℕ} → Counts truth (part-words * 64) satisfied first → satisfied < 1000
+satisfied-most : {truth : ℕ → Bool} {satisfied first : ℕ} → Counts truth (part-words * 64) satisfied first → satisfied < 10 ^ number-columns
 satisfied-most {truth = truth} c = omega (arith, c .counted, count-le truth (part-words * 64))
 
 pub view-most : {P : List Statement} {u : List ℕ} {c : Condition} {n : ℕ} {ws : List ℕ} {whole : ℕ → Bool} {satisfied first : ℕ} (truth : ℕ → ℕ → Bool)
@@ -59,8 +53,8 @@ view-most {P = P} {c = c} {n = n} {satisfied = satisfied} {first = first} truth 
     let e = d .counted in
     let l = w .counted in
     let m : ℕ = length (parts c) in
-    let x = upto-most (λ k. partLine k (spellCondition (partAt c k))) (most-bytes + 5) m (λ k h. part-most a d k (omega arith)) in
-    let y = upto-most (λ i. row truth m i (at P i)) (margin + most-parts + 3) (length P) (λ i h. row-most truth m i w f h) in
+    let x = upto-most (λ k. partLine k (spellCondition (partAt c k))) part-room m (λ k h. part-most a d k (omega arith)) in
+    let y = upto-most (λ i. row truth m i (at P i)) row-room (length P) (λ i h. row-most truth m i w f h) in
     let z = last-length m satisfied first in
     simp length-append
-    (omega (arith, head-most tens m f, head-most units m f, digits-length 1 m (omega arith), digits-length 2 satisfied (satisfied-most s), digits-length 2 first (first-most s)))
+    (omega (arith, head-most tens m f, head-most units m f, digits-length part-columns m (omega arith) (omega arith), digits-length number-columns satisfied (omega arith) (satisfied-most s), digits-length number-columns first (omega arith) (first-most s)))

@@ -13,8 +13,8 @@ use Rattle.language.specs.Spelling.{digits, spell}
 use Rattle.statement_writer.specs.Writing.{Put}
 use Rattle.language.specs.declared.Statement.{Statement}
 use Rattle.statement_writer.proofs.Puts.{put-then}
-use Rattle.desk.specs.Columns.{spaces, wide, padded}
-use Rattle.view.specs.View.{upTo, partLine, columns, headRow, margin, row, mark, lastLine}
+use Rattle.desk.specs.Columns.{number-columns, statement-columns, spaces, wide, padded}
+use Rattle.view.specs.View.{upTo, part-columns, partLine, columns, headRow, margin, row, mark, lastLine}
 
 pub put-length : {o w q : List ℕ} {at k : ℕ} → Put o at w q k → length q ≡ length o
 put-length {o = o} {w = w} {at = at} p = ap length (p .text) ∙ length-sets o at w
@@ -63,7 +63,7 @@ pub columns-length : (f : ℕ → ℕ) (n : ℕ) → length (columns f n) ≡ n 
 unfolding columns
 columns-length f n = length-append (upTo (n - 1) (cells f)) (spaces 2 ++ f (n - 1) ∷ []) ∙ rw (cells-length f (n - 1))
 
-pub part-length : (k : ℕ) (text : List ℕ) → length (partLine k text) ≡ length (wide 2 (k + 1)) + (2 + (length text + 1))
+pub part-length : (k : ℕ) (text : List ℕ) → length (partLine k text) ≡ length (wide part-columns (k + 1)) + (2 + (length text + 1))
 unfolding partLine
 part-length k text = simp length-append (omega arith)
 
@@ -72,7 +72,7 @@ unfolding headRow
 head-length f n = simp length-append (omega arith)
 
 pub row-length : (truth : ℕ → ℕ → Bool) (n s : ℕ) (i : Statement)
-    → length (row truth n s i) ≡ length (wide 3 (s + 1)) + (2 + (length (padded 30 (spell i)) + (2 + (length (columns (λ k. mark (truth k s)) n) + 1))))
+    → length (row truth n s i) ≡ length (wide number-columns (s + 1)) + (2 + (length (padded statement-columns (spell i)) + (2 + (length (columns (λ k. mark (truth k s)) n) + 1))))
 unfolding row
 row-length truth n s i = simp length-append (omega arith)
 

@@ -8,7 +8,7 @@ use native.Mathlib.Omega.{arith}
 use lib.ListN.{length, getD}
 use Rattle.statement_writer.specs.Writing.{Put}
 use Rattle.language.specs.declared.Statement.{Statement}
-use Rattle.program.specs.Program.{Taken}
+use Rattle.program.specs.Program.{Taken, most}
 use Rattle.program.specs.Reading as program
 use Rattle.program.specs.declared.Answer as program-answer
 use Rattle.program.specs.declared.Program.{Program}
@@ -71,8 +71,8 @@ refusal-printed old {n = n} l a room (inr x) =
 table-bit : (ws : List ℕ) (k s : ℕ) → truthIn ws k s ≡ bit (getD ws (part-words * k + s / 64) 0) (s % 64)
 unfolding member
 table-bit ws k s =
-    let w : (k * 256 + s) / 64 ≡ part-words * k + s / 64 = omega arith in
-    let b : (k * 256 + s) % 64 ≡ s % 64 = omega arith in
+    let w : (k * most + s) / 64 ≡ part-words * k + s / 64 = omega arith in
+    let b : (k * most + s) % 64 ≡ s % 64 = omega arith in
     rw (w, b)
 
 module _ {t u old new : List ℕ} {n satisfied first : ℕ} (f : TabulateFilled t u old new n satisfied first) (l : length old ≡ table-words) where
@@ -94,8 +94,8 @@ module _ {t u old new : List ℕ} {n satisfied first : ℕ} (f : TabulateFilled 
     words : condition-words.Held (f .c) n ws
     words = rw (f .counted) (read-back u (f .c) (f .condition) ca ws d .1)
 
-    most : length (viewText (program.statements p) (f .c) (truthIn new) satisfied first) ≤ view-room
-    most = rw (back .1) (view-most (truthIn new) (f .program .program) (f .condition) words (f .counts))
+    short : length (viewText (program.statements p) (f .c) (truthIn new) satisfied first) ≤ view-room
+    short = rw (back .1) (view-most (truthIn new) (f .program .program) (f .condition) words (f .counts))
 
     pub view-fits : {m : ℕ} → view-room ≤ m → ViewFits u ws new p n satisfied first m
     view-fits h =
@@ -109,7 +109,7 @@ module _ {t u old new : List ℕ} {n satisfied first : ℕ} (f : TabulateFilled 
           words = words;
           held = held;
           tabled = record { size = f .same ∙ l; some = omega arith; few = omega arith };
-          fits = omega (arith, most);
+          fits = omega (arith, short);
         }
 
     pub view-printed : {o q : List ℕ} {k : ℕ} → view-room ≤ length o
@@ -133,7 +133,7 @@ module _ {t u old new : List ℕ} {n satisfied first : ℕ} (f : TabulateFilled 
                 counts = f .counts;
                 text = rw (back .1);
               };
-          fits = omega (arith, most);
+          fits = omega (arith, short);
           written = put (f .c) (f .condition);
         }
 

@@ -22,7 +22,7 @@ use Rattle.condition_reader.specs.declared.Refusal as condition-refusal
 use Rattle.table.specs.Table.{part-words, partAt}
 use Rattle.table.specs.Summary.{Counts}
 use Rattle.blame.specs.Blame.{Blames}
-use Rattle.desk.specs.Columns.{spaces, wide, padded}
+use Rattle.desk.specs.Columns.{number-columns, statement-columns, spaces, wide, padded}
 use Rattle.desk.specs.Refusals.{refusalText}
 use Rattle.view.specs.declared.Viewed.{Viewed}
 use Rattle.view.specs.declared.Viewed.the-variants.{Written, Refused, NoRoom}
@@ -32,9 +32,13 @@ unfoldable pub upTo : ℕ → (ℕ → List ℕ) → List ℕ
 upTo zero f = []
 upTo (suc n) f = upTo n f ++ f n
 
+-- the columns of a part's number
+abbrev pub part-columns : ℕ
+part-columns = 2
+
 -- a part's number and its text
 unfoldable pub partLine : ℕ → List ℕ → List ℕ
-partLine k text = wide 2 (k + 1) ++ (spaces 2 ++ (text ++ 10 ∷ []))
+partLine k text = wide part-columns (k + 1) ++ (spaces 2 ++ (text ++ 10 ∷ []))
 
 unfoldable pub partLines : Condition → List ℕ
 partLines c = upTo (length (parts c)) (λ k. partLine k (spellCondition (partAt c k)))
@@ -51,7 +55,7 @@ units k = byte "0" + (k + 1) % 10
 
 -- the marks of a row stand after its statement's number, text and the spaces between
 abbrev pub margin : ℕ
-margin = 37
+margin = number-columns + (2 + (statement-columns + 2))
 
 unfoldable pub headRow : (ℕ → ℕ) → ℕ → List ℕ
 headRow f n = spaces margin ++ (columns f n ++ 10 ∷ [])
@@ -63,7 +67,8 @@ mark false = byte "."
 
 -- a statement's number, its text, and a mark for each of n parts: truth k s is part k's at place s
 unfoldable pub row : (ℕ → ℕ → Bool) → ℕ → ℕ → Statement → List ℕ
-row truth n s i = wide 3 (s + 1) ++ (spaces 2 ++ (padded 30 (spell i) ++ (spaces 2 ++ (columns (λ k. mark (truth k s)) n ++ 10 ∷ []))))
+row truth n s i =
+    wide number-columns (s + 1) ++ (spaces 2 ++ (padded statement-columns (spell i) ++ (spaces 2 ++ (columns (λ k. mark (truth k s)) n ++ 10 ∷ []))))
 
 unfoldable pub rows : (ℕ → ℕ → Bool) → ℕ → List Statement → List ℕ
 rows truth n P = upTo (length P) (λ s. row truth n s (at P s))
@@ -109,9 +114,19 @@ pub record PrintsView (t u w : List ℕ) : Type 0 where
 abbrev pub Output : List ℕ → List ℕ → List ℕ → Type 0
 Output t u w = PrintsRefusal t u w ⊎ PrintsView t u w
 
--- room for every output: 64 parts as long as a condition, two rows of numbers, 256 rows of statements, and the last line
+-- room for a part as long as a condition, for a row, and for the last line
+abbrev pub part-room : ℕ
+part-room = part-columns + (2 + (condition.most-bytes + 1))
+
+abbrev pub row-room : ℕ
+row-room = margin + condition.most-parts + 3
+
+abbrev pub last-room : ℕ
+last-room = 6 + (part-columns + (11 + (number-columns + (7 + (number-columns + 1)))))
+
+-- room for every output: the parts, two rows of numbers, the rows of statements, and the last line
 abbrev pub view-room : ℕ
-view-room = condition.most-parts * (condition.most-bytes + 5) + ((most + 2) * (margin + condition.most-parts + 3) + 33)
+view-room = condition.most-parts * part-room + ((most + 2) * row-room + last-room)
 
 -- such an output stands at the front of the lent bytes o, all others are kept, and n is its length
 pub record Printed (Says : List ℕ → Type 0) (o q : List ℕ) (n : ℕ) : Type 0 where

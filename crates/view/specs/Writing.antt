@@ -22,9 +22,9 @@ use Rattle.view.specs.View.{partLines, columns, headRow, row as rowText,
 use Rattle.view.specs.declared.Row.{Row}
 use Rattle.view.specs.declared.Row.the-variants.{Tens, Units, Marks}
 
--- part k's truth at place s in the table: its 256 places are those of four words
+-- part k's truth at place s in the table: a part's words have a bit for each place
 abbrev pub truthIn : List ℕ → ℕ → ℕ → Bool
-truthIn table k s = member table (k * 256 + s)
+truthIn table k s = member table (k * most + s)
 
 -- the byte of part k in a row
 abbrev pub byteIn : List ℕ → Row → ℕ → ℕ
@@ -32,7 +32,7 @@ byteIn table Tens = tens
 byteIn table Units = units
 byteIn table (Marks s) = λ k. mark (truthIn table k s)
 
--- a row's place is one of the 256
+-- a row's place is one that a program may have
 abbrev pub Placed : Row → Type 0
 Placed Tens = Unit
 Placed Units = Unit

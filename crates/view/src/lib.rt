@@ -18,17 +18,25 @@ use condition::FIELD;
 use condition::MOST_BYTES;
 use condition::MOST_PARTS;
 use condition::START;
+use desk::columns::NUMBER_COLUMNS;
+use desk::columns::STATEMENT_COLUMNS;
 use language::Statement;
 use program::Program;
 use tabulate::TABLE_WORDS;
 use tabulate::TabulateAnswer;
 
-// The columns of a row before its marks.
-const MARGIN: usize = 37;
-// Every output has room in this many bytes.
-pub const VIEW_ROOM: usize = MOST_PARTS * (MOST_BYTES + 5)
-    + (program::MOST + 2) * (MARGIN + MOST_PARTS + 3)
-    + 33;
+// The columns of a part's number, and of a row before its marks.
+pub const PART_COLUMNS: usize = 2;
+
+pub const MARGIN: usize = NUMBER_COLUMNS + 2 + STATEMENT_COLUMNS + 2;
+// A part, a row and the last line have room in this many bytes, and every output in this many.
+const PART_ROOM: usize = PART_COLUMNS + 2 + MOST_BYTES + 1;
+
+const ROW_ROOM: usize = MARGIN + MOST_PARTS + 3;
+
+const LAST_ROOM: usize = 6 + PART_COLUMNS + 11 + NUMBER_COLUMNS + 7 + NUMBER_COLUMNS + 1;
+
+pub const VIEW_ROOM: usize = MOST_PARTS * PART_ROOM + (program::MOST + 2) * ROW_ROOM + LAST_ROOM;
 
 // Written: the number of bytes of the view. Refused: the same of a refusal's text. NoRoom: under VIEW_ROOM bytes are lent.
 pub enum Viewed {
@@ -100,9 +108,9 @@ fn write_row(out: &mut [u8], at: usize, table: &[u64], n: usize, s: usize, e: St
     requires { ⌜ RowFits (now table) n s e at (length (now out)) ⌝ }
     ensures { λ r. ⌜ Put (now (out .entry)) at (rowText (truthIn (now (table .entry))) n s e) (now (out .exit)) r ⌝ }
 {
-    let k1 = desk::columns::number(out, at, 3, (s + 1) as u32);
+    let k1 = desk::columns::number(out, at, NUMBER_COLUMNS, (s + 1) as u32);
     let k2 = desk::columns::spaces(out, k1, 2);
-    let k3 = desk::columns::statement(out, k2, 30, e);
+    let k3 = desk::columns::statement(out, k2, STATEMENT_COLUMNS, e);
     let k4 = desk::columns::spaces(out, k3, 2);
     let k5 = write_columns(out, k4, table, Row::Marks(s), n);
     statement_writer::byte(out, k5, 10)
@@ -131,7 +139,7 @@ fn write_part(out: &mut [u8], at: usize, k: usize, text: &[u8]) -> usize
     requires { ⌜ at + length (partLine k (now text)) ≤ length (now out) ⌝ }
     ensures { λ r. ⌜ Put (now (out .entry)) at (partLine k (now (text .entry))) (now (out .exit)) r ⌝ }
 {
-    let k1 = desk::columns::number(out, at, 2, (k + 1) as u32);
+    let k1 = desk::columns::number(out, at, PART_COLUMNS, (k + 1) as u32);
     let k2 = desk::columns::spaces(out, k1, 2);
     let k3 = statement_writer::word(out, k2, text);
     statement_writer::byte(out, k3, 10)

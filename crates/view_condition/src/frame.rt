@@ -1,9 +1,34 @@
 // The fixed text of the page around the view: its style, and a script that makes a table of the view's text. Without a browser that runs
 // scripts the text itself is shown.
 
+use desk::columns::NUMBER_COLUMNS;
+use desk::columns::STATEMENT_COLUMNS;
+use language::NUMBER_DIGITS;
+use view::MARGIN;
+use view::PART_COLUMNS;
+
+// Where the view's lines are cut: the text of a part; the number and the text of a statement; the marks, of which the last is set off by
+// two spaces.
+const PART_TEXT: u32 = (PART_COLUMNS + 2) as u32;
+
+const NUMBER_END: u32 = NUMBER_COLUMNS as u32;
+
+const TEXT: u32 = (NUMBER_COLUMNS + 2) as u32;
+
+const TEXT_END: u32 = (NUMBER_COLUMNS + 2 + STATEMENT_COLUMNS) as u32;
+
+const MARKS: u32 = MARGIN as u32;
+
 // Each answers whether all is written, and writes nothing after what isn't.
 fn line(text: &[u8]) -> bool {
     files::write(text) && files::write(b"\n")
+}
+
+// A text, and a number after it.
+fn cut(before: &[u8], n: u32) -> bool {
+    let mut out = [0u8; NUMBER_DIGITS];
+    let k = statement_writer::number(&mut out, 0, n);
+    files::write(before) && files::write(&out[..k])
 }
 
 fn print_style() -> bool {
@@ -65,10 +90,26 @@ fn print_functions() -> bool {
         && line(b"}")
 }
 
+// The marks of a row, and its cells before them.
+fn print_cuts() -> bool {
+    cut(
+        b"  var row = make('tr', '', table), marks = line.slice(",
+        MARKS,
+    )
+        && cut(b", ", MARKS - 1)
+        && cut(b" + n) + line.slice(", MARKS + 1)
+        && line(b" + n);")
+        && cut(b"  make('td', line.slice(0, ", NUMBER_END)
+        && cut(b").trim(), row); make('td', line.slice(", TEXT)
+        && cut(b", ", TEXT_END)
+        && line(b").trimEnd(), row);")
+}
+
 // A list of the parts, a table with a row for each statement, and the last line.
 fn print_making() -> bool {
     line(b"var page = document.createDocumentFragment();")
-        && line(b"make('h1', lines[n - 1].slice(4), page);")
+        && cut(b"make('h1', lines[n - 1].slice(", PART_TEXT)
+        && line(b"), page);")
         && line(
             b"make('p', 'Point at a part, or tap it: the statements at which it is true are marked.', page).className = 'hint';",
         )
@@ -77,16 +118,12 @@ fn print_making() -> bool {
         )
         && line(b"make('th', '', top); make('th', '', top);")
         && line(b"for (var k = 0; k < n; k++) {")
-        && line(b"  items.push(make('li', lines[k].slice(4), parts)); answer(items[k], k);")
+        && cut(b"  items.push(make('li', lines[k].slice(", PART_TEXT)
+        && line(b"), parts)); answer(items[k], k);")
         && line(b"  heads.push(make('th', k + 1, top)); answer(heads[k], k);")
         && line(b"}")
         && line(b"lines.slice(n + 2, -2).forEach(function (line) {")
-        && line(
-            b"  var row = make('tr', '', table), marks = line.slice(37, 36 + n) + line.slice(38 + n);",
-        )
-        && line(
-            b"  make('td', line.slice(0, 3).trim(), row); make('td', line.slice(5, 35).trimEnd(), row);",
-        )
+        && print_cuts()
         && line(b"  for (var k = 0; k < n; k++) {")
         && line(b"    var cell = make('td', marks[k] === '*' ? '\\u25cf' : '\\u00b7', row);")
         && line(b"    cell.className = String(marks[k] === '*'); answer(cell, k);")

@@ -1,17 +1,17 @@
 -- `spent` meets its contract: a word, the statement and byte 10. Assumes nothing.
 use native.Mathlib.Omega.{arith}
 use borrow.Author.Needs.{needs}
-use Rattle.language.proofs.Lengths.{digits-length}
+use Rattle.language.proofs.Lengths.{number-most}
 use Rattle.statement_writer.proofs.Puts.{put-then}
 use Rattle.answer_line.specs.AnswerLine.{answerLine}
 use Rattle.answer_line.proofs.spent.Statement.{statement}
 use Rattle.answer_line.proofs.spent.Tie as tie
 
 number-requires : tie.Need-number-requires
-number-requires c κs = omega (arith, digits-length 9 (c .before .before .before .before .before .before .before .args .n) (search needs))
+number-requires c κs = omega (arith, number-most (c .before .before .before .before .before .before .before .args .n) (search needs))
 
 byte-requires : tie.Need-byte-requires
-byte-requires c κs = omega (arith, digits-length 9 (c .before .before .before .before .before .before .before .before .before .before .before .args .n) (search needs))
+byte-requires c κs = omega (arith, number-most (c .before .before .before .before .before .before .before .before .before .before .before .args .n) (search needs))
 
 returns : tie.Need-returns
 unfolding answerLine
@@ -19,7 +19,7 @@ returns c =
     let w3 = c .before .before .byte .ensures in
     let w2 = c .before .before .before .before .before .before .number .ensures in
     let w1 = c .before .before .before .before .before .before .before .before .before .before .word .ensures in
-    (put-then w1 (put-then w2 w3), omega (arith, w1 .after, w2 .after, w3 .after, digits-length 9 (c .before .before .before .before .before .before .before .before .before .before .before .before .before .before .args .n) (search needs)))
+    (put-then w1 (put-then w2 w3), omega (arith, w1 .after, w2 .after, w3 .after, number-most (c .before .before .before .before .before .before .before .before .before .before .before .before .before .before .args .n) (search needs)))
 
 pub spent-spec : {M : Type 1} → statement M
 spent-spec =

@@ -1,5 +1,6 @@
 -- `differences` meets its contract. The invariant: the differences of the values before x are written. Assumes nothing.
 use Prim.Native.Nat.{_-_}
+use Rattle.language.specs.Spelling.{variables}
 use Rattle.comparison.specs.Lines.{differences}
 use Rattle.comparison.specs.Stepping.{pair-room}
 use Rattle.comparison.proofs.Room.{differences-parts}
@@ -12,7 +13,7 @@ abbrev Inv-loop : tie.InvT-loop
 Inv-loop out₀ at a b to₀ x₀ out to x = Written (λ n. differences n a b) pair-room out₀ at out to x
 
 abbrev μ-loop : tie.MeasureT-loop
-μ-loop out₀ at a b to₀ x₀ out to x = 32 - x
+μ-loop out₀ at a b to₀ x₀ out to x = variables - x
 
 loop-holds : tie.Need-loop-holds Inv-loop μ-loop
 loop-holds c = none-written (differences-parts (c .before .args .a .now) (c .before .args .b .now)) (c .before .pre)

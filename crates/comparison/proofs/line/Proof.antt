@@ -1,5 +1,6 @@
 -- `line` meets its contract: the head, the rewritten statement, the differences and byte 10. Assumes nothing.
 use native.Mathlib.Omega.{arith}
+use Rattle.language.specs.Spelling.{variables}
 use Rattle.statement_writer.proofs.Puts.{put-then}
 use Rattle.trace.proofs.Room.{head-most, text-most}
 use Rattle.comparison.specs.Lines.{pairLine}
@@ -34,7 +35,7 @@ byte-requires c κs =
     let s = c .before .before .before .before .before .before .before .before .before .before .before .before .before .before .before .before .before .before in
     let head = head-most (s .args .k) (s .args .place) (s .args .s) (search needs) (s .pre .1 .1 .0) (s .pre .0 .0) (s .pre .0 .1) in
     let text = text-most (s .args .t) (s .pre .1 .0 .0) (s .pre .1 .0 .1) in
-    omega (arith, head, text, parts-most (differences-parts (s .args .a .now) (s .args .b .now)) 32 (omega arith))
+    omega (arith, head, text, parts-most (differences-parts (s .args .a .now) (s .args .b .now)) variables (omega arith))
 
 returns : tie.Need-returns
 unfolding pairLine

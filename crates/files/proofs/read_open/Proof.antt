@@ -1,4 +1,5 @@
 -- `read_open` meets its contract: the lent bytes beyond the room for a file are kept. Assumes nothing.
+use Rattle.files.specs.Files.{file-room}
 use Rattle.files.proofs.Files.{ended-whole, ended-full, ended-failed}
 use lib.Seq.{length-take-le}
 use mathlib.Core.Path.{sym}
@@ -7,7 +8,7 @@ use Rattle.files.proofs.read_open.Statement.{statement}
 use Rattle.files.proofs.read_open.Tie as tie
 
 slice-aggregate-read-to-end : tie.Need-slice-aggregate-read-to-end
-slice-aggregate-read-to-end c = sym (length-take-le 65536 (c .before .before .before .before .args .buffer .now) (c .before .if1 .left))
+slice-aggregate-read-to-end c = sym (length-take-le file-room (c .before .before .before .before .args .buffer .now) (c .before .if1 .left))
 
 returns-2 : tie.Need-returns-2
 returns-2 c =

@@ -7,7 +7,7 @@ use borrow.Author.Count.{below-none}
 use borrow.Author.Needs.{needs}
 use Rattle.program.proofs.Held.{held-targets}
 use Rattle.program.specs.Reading.{statements}
-use Rattle.flow.proofs.Successors.{statements-size, successors-inside, Listed, listed-more, listed-all}
+use Rattle.flow.proofs.Successors.{graph-room, statements-size, successors-inside, Listed, listed-more, listed-all}
 use Rattle.flow.proofs.Graphs.{flow-of}
 use Rattle.flow.proofs.of.Statement.{statement}
 use Rattle.flow.proofs.of.Tie as tie
@@ -31,13 +31,13 @@ successors-of-requires : tie.Need-successors-of-requires Inv-loop μ-loop
 successors-of-requires c κs =
     let p = c .before .before .before .before .before .before .args .t1 in
     let pre = c .before .before .before .before .before .before .pre in
-    (omega (arith, pre .0 .few), held-targets (p .entries) (p .count) (c .before .before .loop .s) (rw (statements-size p (pre .0)) (c .before .loop-test .taken)) (pre .1 .0))
+    (omega (arith, graph-room _ (pre .0 .few)), held-targets (p .entries) (p .count) (c .before .before .loop .s) (rw (statements-size p (pre .0)) (c .before .loop-test .taken)) (pre .1 .0))
 
 array-write-first : tie.Need-array-write-first Inv-loop μ-loop
-array-write-first c = let few = c .before .before .before .before .before .before .before .pre .0 .few in omega (arith, c .before .before .before .loop .inv .1 .first-size, c .before .before .before .before .before .row .ensures .size)
+array-write-first c = let few = graph-room _ (c .before .before .before .before .before .before .before .pre .0 .few) in omega (arith, c .before .before .before .loop .inv .1 .first-size, c .before .before .before .before .before .row .ensures .size)
 
 array-write-second : tie.Need-array-write-second Inv-loop μ-loop
-array-write-second c = let few = c .before .before .before .before .before .before .before .pre .0 .few in omega (arith, c .before .before .before .loop .inv .1 .second-size, c .before .before .before .before .row2 .ensures .size)
+array-write-second c = let few = graph-room _ (c .before .before .before .before .before .before .before .pre .0 .few) in omega (arith, c .before .before .before .loop .inv .1 .second-size, c .before .before .before .before .row2 .ensures .size)
 
 loop-again : tie.Need-loop-again Inv-loop μ-loop
 loop-again c =
@@ -57,7 +57,7 @@ draw-requires c κs =
     let p = c .before .before .before .before .before .before .before .before .args .t1 in
     let pre = c .before .before .before .before .before .before .before .before .pre in
     let size = statements-size p (pre .0) in
-    ((omega (arith, size, pre .1 .0 .counted .0), pre .0 .few, pre .1 .1), rw size at (successors-inside _ _ _ (pre .1 .0) (listed-all p (pre .0) _ _ (c .before .before .before .before .before .before .row .ensures .size) (c .before .before .before .before .before .row2 .ensures .size) _ _ (c .before .before .before .before .loop .s) (c .before .before .before .before .loop .inv .1) (c .before .before .before .loop-test .left))))
+    ((omega (arith, size, pre .1 .0 .counted .0), graph-room _ (pre .0 .few), pre .1 .1), rw size at (successors-inside _ _ _ (pre .1 .0) (listed-all p (pre .0) _ _ (c .before .before .before .before .before .before .row .ensures .size) (c .before .before .before .before .before .row2 .ensures .size) _ _ (c .before .before .before .before .loop .s) (c .before .before .before .before .loop .inv .1) (c .before .before .before .loop-test .left))))
 
 returns : tie.Need-returns Inv-loop μ-loop
 returns c =

@@ -4,15 +4,15 @@ use mathlib.Core.Path.{sym}
 use mathlib.Core.Bool.{or-false}
 use native.Mathlib.Omega.{arith}
 use borrow.Author.Needs.{needs}
-use Rattle.flow.proofs.Successors.{follow-only, follow-next}
+use Rattle.flow.proofs.Successors.{graph-room, follow-only, follow-next}
 use Rattle.flow.proofs.successors_of.Statement.{statement}
 use Rattle.flow.proofs.successors_of.Tie as tie
 
 place-requires : tie.Need-place-requires
-place-requires c κs = let t = rw (c .before .e .given .1) at (c .before .before .before .pre .1) in (omega (arith, t .0 .0), t .0 .1)
+place-requires c κs = let t = rw (c .before .e .given .1) at (c .before .before .before .pre .1) in (omega (arith, t .0 .0), graph-room _ (t .0 .1))
 
 place-requires-2 : tie.Need-place-requires-2
-place-requires-2 c κs = let t = rw (c .before .before .e .given .1) at (c .before .before .before .before .pre .1) in (omega (arith, t .1 .0), t .1 .1)
+place-requires-2 c κs = let t = rw (c .before .before .e .given .1) at (c .before .before .before .before .pre .1) in (omega (arith, t .1 .0), graph-room _ (t .1 .1))
 
 returns : tie.Need-returns
 returns c = rw (c .before .enum-told .given .1) (λ t. follow-next _ t _ _ (c .only .ensures))

@@ -1,7 +1,7 @@
 -- `write` meets its contract: a budget too large, a refusal of `judge`, or its counts. Assumes nothing.
 use mathlib.Core.Path.{refl}
 use mathlib.Core.Logic.{inl, inr}
-use Prim.Native.Nat.{_<_}
+use Prim.Native.Nat.{_<_, _^_}
 use native.Mathlib.Omega.{arith}
 use Rattle.run.specs.Run.{budget-number}
 use Rattle.blame.proofs.Blames.{blamed}
@@ -38,8 +38,8 @@ write-counts-requires c κs =
 
 returns-4 : tie.Need-returns-4
 returns-4 c =
-    let small : c .before .before .before .before .before .before .answer .given .0 .0 < 1000 = search needs in
-    let short : c .before .before .before .before .line-of-number .result < 10000000000 = search needs in
+    let small : c .before .before .before .before .before .before .answer .given .0 .0 < 2 ^ 8 = search needs in
+    let short : c .before .before .before .before .line-of-number .result < 2 ^ 32 = search needs in
     let a = c .before .before .before .before .before .before in
     let j = a .before .before .before .before .before in
     let s = j .before .before .before .before .before .before .before .before .before .before .before in

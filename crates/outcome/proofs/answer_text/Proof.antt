@@ -2,6 +2,7 @@
 use mathlib.Core.List.{append-nil}
 use native.Mathlib.Omega.{arith}
 use borrow.Author.Needs.{needs}
+use Rattle.language.specs.Spelling.{variables}
 use Rattle.statement_writer.proofs.Puts.{put-then}
 use Rattle.trace.proofs.Series.{parts-most}
 use Rattle.answer_line.specs.AnswerLine.{answerLine}
@@ -25,7 +26,7 @@ returns-2 c =
     let values = c .before .before .value-lines .ensures in
     let line = rw (c .before .before .before .before .enum-told2 .given .1) at (c .before .before .before .before .before .before .before .before .write .ensures) in
     rw (c .before .before .before .before .enum-told2 .given .1)
-    (put-then (line .0) values, omega (arith, line .1, values .after, parts-most (lines-parts (c .before .before .before .before .before .before .before .before .before .before .before .args .values .now)) 32 (omega arith)))
+    (put-then (line .0) values, omega (arith, line .1, values .after, parts-most (lines-parts (c .before .before .before .before .before .before .before .before .before .before .before .args .values .now)) variables (omega arith)))
 
 pub answer-text-spec : {M : Type 1} → statement M
 answer-text-spec =

@@ -1,5 +1,5 @@
 -- `read_lines` meets its contract. The invariant: the text up to the position is the lines of the valid statements read so far, of which
--- the first 256 are kept. Assumes nothing.
+-- the first `most` are kept. Assumes nothing.
 use mathlib.Core.Path.{_≡_, refl, ap, _∙_}
 use mathlib.Core.List.{List, map}
 use mathlib.Core.Logic.{⊎-elim}

@@ -2,14 +2,16 @@ use Prim.Native.Nat.{_≤_}
 use native.Mathlib.Omega.{arith}
 use lib.ListN.{length}
 use Rattle.language.specs.Spelling.{spellVariable}
+use Rattle.language.specs.Room.{variable-room}
+use Rattle.language.proofs.Lengths.{variable-most}
 use Rattle.statement_writer.proofs.Puts.{put-then}
-use Rattle.published.proofs.Published.{unneeded-text, variable-most}
+use Rattle.published.proofs.Published.{unneeded-text}
 use borrow.Author.Needs.{needs}
 use Rattle.published.proofs.write_unneeded.Statement.{statement}
 use Rattle.published.proofs.write_unneeded.Tie as tie
 
 -- the variable is short
-short : (s : tie.Start) → length (spellVariable (s .args .x)) ≤ 3
+short : (s : tie.Start) → length (spellVariable (s .args .x)) ≤ variable-room
 short s = variable-most (s .args .x) (s .pre .0)
 
 variable-requires : tie.Need-variable-requires

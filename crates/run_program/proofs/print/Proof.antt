@@ -4,6 +4,7 @@ use native.Mathlib.Omega.{arith}
 use lib.ListN.{length}
 use lib.Seq.{length-take-le}
 use borrow.Author.Tests.{not-true}
+use Rattle.files.specs.Files.{chunk-room}
 use Rattle.transcript.specs.Transcript.{left}
 use Rattle.transcript.proofs.Printing.{hands-length, hands-within, hands-fewer}
 use borrow.Author.Needs.{needs}
@@ -11,7 +12,7 @@ use Rattle.run_program.proofs.print.Statement.{statement}
 use Rattle.run_program.proofs.print.Tie as tie
 
 abbrev Inv-loop : tie.InvT-loop
-Inv-loop program start trace out₀ at₀ out at = length out ≡ 16384
+Inv-loop program start trace out₀ at₀ out at = length out ≡ chunk-room
 
 abbrev μ-loop : tie.MeasureT-loop
 μ-loop program start trace out₀ at₀ out at = left at

@@ -3,6 +3,7 @@ use mathlib.Core.Path.{ap, _∙_}
 use Prim.Native.Nat.{ℕ, _-_}
 use lib.ListN.{length, length-replicate}
 use native.Mathlib.Omega.{arith}
+use Rattle.language.specs.Spelling.{variables}
 use Rattle.start.proofs.Lines.{Copied, copied-more}
 use borrow.Author.Needs.{needs}
 use Rattle.start.proofs.values_of.Statement.{statement}
@@ -12,10 +13,10 @@ abbrev Inv-loop : tie.InvT-loop
 Inv-loop numbers values₀ x₀ values x = Copied numbers values x
 
 abbrev μ-loop : tie.MeasureT-loop
-μ-loop numbers values₀ x₀ values x = 32 - x
+μ-loop numbers values₀ x₀ values x = variables - x
 
 loop-holds : tie.Need-loop-holds Inv-loop μ-loop
-loop-holds c = record { size = ap length (c .no-values .ensures) ∙ length-replicate {A = ℕ} 32 0; within = omega arith; same = λ j h. absurd (omega arith) }
+loop-holds c = record { size = ap length (c .no-values .ensures) ∙ length-replicate {A = ℕ} variables 0; within = omega arith; same = λ j h. absurd (omega arith) }
 
 loop-again : tie.Need-loop-again Inv-loop μ-loop
 loop-again c = copied-more (c .before .loop .inv) (c .loop-test .taken)

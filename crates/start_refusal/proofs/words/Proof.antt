@@ -2,7 +2,7 @@
 use mathlib.Core.Path.{refl}
 use native.Mathlib.Omega.{arith}
 use borrow.Author.Needs.{needs}
-use Rattle.language.proofs.Lengths.{digits-length}
+use Rattle.language.proofs.Lengths.{number-most}
 use Rattle.statement_writer.proofs.Puts.{put-then}
 use Rattle.start_refusal.specs.StartRefusal.{startWords}
 use Rattle.start_refusal.proofs.words.Statement.{statement}
@@ -11,12 +11,12 @@ use Rattle.start_refusal.proofs.words.Tie as tie
 number-requires : tie.Need-number-requires
 number-requires c κs =
     let n = c .before .before .before .before .before .before .before .a .given .0 .0 in
-    omega (arith, digits-length 9 n (search needs))
+    omega (arith, number-most n (search needs))
 
 line-range-requires : tie.Need-line-range-requires
 line-range-requires c κs =
     let n = c .before .before .before .before .before .before .before .before .before .before .before .a .given .0 .0 in
-    omega (arith, digits-length 9 n (search needs))
+    omega (arith, number-most n (search needs))
 
 returns : tie.Need-returns
 unfolding startWords
@@ -43,7 +43,7 @@ returns-4 c =
     let a = c .before .before .before .before .before .before .before .before .before .before .before .before .before .before .a in
     rw (a .given .1) (
       put-then (word .ensures) (put-then (number .ensures) (range .ensures .0)),
-      omega (arith, word .ensures .after, number .ensures .after, range .ensures .1, digits-length 9 (a .given .0 .0) (search needs)),
+      omega (arith, word .ensures .after, number .ensures .after, range .ensures .1, number-most (a .given .0 .0) (search needs)),
     )
 
 pub words-spec : {M : Type 1} → statement M

@@ -1,5 +1,6 @@
 -- `changes` meets its contract. The invariant: the changes of the values before x are written. Assumes nothing.
 use Prim.Native.Nat.{_-_}
+use Rattle.language.specs.Spelling.{variables}
 use Rattle.trace.specs.Trace.{changes}
 use Rattle.trace.specs.Stepping.{change-room}
 use Rattle.trace.proofs.Room.{changes-parts}
@@ -12,7 +13,7 @@ abbrev Inv-loop : tie.InvT-loop
 Inv-loop out₀ at old new to₀ x₀ out to x = Written (λ n. changes n old new) change-room out₀ at out to x
 
 abbrev μ-loop : tie.MeasureT-loop
-μ-loop out₀ at old new to₀ x₀ out to x = 32 - x
+μ-loop out₀ at old new to₀ x₀ out to x = variables - x
 
 loop-holds : tie.Need-loop-holds Inv-loop μ-loop
 loop-holds c = none-written (changes-parts (c .before .args .old .now) (c .before .args .new .now)) (c .before .pre)

@@ -1,5 +1,6 @@
 -- `line` meets its contract: the head, the changes and byte 10. Assumes nothing.
 use native.Mathlib.Omega.{arith}
+use Rattle.language.specs.Spelling.{variables}
 use Rattle.statement_writer.proofs.Puts.{put-then}
 use Rattle.trace.specs.Trace.{lineText}
 use Rattle.trace.proofs.Room.{head-most, changes-parts, line-most}
@@ -24,7 +25,7 @@ byte-requires c κs =
     omega (
       arith,
       head-most (s .args .k) (s .args .place) (s .args .s) (search needs) (s .pre .1 .1 .0) (s .pre .0) (s .pre .1 .0),
-      parts-most (changes-parts (s .args .old .now) (s .args .new .now)) 32 (omega arith),
+      parts-most (changes-parts (s .args .old .now) (s .args .new .now)) variables (omega arith),
     )
 
 returns : tie.Need-returns

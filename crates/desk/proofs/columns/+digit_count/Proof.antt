@@ -8,7 +8,7 @@ use borrow.Fn.Kinds.{In}
 use borrow.Fn.PlainCycle.{Measures, is, falls, and}
 use Rattle.language.specs.Spelling.{digits}
 use Rattle.language.proofs.Digits.{digits-small, digits-next}
-use Rattle.language.proofs.Lengths.{digits-length}
+use Rattle.language.proofs.Lengths.{number-most}
 use Rattle.desk.proofs.columns.digit_count.Reads as digit-count
 use Rattle.desk.proofs.columns.digit_count.Kinds as digit-count-kinds
 use Rattle.desk.proofs.columns.+digit_count.Lts-digit_count as digit-count-lts
@@ -34,6 +34,6 @@ pub +digit-count-spec : {M : Type 1} → statement M
     (digit-count-at t)
     digit-count.Post
     (λ c κs. omega arith)
-    (λ c. record { fits = omega (arith, digits-length 9 (c .before .before .args .n / 10) (omega arith)) })
+    (λ c. record { fits = omega (arith, number-most (c .before .before .args .n / 10) (omega arith)) })
     (λ c. omega (arith, ap length (digits-small (c .before .args .n) (c .if1 .taken))))
     (λ c. omega (arith, ap length (digits-next (c .before .before .args .n) (c .before .if1 .left)), length-append (digits (c .before .before .args .n / 10)) ((48 + c .before .before .args .n % 10) ∷ [])))
