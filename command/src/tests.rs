@@ -46,8 +46,9 @@ fn lines_of_misspelled_programs_of_any_length_are_found() {
         (b"\n".repeat(65_535), 1),
         ([b"skip\n".repeat(13_000), b"x\n".to_vec()].concat(), 13_001),
         (b"read i0\nwrite i0\nskip".to_vec(), 3),
-        // The line and the plain one after it would be one statement.
+        // A line without its byte 10 runs into the plain one after it.
         (b"read i0\ni0 := i0 + ".to_vec(), 2),
+        (b"read i0\nwrite i0\n ".to_vec(), 3),
     ] {
         assert_eq!(line_of_program(&text, Refusal::Misspelled), Some(line));
     }
