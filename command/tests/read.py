@@ -2,6 +2,7 @@
 tells each object again, from its numbers and texts alone, as the programs would. A NUL ends each."""
 
 import json
+import pathlib
 import sys
 
 VERDICTS = {"accepted": 0, "missing": 11, "repeated": 12, "unfit": 13, "unmet": 14}
@@ -106,6 +107,11 @@ def told(thing):
     assert refused == ""
     return {"check": check, "tabulate": tabulate, "run": run}[thing["call"]](thing)
 
+
+described = pathlib.Path(__file__).parents[2].joinpath("docs/REFERENCE.md").read_text()
+for names in (VERDICTS, FAULT, REPORT, TOTAL, CHECK, MARK, TABULATE, ROW, ENDED, SPENT):
+    for name in names:
+        assert "`%s`" % name in described, name
 
 for line in sys.stdin.buffer:
     assert line.endswith(b"\n")
