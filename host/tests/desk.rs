@@ -9,10 +9,8 @@ mod coverage;
 use common::{built, in_folder, option, shown};
 use coverage::Tally;
 use oracle::check::LARGEST_FILE;
-use oracle::desk;
 use oracle::generate::{self, Random};
-use oracle::marks;
-use oracle::program::Program;
+use oracle::{desk, folder, marks};
 use std::path::Path;
 
 const CASES: u64 = 1_000;
@@ -49,39 +47,6 @@ fn same(case: u64, output: &[u8], expected: &str, files: &[(&str, &[u8])]) {
     assert!(output == expected.as_bytes(), "case {case}: {shown_files:?}");
 }
 
-/// A program, and its text or one that is refused, 2 to 5.
-fn program(random: &mut Random) -> (Program, Vec<u8>) {
-    let size = generate::size(random);
-    let program = generate::program(random, size);
-    let whole = program.text();
-    let text = match random.below(24) {
-        0 | 1 => generate::damage(random, &whole),
-        2 => generate::statement_soup(random),
-        3 => b"read i0\n".repeat(random.pick(&[0, 1, 257])),
-        4 => [&whole[..], b"skip\n"].concat(),
-        5 => b"read i0\nskip\nif i0 goto 2 else 5\nwrite i0\n".to_vec(),
-        _ => whole,
-    };
-    (program, text)
-}
-
-/// A start, at times damaged; budgets are small, so that traces are.
-fn start(random: &mut Random) -> Vec<u8> {
-    let budget = match random.below(20) {
-        0 => 0,
-        1 => 1_000_001,
-        _ => random.below(300),
-    };
-    let mut text = format!("{}\n{budget}\n", generate::word(random) as i32);
-    for _ in 0..random.pick(&[0, 0, 1, 5, 31, 32, 33]) {
-        text += &format!("{}\n", generate::word(random) as i32);
-    }
-    match random.below(10) {
-        0 => generate::damage(random, text.as_bytes()),
-        _ => text.into_bytes(),
-    }
-}
-
 /// What the first line of an output is: the refusal, or a result; nothing of files that are too long.
 fn class(output: &str) -> &'static str {
     #[rustfmt::skip]
@@ -105,31 +70,11 @@ fn views_are_as_by_the_oracle() {
     let mut met = Tally::new("views", OF_PROGRAMS.into_iter().chain(of_conditions));
     for (case, mut random) in cases("view") {
         let random = &mut random;
-        let (given, text) = program(random);
-        let condition = match random.below(12) {
-            0 => generate::condition_soup(random),
-            1 => generate::nested_condition(random),
-            2 => {
-                let length = random.between(1_000, 1_030);
-                generate::condition_of_length(random, &given, length)
-            }
-            3 => {
-                let whole = generate::condition(random, &given, 5);
-                generate::damage(random, &whole)
-            }
-            _ => {
-                let parts = random.between(1, 66);
-                generate::condition(random, &given, parts)
-            }
-        };
-        // One byte 10 at the end of the file doesn't count.
-        let mut file = condition.clone();
-        let bare = condition.strip_suffix(b"\n").unwrap_or(&condition);
-        if random.chance(50) && bare.len() == condition.len() {
-            file.push(10);
-        }
+        let (given, text) = folder::given(random);
+        let condition = folder::condition(random, &given);
+        let (file, bare) = folder::condition_file(random, &condition);
         let files = [("given", &text[..]), ("condition", &file[..])];
-        let expected = of_whole_files(&files, desk::view(&text, bare));
+        let expected = of_whole_files(&files, desk::view(&text, &bare));
         same(case, &printed(&viewer, "view", &files, &[]), &expected, &files);
         met.met(class(&expected));
     }
@@ -142,7 +87,8 @@ fn runs_are_as_by_the_oracle() {
     let mut met = Tally::new("runs", OF_PROGRAMS.into_iter().chain(OF_STARTS));
     for (case, mut random) in cases("run") {
         let random = &mut random;
-        let ((_, text), start, trace) = (program(random), start(random), random.chance(70));
+        let ((_, text), start, trace) =
+            (folder::given(random), folder::start(random), random.chance(70));
         let files = [("given", &text[..]), ("start", &start[..])];
         let words: &[&str] = if trace { &["given", "start", "trace"] } else { &[] };
         let expected = of_whole_files(&files, desk::run(&text, &start, trace));
@@ -159,7 +105,7 @@ fn comparisons_are_as_by_the_oracle() {
     let mut met = Tally::new("comparisons", classes);
     for (case, mut random) in cases("compare") {
         let random = &mut random;
-        let ((given, text), start) = (program(random), start(random));
+        let ((given, text), start) = (folder::given(random), folder::start(random));
         let count = random.below(given.count() as usize + 4).min(60);
         let list = marks::text(&generate::marks(random, &given, count));
         let list = if random.below(12) == 0 { generate::damage(random, &list) } else { list };

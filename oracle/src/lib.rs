@@ -1,12 +1,13 @@
 //! A second implementation of shift program rewrites, written from their defining document alone.
 //!
 //! It serves as the oracle of tests: the same calls, the same refusal numbers and the same contents of the
-//! lent buffers, by other algorithms. `generate` makes the random cases. `tuned` has the calls once more, made to
+//! lent buffers, by other algorithms. `generate` makes the random cases, `folder` those of files. `tuned` has the calls once more, made to
 //! be fast, as the yardstick of the benchmark.
 
 pub mod check;
 pub mod condition;
 pub mod desk;
+pub mod folder;
 pub mod generate;
 pub mod machine;
 pub mod marks;

@@ -1,0 +1,47 @@
+//! The line of a text that a refusal is about. The library answers a number alone, so it is asked
+//! about one line at a time, each in a program of plain lines; nothing is read here.
+
+use rewrites::{Refusal, TEXT_BYTES, VARIABLES, VERDICT_BYTES};
+
+/// The lines of a text, each with its byte 10 if it has one.
+pub fn lines(text: &[u8]) -> impl Iterator<Item = &[u8]> {
+    text.split_inclusive(|&byte| byte == b'\n')
+}
+
+/// A program of so many lines, all plain but line k, counted from 0.
+fn with_line(count: usize, k: usize, line: &[u8]) -> Vec<u8> {
+    let plain = |at| match at {
+        0 => &b"read i0\n"[..],
+        _ if at + 1 == count => b"write i0\n",
+        _ => b"skip\n",
+    };
+    (0..count).flat_map(|at| if at == k { line } else { plain(at) }).copied().collect()
+}
+
+fn is_refused(program: &[u8], refusal: Refusal) -> bool {
+    rewrites::run(program, &[0; VARIABLES], 0, 0) == Err(refusal)
+}
+
+/// The first line of a program, counted from 1, at which it is refused so. A count of lines that is
+/// refused is about no line.
+pub fn line_of_program(text: &[u8], refusal: Refusal) -> Option<usize> {
+    let count = lines(text).count();
+    let is_wrong = |(k, line): (usize, &[u8])| match refusal {
+        // A line is spelled alike anywhere. There may be many, so each is put among few.
+        Refusal::Misspelled => is_refused(&with_line(3, 1, line), refusal),
+        Refusal::Placement | Refusal::Target => is_refused(&with_line(count, k, line), refusal),
+        _ => false,
+    };
+    lines(text).enumerate().position(is_wrong).map(|at| at + 1)
+}
+
+/// The first line of a list of marks, counted from 1, that is misspelled.
+pub fn line_of_marks(text: &[u8]) -> Option<usize> {
+    let program = with_line(2, 2, b"");
+    let (mut verdicts, mut new) = ([0; VERDICT_BYTES], [0; TEXT_BYTES]);
+    let is_wrong = |line: &[u8]| {
+        let judged = rewrites::judge(&program, line, &mut verdicts, &mut new);
+        judged == Err(Refusal::MarkMisspelled)
+    };
+    lines(text).position(is_wrong).map(|at| at + 1)
+}

@@ -1,0 +1,186 @@
+//! What went wrong, in words: which file and line, whose mistake it is, and what was expected.
+
+use crate::blame::{line_of_marks, line_of_program, lines};
+use crate::files::{shown, Text, Unread};
+use crate::start;
+use rewrites::{Refusal, MOST_STEPS};
+use serde::Serialize;
+use std::fmt;
+use std::path::Path;
+
+/// Something wrong with a folder: a refusal, or a file that isn't as it should be.
+#[derive(Debug, Serialize)]
+pub struct Fault {
+    /// The number of a refused call.
+    pub refusal: Option<u8>,
+    pub file: String,
+    pub line: Option<usize>,
+    pub whose: &'static str,
+    pub words: String,
+    pub expected: String,
+    pub found: Option<String>,
+}
+
+/// The bytes of a text for a message, on one line and not many.
+fn quoted(text: &[u8]) -> String {
+    const MOST: usize = 80;
+    let text = text.strip_suffix(b"\n").unwrap_or(text);
+    let start = text[..text.len().min(MOST)].escape_ascii();
+    let rest = if text.len() > MOST { ".." } else { "" };
+    format!("`{start}{rest}`")
+}
+
+/// A number with a comma before each three digits.
+pub fn grouped(number: usize) -> String {
+    let digits = number.to_string();
+    let mut text = String::new();
+    for (at, digit) in digits.chars().enumerate() {
+        if at > 0 && (digits.len() - at) % 3 == 0 {
+            text.push(',');
+        }
+        text.push(digit);
+    }
+    text
+}
+
+fn whose(refusal: Refusal) -> &'static str {
+    match refusal {
+        Refusal::Buffer | Refusal::Budget => "the host program",
+        Refusal::Misspelled | Refusal::LineCount | Refusal::Placement | Refusal::Target => {
+            "the author of the shift program"
+        }
+        Refusal::ConditionLength | Refusal::ConditionMisspelled | Refusal::ConditionParts => {
+            "the author of the condition"
+        }
+        Refusal::MarkMisspelled | Refusal::MarkCount => "the optimiser",
+    }
+}
+
+/// Document 01's words. Those that speak of some line are said of the one that is named.
+fn words(refusal: Refusal) -> String {
+    match refusal {
+        Refusal::Misspelled => "not spelled as a statement, or without its byte 10".to_string(),
+        Refusal::MarkMisspelled => "misspelled, or without its byte 10".to_string(),
+        _ => refusal.to_string(),
+    }
+}
+
+fn expected(refusal: Refusal, text: &[u8]) -> String {
+    let words = match refusal {
+        Refusal::Buffer => "larger buffers",
+        Refusal::Budget => return format!("at most {}", grouped(MOST_STEPS as usize)),
+        Refusal::Misspelled => {
+            "`read X`, `write X`, `X := A`, `X := A o A`, `if X goto n else m` or `skip`, and byte 10"
+        }
+        Refusal::LineCount => "2 to 256 lines",
+        Refusal::Placement => {
+            "`read X` on the first line, `write X` on the last, and neither elsewhere"
+        }
+        Refusal::Target => return format!("targets from 2 to {}", lines(text).count()),
+        Refusal::ConditionLength => "at most 1,024 bytes",
+        Refusal::ConditionMisspelled => {
+            "`!p`, `(p & q)`, `(p | q)`, `EX p` and the like, `E[p U q]` and the like, or an atom"
+        }
+        Refusal::ConditionParts => "at most 64 parts",
+        Refusal::MarkMisspelled => {
+            "`n: mark(rm, X, E)` or `n: mark(rpl, X, A)`, and byte 10"
+        }
+        Refusal::MarkCount => "at most 256 lines",
+    };
+    words.to_string()
+}
+
+impl Fault {
+    /// A call is refused for this text: the program, the condition, the marks or the budget.
+    pub fn refused(refusal: Refusal, text: &Text) -> Fault {
+        let bytes = &text.bytes;
+        let line = match refusal {
+            Refusal::MarkMisspelled => line_of_marks(bytes),
+            _ => line_of_program(bytes, refusal),
+        };
+        let found = match (refusal, line.and_then(|line| lines(bytes).nth(line - 1))) {
+            (_, Some(line)) => Some(quoted(line)),
+            (Refusal::LineCount | Refusal::MarkCount, _) => {
+                Some(grouped(lines(bytes).count()) + " lines")
+            }
+            (Refusal::ConditionLength, _) => Some(grouped(bytes.len()) + " bytes"),
+            (Refusal::Budget | Refusal::ConditionMisspelled, _) => Some(quoted(bytes)),
+            _ => None,
+        };
+        Fault {
+            refusal: Some(refusal.number()),
+            file: text.name.clone(),
+            line,
+            whose: whose(refusal),
+            words: words(refusal),
+            expected: expected(refusal, bytes),
+            found,
+        }
+    }
+
+    /// A start is misspelled.
+    pub fn of_start(wrong: start::Wrong, text: &Text) -> Fault {
+        let line = wrong.line.and_then(|line| lines(&text.bytes).nth(line - 1));
+        Fault {
+            refusal: None,
+            file: text.name.clone(),
+            line: wrong.line,
+            whose: "the start",
+            words: wrong.words,
+            expected: wrong.expected,
+            found: line.map(quoted),
+        }
+    }
+
+    fn of_file(path: &Path, words: String, expected: &str) -> Fault {
+        Fault {
+            refusal: None,
+            file: shown(path),
+            line: None,
+            whose: "the caller",
+            words,
+            expected: expected.to_string(),
+            found: None,
+        }
+    }
+
+    /// A file can't be read.
+    pub fn unread(path: &Path, why: &Unread) -> Fault {
+        let expected = "a file of at most 65,535 bytes";
+        Fault::of_file(path, format!("can't be read: {}", why.reason()), expected)
+    }
+
+    /// A file can't be opened, and the call goes on as if it were empty.
+    pub fn read_as_empty(path: &Path, why: &Unread) -> Fault {
+        let expected = "a file, which may be empty";
+        Fault::of_file(path, format!("is read as empty: {}", why.reason()), expected)
+    }
+
+    /// There is no such folder.
+    pub fn no_folder(path: &Path, reason: String, files: &str) -> Fault {
+        Fault::of_file(path, reason, &format!("a folder with {files}"))
+    }
+
+    /// What is wrong, where the file is clear already.
+    pub fn summary(&self) -> String {
+        let Fault { whose, words, .. } = self;
+        match self.line {
+            Some(line) => format!("{whose}: line {line}: {words}"),
+            None => format!("{whose}: {words}"),
+        }
+    }
+}
+
+impl fmt::Display for Fault {
+    fn fmt(&self, f: &mut fmt::Formatter<'_>) -> fmt::Result {
+        write!(f, "{}", self.file)?;
+        if let Some(line) = self.line {
+            write!(f, ":{line}")?;
+        }
+        write!(f, ": {}: {}; expected {}", self.whose, self.words, self.expected)?;
+        match &self.found {
+            Some(found) => write!(f, ", found {found}"),
+            None => Ok(()),
+        }
+    }
+}

@@ -1,0 +1,106 @@
+//! The command `rewrites`: the calls of the library from a shell and from a job. What a call
+//! answers is the library's; how it is laid out is tested here.
+
+#![forbid(unsafe_code)]
+
+mod blame;
+mod check;
+mod fault;
+mod files;
+mod folder;
+mod marks;
+mod output;
+mod parts;
+mod run;
+mod start;
+mod status;
+mod tabulate;
+
+#[cfg(test)]
+mod tests;
+
+use clap::error::ErrorKind;
+use clap::{CommandFactory, Parser, Subcommand};
+use output::{reason, Output, Unwritten};
+use status::Status;
+use std::io::{self, Write};
+use std::process::ExitCode;
+
+const STATUSES: &str = "\
+Exit status:
+  0  a result
+  1  something is refused
+  2  usage, or a file that can't be read
+  3  output that wasn't written
+Of many folders the worst is told.";
+
+/// Shift programs: judges marks, tabulates conditions, runs
+#[derive(Parser)]
+#[command(name = "rewrites", version, after_help = STATUSES)]
+struct Arguments {
+    #[command(subcommand)]
+    call: Call,
+}
+
+#[derive(Subcommand)]
+enum Call {
+    /// Judge the marks of folders, and write the program with the accepted ones made
+    #[command(after_help = STATUSES)]
+    Check(check::Arguments),
+    /// Show at which statements each part of a condition is true
+    #[command(after_help = STATUSES)]
+    Tabulate(tabulate::Arguments),
+    /// Run a program from a start
+    #[command(after_help = STATUSES)]
+    Run(run::Arguments),
+}
+
+/// What is wrong with the arguments of a call taken together.
+fn wrong(arguments: &Arguments) -> Option<clap::Error> {
+    let (name, words) = match &arguments.call {
+        Call::Check(check) => ("check", check.wrong()?),
+        Call::Tabulate(_) | Call::Run(_) => return None,
+    };
+    let mut command = Arguments::command();
+    command.build();
+    let of_call = command.find_subcommand_mut(name)?;
+    Some(of_call.error(ErrorKind::ArgumentConflict, words))
+}
+
+/// Prints help, the version, or what is wrong with the arguments.
+fn told(error: &clap::Error) -> Result<Status, Unwritten> {
+    let printed = error.print().and_then(|()| io::stdout().flush());
+    if error.use_stderr() {
+        return Ok(Status::Unread);
+    }
+    let place = "standard output".to_string();
+    printed.map(|()| Status::Result).map_err(|error| Unwritten { place, error })
+}
+
+fn answered(output: &mut Output) -> Result<Status, Unwritten> {
+    let arguments = match Arguments::try_parse() {
+        Ok(arguments) => arguments,
+        Err(error) => return told(&error),
+    };
+    if let Some(error) = wrong(&arguments) {
+        return told(&error);
+    }
+    match arguments.call {
+        Call::Check(call) => call.run(output),
+        Call::Tabulate(call) => call.run(output),
+        Call::Run(call) => call.run(output),
+    }
+}
+
+fn main() -> ExitCode {
+    let mut output = Output::new();
+    let status = answered(&mut output).unwrap_or_else(|Unwritten { place, error }| {
+        // A pipe that nobody reads from any more is no mistake to be told.
+        if error.kind() != io::ErrorKind::BrokenPipe {
+            output.say(format!("{place}: {}", reason(&error)));
+        }
+        Status::Unwritten
+    });
+    output.end_progress();
+    status.into()
+}

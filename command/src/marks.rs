@@ -1,0 +1,105 @@
+//! The marks of a list that the library took: each line is then `n: mark(rm, X, E)` or
+//! `n: mark(rpl, X, A)`, and is only taken apart here.
+
+use rewrites::Verdict;
+use serde::Serialize;
+use std::ops::AddAssign;
+
+/// A mark of a list.
+pub struct Mark<'a> {
+    /// Its line, without byte 10.
+    pub text: &'a str,
+    /// The statement that it names.
+    pub statement: u32,
+    kind: &'a str,
+    /// X, and E or A.
+    variable: &'a str,
+    right: &'a str,
+}
+
+impl<'a> Mark<'a> {
+    fn new(text: &'a str) -> Option<Mark<'a>> {
+        let (number, rest) = text.split_once(": mark(")?;
+        let mut pieces = rest.strip_suffix(')')?.splitn(3, ", ");
+        let (kind, variable, right) = (pieces.next()?, pieces.next()?, pieces.next()?);
+        Some(Mark { text, statement: number.parse().ok()?, kind, variable, right })
+    }
+
+    /// Its published condition, with its variables put in.
+    pub fn condition(&self) -> String {
+        let (x, a) = (self.variable, self.right);
+        match self.kind {
+            "rm" => format!("!EX E[!def({x}) U use({x})]"),
+            _ => format!("AY A[((!def({x}) & trans({a})) & !entry) B stmt({x} := {a})]"),
+        }
+    }
+}
+
+/// The marks of a list that was taken.
+pub fn of(list: &[u8]) -> Vec<Mark<'_>> {
+    let text = std::str::from_utf8(list).unwrap_or_default();
+    text.lines().filter_map(Mark::new).collect()
+}
+
+/// The verdict's name in JSON.
+pub fn name(verdict: Verdict) -> &'static str {
+    match verdict {
+        Verdict::Accepted => "accepted",
+        Verdict::Missing => "missing",
+        Verdict::Repeated => "repeated",
+        Verdict::Unfit => "unfit",
+        Verdict::Unmet => "unmet",
+    }
+}
+
+/// How many marks got each verdict.
+#[derive(Clone, Copy, Debug, Default, PartialEq, Eq, Serialize)]
+pub struct Counts {
+    pub accepted: usize,
+    pub missing: usize,
+    pub repeated: usize,
+    pub unfit: usize,
+    pub unmet: usize,
+}
+
+impl Counts {
+    pub fn of(verdicts: &[Verdict]) -> Counts {
+        let count = |wanted| verdicts.iter().filter(|&&verdict| verdict == wanted).count();
+        Counts {
+            accepted: count(Verdict::Accepted),
+            missing: count(Verdict::Missing),
+            repeated: count(Verdict::Repeated),
+            unfit: count(Verdict::Unfit),
+            unmet: count(Verdict::Unmet),
+        }
+    }
+
+    pub fn marks(&self) -> usize {
+        self.accepted + self.missing + self.repeated + self.unfit + self.unmet
+    }
+
+    /// The counts in words. A reason that no mark was refused for is left out.
+    pub fn words(&self) -> String {
+        let mut words = format!("marks {}, accepted {}", self.marks(), self.accepted);
+        let refused = [
+            ("no such statement", self.missing),
+            ("named before", self.repeated),
+            ("doesn't fit", self.unfit),
+            ("condition false", self.unmet),
+        ];
+        for (reason, count) in refused.into_iter().filter(|(_, count)| *count > 0) {
+            words += &format!(", {reason} {count}");
+        }
+        words
+    }
+}
+
+impl AddAssign for Counts {
+    fn add_assign(&mut self, other: Counts) {
+        self.accepted += other.accepted;
+        self.missing += other.missing;
+        self.repeated += other.repeated;
+        self.unfit += other.unfit;
+        self.unmet += other.unmet;
+    }
+}

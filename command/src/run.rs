@@ -1,0 +1,141 @@
+//! `rewrites run`: a program's run from a start.
+
+use crate::fault::Fault;
+use crate::files::Text;
+use crate::folder::Folder;
+use crate::output::{Output, Unwritten};
+use crate::start::{self, Start};
+use crate::status::Status;
+use clap::Args;
+use rewrites::{Outcome, Refusal, VARIABLES};
+use serde::Serialize;
+use std::path::PathBuf;
+
+#[derive(Args)]
+pub struct Arguments {
+    /// A folder with a program in the file `given` and a start in `start`: the input, the budget
+    /// and up to 32 values, one a line
+    #[arg(value_name = "DIR")]
+    folder: PathBuf,
+    /// Take this input, and not the start's; the folder then needs no start
+    #[arg(long, value_name = "N", value_parser = start::value, allow_negative_numbers = true)]
+    input: Option<i32>,
+    /// Take this budget of steps, and not the start's; 1000000 where there is no start
+    #[arg(long, value_name = "N", value_parser = start::budget)]
+    budget: Option<u32>,
+    /// Start with this value of a variable, as in i13=40; may be given again for others
+    #[arg(long, value_name = "iN=VALUE", value_parser = start::setting)]
+    set: Vec<(usize, i32)>,
+    /// Print a JSON object on a line
+    #[arg(long)]
+    json: bool,
+}
+
+#[derive(Serialize)]
+struct Answer {
+    input: i32,
+    budget: u32,
+    values: [i32; VARIABLES],
+    #[serde(flatten)]
+    ending: Ending,
+}
+
+#[derive(Serialize)]
+#[serde(tag = "outcome", rename_all = "lowercase")]
+enum Ending {
+    Ended { value: i32, steps: u32 },
+    Spent { statement: u32, left: [i32; VARIABLES] },
+}
+
+impl From<Outcome> for Ending {
+    fn from(outcome: Outcome) -> Ending {
+        match outcome {
+            Outcome::Ended { value, steps } => Ending::Ended { value, steps },
+            Outcome::Spent { statement, values } => {
+                Ending::Spent { statement, left: values.map(|value| value as i32) }
+            }
+        }
+    }
+}
+
+impl Ending {
+    /// What the runner prints.
+    fn text(&self) -> String {
+        match self {
+            Ending::Ended { value, steps } => format!("ended {value} steps {steps}\n"),
+            Ending::Spent { statement, left } => {
+                let mut text = format!("spent at {statement}\n");
+                for (x, value) in left.iter().enumerate() {
+                    text += &format!("i{x} = {value}\n");
+                }
+                text
+            }
+        }
+    }
+}
+
+impl Arguments {
+    /// The folder's start with what the options replace, and the file that it is of.
+    fn start(&self, folder: &mut Folder) -> Option<(Start, Option<Text>)> {
+        let file = match self.input {
+            Some(_) => folder.read_if_there("start")?,
+            None => Some(folder.read("start")?),
+        };
+        let read = file.as_ref().map(|text| (text, Start::read(&text.bytes)));
+        let mut start = match read {
+            Some((_, Ok(start))) => start,
+            Some((text, Err(wrong))) => {
+                folder.refuse(Fault::of_start(wrong, text));
+                return None;
+            }
+            None => Start::from_input(0),
+        };
+        start.input = self.input.unwrap_or(start.input);
+        start.budget = self.budget.unwrap_or(start.budget);
+        for &(x, value) in &self.set {
+            start.values[x] = value;
+        }
+        Some((start, file))
+    }
+
+    fn outcome(&self, folder: &mut Folder) -> Option<Answer> {
+        folder.is_there("a program in `given` and a start in `start`")?;
+        let given = folder.read("given")?;
+        let (start, file) = self.start(folder)?;
+        let Start { input, budget, values } = start;
+        match rewrites::run(&given.bytes, &values.map(|value| value as u32), input as u32, budget) {
+            Ok(outcome) => Some(Answer { input, budget, values, ending: outcome.into() }),
+            Err(Refusal::Budget) => {
+                folder.refuse(self.budget_fault(budget, file));
+                None
+            }
+            Err(refusal) => {
+                folder.refuse(Fault::refused(refusal, &given));
+                None
+            }
+        }
+    }
+
+    /// The budget is the option's, or stands on line 2 of the start.
+    fn budget_fault(&self, budget: u32, file: Option<Text>) -> Fault {
+        let bytes = budget.to_string().into_bytes();
+        match (self.budget, file) {
+            (None, Some(Text { name, .. })) => {
+                Fault { line: Some(2), ..Fault::refused(Refusal::Budget, &Text { name, bytes }) }
+            }
+            _ => Fault::refused(Refusal::Budget, &Text { name: "--budget".to_string(), bytes }),
+        }
+    }
+
+    pub fn run(&self, output: &mut Output) -> Result<Status, Unwritten> {
+        let mut folder = Folder::new(&self.folder);
+        let answer = self.outcome(&mut folder);
+        folder.say(output);
+        if self.json {
+            output.print_json(&folder.report("run", answer))?;
+        } else if let Some(answer) = answer {
+            output.print(answer.ending.text().as_bytes())?;
+        }
+        Ok(folder.status)
+    }
+}

@@ -1,0 +1,158 @@
+//! `rewrites tabulate`: the statements at which each part of a condition is true.
+
+use crate::blame::lines;
+use crate::fault::Fault;
+use crate::files::Text;
+use crate::folder::Folder;
+use crate::output::{Output, Unwritten};
+use crate::parts;
+use crate::status::Status;
+use clap::Args;
+use rewrites::{Refusal, PART_WORDS, TABLE_WORDS};
+use serde::Serialize;
+use std::ffi::OsString;
+use std::os::unix::ffi::OsStrExt;
+use std::path::PathBuf;
+
+#[derive(Args)]
+pub struct Arguments {
+    /// A folder with a program in the file `given` and a condition in `condition`
+    #[arg(value_name = "DIR")]
+    folder: PathBuf,
+    /// Take this condition, and not the folder's
+    #[arg(long, value_name = "TEXT")]
+    condition: Option<OsString>,
+    /// Print a JSON object on a line
+    #[arg(long)]
+    json: bool,
+}
+
+#[derive(Serialize)]
+struct Answer {
+    condition: String,
+    /// The number of the program's statements.
+    statements: usize,
+    parts: u32,
+    satisfied: u32,
+    first: u32,
+    table: Vec<Row>,
+}
+
+/// A part, and the statements at which it is true.
+#[derive(Serialize)]
+struct Row {
+    part: usize,
+    text: String,
+    satisfied: usize,
+    statements: Vec<usize>,
+}
+
+/// The statements that are set in the words of one part.
+fn statements(words: &[u64]) -> Vec<usize> {
+    let is_set = |at: &usize| words[at / 64] >> (at % 64) & 1 == 1;
+    (0..64 * words.len()).filter(is_set).map(|at| at + 1).collect()
+}
+
+/// Statements as runs of such that follow each other: `1-2 4-8`.
+fn ranges(statements: &[usize]) -> String {
+    let mut runs: Vec<(usize, usize)> = Vec::new();
+    for &statement in statements {
+        match runs.last_mut() {
+            Some((_, last)) if *last + 1 == statement => *last = statement,
+            _ => runs.push((statement, statement)),
+        }
+    }
+    let run = |&(first, last): &(usize, usize)| {
+        if first == last {
+            first.to_string()
+        } else {
+            format!("{first}-{last}")
+        }
+    };
+    runs.iter().map(run).collect::<Vec<String>>().join(" ")
+}
+
+impl Answer {
+    fn text(&self) -> String {
+        let mut text = String::new();
+        for Row { part, text: spelled, satisfied, statements } in &self.table {
+            text += &format!("{part:2}  {spelled}: {satisfied} of {}", self.statements);
+            if !statements.is_empty() {
+                text += &format!(": {}", ranges(statements));
+            }
+            text.push('\n');
+        }
+        let Answer { parts, satisfied, first, .. } = self;
+        text + &format!("parts {parts} satisfied {satisfied} first {first}\n")
+    }
+}
+
+impl Arguments {
+    /// The condition: the option's, or the file's without a byte 10 at its end.
+    fn condition(&self, folder: &mut Folder) -> Option<Text> {
+        match &self.condition {
+            Some(text) => {
+                Some(Text { name: "--condition".to_string(), bytes: text.as_bytes().to_vec() })
+            }
+            None => folder.read("condition").map(|mut text| {
+                if text.bytes.ends_with(b"\n") {
+                    text.bytes.pop();
+                }
+                text
+            }),
+        }
+    }
+
+    fn tabulate(&self, folder: &mut Folder) -> Option<Answer> {
+        folder.is_there("a program in `given` and a condition in `condition`")?;
+        let given = folder.read("given")?;
+        let condition = self.condition(folder)?;
+        let mut table = [0; TABLE_WORDS];
+        match rewrites::tabulate(&given.bytes, &condition.bytes, &mut table) {
+            Ok(answer) => {
+                let texts = parts::texts(&condition.bytes);
+                let rows = texts.into_iter().zip(table.chunks(PART_WORDS)).enumerate();
+                let table = rows.map(|(k, (text, words))| {
+                    let statements = statements(words);
+                    Row {
+                        part: k + 1,
+                        text: String::from_utf8_lossy(text).into_owned(),
+                        satisfied: statements.len(),
+                        statements,
+                    }
+                });
+                Some(Answer {
+                    condition: String::from_utf8_lossy(&condition.bytes).into_owned(),
+                    statements: lines(&given.bytes).count(),
+                    parts: answer.parts,
+                    satisfied: answer.satisfied,
+                    first: answer.first,
+                    table: table.collect(),
+                })
+            }
+            Err(refusal) => {
+                let is_of_condition = matches!(
+                    refusal,
+                    Refusal::ConditionLength
+                        | Refusal::ConditionMisspelled
+                        | Refusal::ConditionParts
+                );
+                let text = if is_of_condition { &condition } else { &given };
+                folder.refuse(Fault::refused(refusal, text));
+                None
+            }
+        }
+    }
+
+    pub fn run(&self, output: &mut Output) -> Result<Status, Unwritten> {
+        let mut folder = Folder::new(&self.folder);
+        let answer = self.tabulate(&mut folder);
+        folder.say(output);
+        if self.json {
+            output.print_json(&folder.report("tabulate", answer))?;
+        } else if let Some(answer) = answer {
+            output.print(answer.text().as_bytes())?;
+        }
+        Ok(folder.status)
+    }
+}

@@ -1,0 +1,118 @@
+"""Reads lines of JSON that the command prints, holds them to the names that docs/REFERENCE.md has, and
+tells each object again, from its numbers and texts alone, as the programs would. A NUL ends each."""
+
+import json
+import pathlib
+import sys
+
+VERDICTS = {"accepted": 0, "missing": 11, "repeated": 12, "unfit": 13, "unmet": 14}
+FAULT = {"refusal", "file", "line", "whose", "words", "expected", "found"}
+REPORT = {"call", "folder", "status", "faults"}
+TOTAL = {"call", "status", "folders", "results", "refused", "unread", "marks", "accepted", "counts"}
+CHECK = {"marks", "accepted", "bytes", "counts", "verdicts", "program"}
+MARK = {"line", "mark", "statement", "verdict", "name", "words", "condition"}
+TABULATE = {"condition", "statements", "parts", "satisfied", "first", "table"}
+ROW = {"part", "text", "satisfied", "statements"}
+START = {"input", "budget", "values", "outcome"}
+ENDED = START | {"value", "steps"}
+SPENT = START | {"statement", "left"}
+
+
+def has(thing, names):
+    assert set(thing) == names, (sorted(thing), sorted(names))
+
+
+def whole(number):
+    return type(number) is int
+
+
+def total(thing):
+    has(thing, TOTAL)
+    has(thing["counts"], set(VERDICTS))
+    assert thing["folders"] == thing["results"] + thing["refused"] + thing["unread"]
+    assert thing["marks"] == sum(thing["counts"].values())
+    assert thing["accepted"] == thing["counts"]["accepted"]
+    return "total {folders} {results} {refused} {unread} {marks} {accepted} status {status}\n".format(**thing)
+
+
+def check(thing):
+    has(thing, REPORT | CHECK)
+    has(thing["counts"], set(VERDICTS))
+    text = "marks {marks} accepted {accepted}\n".format(**thing)
+    for at, mark in enumerate(thing["verdicts"]):
+        has(mark, MARK)
+        assert mark["line"] == at + 1
+        assert mark["verdict"] == VERDICTS[mark["name"]]
+        assert mark["mark"].startswith("%d: mark(" % mark["statement"])
+        assert (mark["words"] == "accepted") == (mark["verdict"] == 0)
+        text += "{statement} {verdict}\n".format(**mark)
+    for name in VERDICTS:
+        assert thing["counts"][name] == sum(mark["name"] == name for mark in thing["verdicts"])
+    assert thing["marks"] == len(thing["verdicts"])
+    assert thing["accepted"] == thing["counts"]["accepted"]
+    assert thing["bytes"] == len(thing["program"].encode())
+    return text + thing["program"]
+
+
+def tabulate(thing):
+    has(thing, REPORT | TABULATE)
+    text = ""
+    for at, row in enumerate(thing["table"]):
+        has(row, ROW)
+        assert row["part"] == at + 1
+        assert row["satisfied"] == len(row["statements"])
+        assert all(1 <= number <= thing["statements"] for number in row["statements"])
+        text += "{part} {text} {statements}\n".format(**row)
+    assert thing["parts"] == len(thing["table"])
+    assert thing["table"][-1]["text"] == thing["condition"]
+    assert thing["satisfied"] == thing["table"][-1]["satisfied"]
+    assert thing["first"] == (thing["table"][-1]["statements"] + [0])[0]
+    return text + "parts {parts} satisfied {satisfied} first {first}\n".format(**thing)
+
+
+def run(thing):
+    assert len(thing["values"]) == 32 and all(map(whole, thing["values"]))
+    if thing["outcome"] == "ended":
+        has(thing, REPORT | ENDED)
+        return "ended {value} steps {steps}\n".format(**thing)
+    has(thing, REPORT | SPENT)
+    assert thing["outcome"] == "spent" and len(thing["left"]) == 32
+    lines = ["i%d = %d\n" % (x, value) for x, value in enumerate(thing["left"])]
+    return "spent at {statement}\n".format(**thing) + "".join(lines)
+
+
+def faults(thing):
+    """The refusal, `refused start`, or nothing where a file wasn't read."""
+    text = ""
+    for fault in thing["faults"]:
+        has(fault, FAULT)
+        assert fault["file"] and fault["whose"] and fault["words"] and fault["expected"]
+        assert fault["line"] is None or whole(fault["line"])
+        if fault["refusal"] is not None:
+            text = "refused %d\n" % fault["refusal"]
+        elif fault["whose"] == "the start":
+            text = "refused start\n"
+    return text
+
+
+def told(thing):
+    assert thing["status"] in (0, 1, 2)
+    if "folder" not in thing:
+        return total(thing)
+    assert (thing["status"] == 0) == (thing["faults"] == [])
+    refused = faults(thing)
+    if set(thing) == REPORT:
+        assert thing["status"] != 0
+        return refused
+    assert refused == ""
+    return {"check": check, "tabulate": tabulate, "run": run}[thing["call"]](thing)
+
+
+described = pathlib.Path(__file__).parents[2].joinpath("docs/REFERENCE.md").read_text()
+for names in (VERDICTS, FAULT, REPORT, TOTAL, CHECK, MARK, TABULATE, ROW, ENDED, SPENT):
+    for name in names:
+        assert "`%s`" % name in described, name
+
+for line in sys.stdin.buffer:
+    assert line.endswith(b"\n")
+    sys.stdout.write(told(json.loads(line)) + "\0")

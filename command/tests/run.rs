@@ -1,0 +1,162 @@
+//! `rewrites run` on random folders, held to the second implementation: its text, and its JSON as
+//! Python reads it; and what the options put in place of a start.
+//!
+//! `DIFFERENTIAL_SEED` and `COMMAND_CASES` choose other cases, and how many there are.
+
+#[path = "../../host/tests/common/mod.rs"]
+mod common;
+#[path = "../../host/tests/coverage/mod.rs"]
+mod coverage;
+mod shell;
+
+use common::option;
+use coverage::Tally;
+use oracle::check::LARGEST_FILE;
+use oracle::generate::{self, Random};
+use oracle::{desk, folder as random_folder};
+use shell::{example, folder, printed, run_in, said, status, told_again};
+
+const CASES: u64 = 1_000;
+
+fn random(case: u64) -> Random {
+    Random::new(Random::new(option("DIFFERENTIAL_SEED", 1) ^ 34).bits() ^ case)
+}
+
+#[test]
+fn runs_are_as_by_the_oracle() {
+    let classes = ["ended", "spent", "start", "2", "3", "4", "5", "15"];
+    let mut met = Tally::new("runs", classes);
+    let (mut json, mut texts) = (Vec::new(), Vec::new());
+    for case in 0..option("COMMAND_CASES", CASES) {
+        let random = &mut random(case);
+        let ((_, given), start) = (random_folder::given(random), random_folder::start(random));
+        let base = folder("run", &[("given", &given), ("start", &start)]);
+        let output = run_in(&base, &["run", "."]);
+        json.extend(run_in(&base, &["run", ".", "--json"]).stdout);
+        if given.len().max(start.len()) > LARGEST_FILE {
+            assert_eq!((status(&output), printed(&output).as_str()), (2, ""), "case {case}");
+            texts.push(String::new());
+            continue;
+        }
+        let expected = desk::run(&given, &start, false);
+        match expected.strip_prefix("refused ").and_then(|rest| rest.split_once('\n')) {
+            Some((number, _)) => {
+                assert_eq!((status(&output), printed(&output).as_str()), (1, ""), "case {case}");
+                let author = match number {
+                    "start" => "./start",
+                    "15" => "./start:2: the host program: budget over 1,000,000",
+                    _ => "the author of the shift program",
+                };
+                assert!(said(&output).contains(author), "case {case}: {}", said(&output));
+                texts.push(format!("refused {number}\n"));
+                met.met(classes.into_iter().find(|&class| class == number).unwrap_or("?"));
+            }
+            None => {
+                assert_eq!(printed(&output), expected, "case {case}");
+                assert_eq!((status(&output), said(&output).as_str()), (0, ""), "case {case}");
+                met.met(if expected.starts_with("ended") { "ended" } else { "spent" });
+                texts.push(expected);
+            }
+        }
+    }
+    assert_eq!(told_again(&json), texts);
+    met.report();
+}
+
+/// Options stand in place of the start's numbers, and of a start that isn't there.
+#[test]
+fn options_replace_the_start() {
+    for case in 0..300 {
+        let random = &mut random(1_000_000 + case);
+        let size = generate::size(random);
+        let given = generate::program(random, size).text();
+        let mut numbers: Vec<i64> = vec![0, 1_000_000];
+        numbers.resize(34, 0);
+        let has_start = random.chance(50);
+        if has_start {
+            numbers[0] = i64::from(generate::word(random) as i32);
+            numbers[1] = random.below(300) as i64;
+            for value in &mut numbers[2..] {
+                *value = i64::from(generate::word(random) as i32);
+            }
+        }
+        let spelled = |numbers: &[i64]| -> Vec<u8> {
+            numbers.iter().flat_map(|number| format!("{number}\n").into_bytes()).collect()
+        };
+        let start = spelled(&numbers);
+        let files = [("given", &given[..]), ("start", &start[..])];
+        let base = folder("options", if has_start { &files } else { &files[..1] });
+        let mut words: Vec<String> = vec!["run".into(), ".".into()];
+        if !has_start || random.chance(50) {
+            numbers[0] = i64::from(generate::word(random) as i32);
+            words.extend(["--input".to_string(), numbers[0].to_string()]);
+        }
+        if random.chance(50) {
+            numbers[1] = random.below(300) as i64;
+            words.push(format!("--budget={}", numbers[1]));
+        }
+        for _ in 0..random.below(4) {
+            let (x, value) = (random.below(32), i64::from(generate::word(random) as i32));
+            numbers[2 + x] = value;
+            words.extend(["--set".to_string(), format!("i{x}={value}")]);
+        }
+        let output = run_in(&base, &words);
+        assert_eq!(printed(&output), desk::run(&given, &spelled(&numbers), false), "{words:?}");
+        assert_eq!((status(&output), said(&output).as_str()), (0, ""), "{words:?}");
+    }
+}
+
+#[test]
+fn runs_of_an_example() {
+    let p = example("p");
+    for (words, expected) in [
+        (&["run", "."][..], "ended 9 steps 12\n"),
+        (&["run", ".", "--input", "0"], "ended 7 steps 6\n"),
+        (&["run", "--input=-1", "--budget", "11", ".", "--json"], "\"outcome\":\"spent\""),
+        (&["run", ".", "--budget", "11"], "spent at 8\n"),
+    ] {
+        assert!(printed(&run_in(&p, words)).contains(expected), "{words:?}");
+    }
+}
+
+/// Without a start the input must be given, and what the start would have is told.
+#[test]
+fn refused_starts_in_words() {
+    let lines = "the input, the budget and up to 32 values, one a line";
+    let number =
+        "the start: not such a number, or without its byte 10; expected a whole number from";
+    let value = format!("{number} -2147483648 to 2147483647, and byte 10");
+    let budget = format!("{number} 0 to 2147483647, and byte 10");
+    for (start, expected) in [
+        ("", format!(": the start: under 2 lines; expected {lines}")),
+        (&"1\n".repeat(35), format!(": the start: over 34 lines; expected {lines}")),
+        ("1\n-1\n", format!(":2: {budget}, found `-1`")),
+        ("1\n2\n3", format!(":3: {value}, found `3`")),
+        ("01\n2\n", format!(":1: {value}, found `01`")),
+        (
+            "1\n1000001\n",
+            ":2: the host program: budget over 1,000,000; expected at most 1,000,000, found `1000001`".into(),
+        ),
+    ] {
+        let base = folder(
+            "starts",
+            &[("given", b"read i0\nwrite i0\n"), ("start", start.as_bytes())],
+        );
+        let output = run_in(&base, &["run", "."]);
+        assert_eq!(said(&output), format!("./start{expected}\n"));
+        assert_eq!((status(&output), printed(&output).as_str()), (1, ""));
+    }
+    let base = folder("starts", &[("given", b"read i0\nwrite i0\n")]);
+    let output = run_in(&base, &["run", "."]);
+    let missing = "./start: the caller: can't be read: No such file or directory; \
+                   expected a file of at most 65,535 bytes\n";
+    assert_eq!((status(&output), said(&output).as_str()), (2, missing));
+    let output = run_in(&base, &["run", ".", "--input", "3"]);
+    assert_eq!((status(&output), printed(&output).as_str()), (0, "ended 3 steps 2\n"));
+    let over = "--budget: the host program: budget over 1,000,000; expected at most 1,000,000, \
+                found `1000001`\n";
+    for base in [base, example("p")] {
+        let output = run_in(&base, &["run", ".", "--input", "3", "--budget", "1000001"]);
+        assert_eq!((status(&output), said(&output).as_str()), (1, over));
+    }
+}

@@ -1,0 +1,98 @@
+//! Random contents of a folder's files: whole, damaged, too long or missing.
+
+use crate::check::LARGEST_FILE;
+use crate::generate::{self, Random};
+use crate::marks;
+use crate::program::Program;
+
+/// A line again and again, until there are so many bytes.
+fn long(line: &str, bytes: usize) -> Vec<u8> {
+    line.as_bytes().iter().copied().cycle().take(bytes).collect()
+}
+
+/// The contents of `given` and `marks`; `None`: there is no such file.
+pub fn checked(random: &mut Random) -> [Option<Vec<u8>>; 2] {
+    let size = generate::size(random);
+    let program = generate::program(random, size);
+    let count = match random.below(20) {
+        0 => random.between(250, 258),
+        _ => random.below(size + 4).min(60),
+    };
+    let (mut given, mut list) =
+        (program.text(), marks::text(&generate::marks(random, &program, count)));
+    match random.below(40) {
+        0..=4 => given = generate::damage(random, &given),
+        5 => given = generate::statement_soup(random),
+        6 => given = long("skip\n", LARGEST_FILE + random.below(5)),
+        7 => return [None, Some(list)],
+        8..=12 => list = generate::damage(random, &list),
+        13 => list = generate::mark_soup(random),
+        14 => list = long("2: mark(rm, i0, 1)\n", LARGEST_FILE + random.below(5)),
+        15 => return [Some(given), None],
+        _ => {}
+    }
+    [Some(given), Some(list)]
+}
+
+/// A program, and its text or one that is refused, 2 to 5.
+pub fn given(random: &mut Random) -> (Program, Vec<u8>) {
+    let size = generate::size(random);
+    let program = generate::program(random, size);
+    let whole = program.text();
+    let text = match random.below(24) {
+        0 | 1 => generate::damage(random, &whole),
+        2 => generate::statement_soup(random),
+        3 => b"read i0\n".repeat(random.pick(&[0, 1, 257])),
+        4 => [&whole[..], b"skip\n"].concat(),
+        5 => b"read i0\nskip\nif i0 goto 2 else 5\nwrite i0\n".to_vec(),
+        _ => whole,
+    };
+    (program, text)
+}
+
+/// A condition for a program, at times refused, 6 to 8.
+pub fn condition(random: &mut Random, given: &Program) -> Vec<u8> {
+    match random.below(12) {
+        0 => generate::condition_soup(random),
+        1 => generate::nested_condition(random),
+        2 => {
+            let length = random.between(1_000, 1_030);
+            generate::condition_of_length(random, given, length)
+        }
+        3 => {
+            let whole = generate::condition(random, given, 5);
+            generate::damage(random, &whole)
+        }
+        _ => {
+            let parts = random.between(1, 66);
+            generate::condition(random, given, parts)
+        }
+    }
+}
+
+/// The file of a condition, and what is read of it: one byte 10 at the file's end doesn't count.
+pub fn condition_file(random: &mut Random, condition: &[u8]) -> (Vec<u8>, Vec<u8>) {
+    let mut file = condition.to_vec();
+    let bare = condition.strip_suffix(b"\n").unwrap_or(condition);
+    if random.chance(50) && bare.len() == condition.len() {
+        file.push(10);
+    }
+    (file, bare.to_vec())
+}
+
+/// A start, at times damaged; budgets are small, so that traces are.
+pub fn start(random: &mut Random) -> Vec<u8> {
+    let budget = match random.below(20) {
+        0 => 0,
+        1 => 1_000_001,
+        _ => random.below(300),
+    };
+    let mut text = format!("{}\n{budget}\n", generate::word(random) as i32);
+    for _ in 0..random.pick(&[0, 0, 1, 5, 31, 32, 33]) {
+        text += &format!("{}\n", generate::word(random) as i32);
+    }
+    match random.below(10) {
+        0 => generate::damage(random, text.as_bytes()),
+        _ => text.into_bytes(),
+    }
+}
