@@ -45,7 +45,11 @@ pub fn blank_codes() -> [[u64; CODE_WORDS]; MOST]
 fn row_number(x: u8, uses: bool) -> usize
     ensures { λ r. ⌜ r ≡ rowNumber x uses ⌝ }
 {
-    if uses { 2 * (x as usize) + 1 } else { 2 * (x as usize) }
+    if uses {
+        2 * (x as usize) + 1
+    } else {
+        2 * (x as usize)
+    }
 }
 
 // The words of row k.
