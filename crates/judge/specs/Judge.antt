@@ -15,9 +15,9 @@ use Rattle.calls.specs.Refusals.{CallRefused}
 use Rattle.judge.specs.declared.JudgeAnswer.{JudgeAnswer}
 use Rattle.judge.specs.declared.JudgeAnswer.the-variants.{Refused, Finished}
 
--- "1: .. verdicts under 256 bytes or new text under 8,192 bytes"
+-- "1: .. verdicts under 256 bytes or new text under 8,192 bytes": as many marks and lines as there can be
 abbrev pub verdict-bytes : ℕ
-verdict-bytes = 256
+verdict-bytes = marks.most
 
 abbrev pub text-bytes : ℕ
 text-bytes = text-room

@@ -6,7 +6,7 @@ use calls::ROOM_NUMBER;
 use program::TEXT_ROOM;
 
 // The verdict bytes and the new text have at least this many bytes.
-pub const VERDICT_BYTES: usize = 256;
+pub const VERDICT_BYTES: usize = marks::MOST;
 
 pub const TEXT_BYTES: usize = TEXT_ROOM;
 

@@ -18,9 +18,9 @@ use Rattle.calls.specs.Refusals.{CallRefused}
 use Rattle.tabulate.specs.declared.TabulateAnswer.{TabulateAnswer}
 use Rattle.tabulate.specs.declared.TabulateAnswer.the-variants.{Refused, Filled}
 
--- "1: table under 256 words"
+-- "1: table under 256 words": as many parts as a condition can have
 abbrev pub table-words : ℕ
-table-words = 256
+table-words = condition.most-parts * part-words
 
 -- "Order: 1, .. then 2 to 5, then 6 to 8": the number of the first that applies
 abbrev pub TabulateRefused : List ℕ → List ℕ → List ℕ → ℕ → Type 0

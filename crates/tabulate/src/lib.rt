@@ -1,9 +1,11 @@
 // A call: the table of a condition's parts over a program. It takes any bytes, and has no `requires`.
 ghost use Rattle.tabulate.specs.Tabulate.{TabulateAnswers};
 use calls::ROOM_NUMBER;
+use condition::MOST_PARTS;
+use table::WORDS;
 
 // The table of a condition's parts has this many words.
-pub const TABLE_WORDS: usize = 256;
+pub const TABLE_WORDS: usize = MOST_PARTS * WORDS;
 
 // Refused: document 01's number. Filled: the parts, how many statements satisfy the whole condition, and the first of them or 0.
 pub enum TabulateAnswer {
