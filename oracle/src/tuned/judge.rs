@@ -5,7 +5,7 @@ use super::read::{List, Program};
 use super::tabulate::Rows;
 use crate::condition::Direction;
 use crate::marks::{Kind, Mark, TEXT_BYTES, VERDICT_BYTES};
-use crate::program::{Expression, Operand, Operator, Statement};
+use crate::program::{Expression, Operand, Operator, Statement, LARGEST};
 
 /// What verdicts are found from.
 struct Judge {
@@ -171,6 +171,10 @@ impl Writer<'_> {
     fn operand(&mut self, operand: Operand) {
         match operand {
             Operand::Variable(x) => self.variable(x),
+            Operand::Constant(c) if c > LARGEST => {
+                self.word(b"-");
+                self.number(c.wrapping_neg());
+            }
             Operand::Constant(c) => self.number(c),
         }
     }

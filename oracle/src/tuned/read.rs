@@ -1,7 +1,7 @@
 //! Readers of the one spelling of each thing.
 
 use crate::marks::{Kind, Mark, MOST_MARKS};
-use crate::program::{Expression, Operand, Operator, Statement, LARGEST, MOST_LINES};
+use crate::program::{Expression, Operand, Operator, Statement, LARGEST, LEAST, MOST_LINES};
 
 pub struct Cursor<'a> {
     text: &'a [u8],
@@ -53,19 +53,41 @@ impl<'a> Cursor<'a> {
     }
 
     pub fn number(&mut self) -> Option<u32> {
-        let mut value = u64::from(self.digit()?);
+        let first = self.digit()?;
+        self.digits(first, LARGEST)
+    }
+
+    /// The number whose first digit stands next, up to `most`.
+    #[inline(always)]
+    fn digits(&mut self, first: u32, most: u32) -> Option<u32> {
+        let mut value = u64::from(first);
         self.pass();
         if value == 0 {
             return Some(0);
         }
         while let Some(digit) = self.digit() {
             value = 10 * value + u64::from(digit);
-            if value > u64::from(LARGEST) {
+            if value > u64::from(most) {
                 return None;
             }
             self.pass();
         }
         Some(value as u32)
+    }
+
+    /// A constant's bits. The sign is looked for only where no digit stands.
+    fn constant(&mut self) -> Option<u32> {
+        match self.digit() {
+            Some(first) => self.digits(first, LARGEST),
+            None => self.negative(),
+        }
+    }
+
+    #[cold]
+    fn negative(&mut self) -> Option<u32> {
+        self.byte(b'-')?;
+        let first = self.digit().filter(|&first| first != 0)?;
+        self.digits(first, LEAST).map(u32::wrapping_neg)
     }
 
     pub fn variable(&mut self) -> Option<u8> {
@@ -85,7 +107,7 @@ impl<'a> Cursor<'a> {
         if self.peek() == b'i' {
             self.variable().map(Operand::Variable)
         } else {
-            self.number().map(Operand::Constant)
+            self.constant().map(Operand::Constant)
         }
     }
 
