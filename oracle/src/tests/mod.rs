@@ -1,5 +1,6 @@
 //! Cases from the defining documents, decided open points, and random cross tests.
 
+mod constants;
 mod document;
 mod generated;
 mod naive;
