@@ -53,14 +53,12 @@ impl<'a> Cursor<'a> {
     }
 
     pub fn number(&mut self) -> Option<u32> {
-        let first = self.digit()?;
-        self.digits(first, LARGEST)
+        self.number_up_to(LARGEST)
     }
 
-    /// The number whose first digit stands next, up to `most`.
     #[inline(always)]
-    fn digits(&mut self, first: u32, most: u32) -> Option<u32> {
-        let mut value = u64::from(first);
+    fn number_up_to(&mut self, most: u32) -> Option<u32> {
+        let mut value = u64::from(self.digit()?);
         self.pass();
         if value == 0 {
             return Some(0);
@@ -75,19 +73,11 @@ impl<'a> Cursor<'a> {
         Some(value as u32)
     }
 
-    /// A constant's bits. The sign is looked for only where no digit stands.
-    fn constant(&mut self) -> Option<u32> {
-        match self.digit() {
-            Some(first) => self.digits(first, LARGEST),
-            None => self.negative(),
-        }
-    }
-
+    /// A constant below zero, as its bits. It is tried only where no digit stands.
     #[cold]
     fn negative(&mut self) -> Option<u32> {
         self.byte(b'-')?;
-        let first = self.digit().filter(|&first| first != 0)?;
-        self.digits(first, LEAST).map(u32::wrapping_neg)
+        self.number_up_to(LEAST).filter(|&number| number != 0).map(u32::wrapping_neg)
     }
 
     pub fn variable(&mut self) -> Option<u8> {
@@ -107,7 +97,7 @@ impl<'a> Cursor<'a> {
         if self.peek() == b'i' {
             self.variable().map(Operand::Variable)
         } else {
-            self.constant().map(Operand::Constant)
+            self.number().or_else(|| self.negative()).map(Operand::Constant)
         }
     }
 
