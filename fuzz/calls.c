@@ -4,6 +4,8 @@
    - a refused call changes nothing, and a finished one only what its result sets;
    - no byte beyond a lent text or buffer is touched: each ends at a page that can't be;
    - a program is misspelled exactly where a line of it is, and is written as it was read;
+   - a sign stands before no zero, and the line without it is a statement too, but for the least
+     constant's;
    - a run that is spent goes on, and one that has ended stays so;
    - `!` in front of a condition complements its row and keeps the others;
    - a mark's verdict is that of its published condition's table;
@@ -28,7 +30,7 @@
 #define PAGE 4096
 #define TABLE_WORDS 256
 #define VERDICT_BYTES 256
-#define TEXT_BYTES 8192
+#define TEXT_BYTES 8704
 
 static const char P[] =
     "read i0\ni1 := i0\ni2 := 7\ni3 := i1 + i2\n"
@@ -200,6 +202,28 @@ static int is_statement(struct text line) {
     return number != 2;
 }
 
+/* Each sign of a line that is a statement. The operator has a space behind it. */
+static void check_signs(struct text line) {
+    static const char least[] = "-2147483648";
+    uint8_t bare[64];
+
+    REQUIRE(line.length <= sizeof bare);
+    for (size_t k = 0; k + 1 < line.length; k++) {
+        size_t left = line.length - k, digits = 1;
+        int is_least;
+
+        if (line.bytes[k] != '-' || line.bytes[k + 1] == ' ') continue;
+        REQUIRE(line.bytes[k + 1] >= '1' && line.bytes[k + 1] <= '9');
+        REQUIRE(k > 0 && line.bytes[k - 1] == ' ');
+        while (digits < left && line.bytes[k + digits] != ' ') digits++;
+        is_least = digits == strlen(least) && memcmp(line.bytes + k, least, digits) == 0;
+        memcpy(bare, line.bytes, k);
+        memcpy(bare + k, line.bytes + k + 1, left - 1);
+        REQUIRE(is_statement((struct text){bare, line.length - 1}) == !is_least);
+        met(OF_CALLS, 1000 + is_least);
+    }
+}
+
 /* The number by which a program is refused, or 0. */
 static uint8_t check_program(struct text program) {
     static const uint32_t values[32];
@@ -215,7 +239,10 @@ static uint8_t check_program(struct text program) {
         if (program.bytes[k] == 10) {
             if (k - start > 40) break;
             spelled = is_statement((struct text){program.bytes + start, k - start});
-            if (spelled) met_text(OF_PROGRAMS, program.bytes + start, k - start);
+            if (spelled) {
+                check_signs((struct text){program.bytes + start, k - start});
+                met_text(OF_PROGRAMS, program.bytes + start, k - start);
+            }
             start = k + 1;
         }
     if (!spelled) REQUIRE(number == 2);
@@ -396,6 +423,7 @@ static void check_marks(struct text program, struct text marks, uint8_t refused,
 
     REQUIRE(judge(program, marks, VERDICT_BYTES - 1, TEXT_BYTES, &other) == 1);
     REQUIRE(judge(program, marks, VERDICT_BYTES, TEXT_BYTES - 1, &other) == 1);
+    REQUIRE(judge(program, marks, VERDICT_BYTES, 8192, &other) == 1);
     met(OF_CALLS, 32 + number);
     if (refused != 0) {
         REQUIRE(number == refused);

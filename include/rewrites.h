@@ -90,7 +90,7 @@ uint8_t rewrites_tabulate(const uint8_t *program, size_t program_len, const uint
    *bytes      the number of bytes of new text.
 
    Returns the number of a refusal, and keeps all:
-    1: verdicts has under 256 bytes or text under 8,192 bytes.
+    1: verdicts has under 256 bytes or text under 8,704 bytes.
     2 to 5: the program, as with rewrites_run.
     9: some line of the marks is misspelled, or the last is without its byte 10.
    10: the marks have over 256 lines. */

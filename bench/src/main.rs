@@ -111,10 +111,35 @@ fn good_text(lines: usize) -> Vec<u8> {
         "skip",
         "i3 := 2147483647 < i31",
     ];
-    let mut text_lines: Vec<&str> = INNER.iter().copied().cycle().take(lines).collect();
+    repeated(&INNER, lines)
+}
+
+/// The same with constants below zero.
+fn signed_text(lines: usize) -> Vec<u8> {
+    const INNER: [&str; 5] = [
+        "i1 := i0",
+        "i12 := i1 + -123456",
+        "if i12 goto 2 else 15",
+        "skip",
+        "i3 := -214748364 < i31",
+    ];
+    repeated(&INNER, lines)
+}
+
+/// The inner lines in turn, so many with the first and the last.
+fn repeated(inner: &[&str], lines: usize) -> Vec<u8> {
+    let mut text_lines: Vec<&str> = inner.iter().copied().cycle().take(lines).collect();
     text_lines[0] = "read i0";
     text_lines[lines - 1] = "write i3";
     text(&text_lines)
+}
+
+/// A text of 256 lines, all but the first and the last with this one statement.
+fn longest_text(statement: &str) -> Vec<u8> {
+    let mut lines = vec![statement; 256];
+    lines[0] = "read i31";
+    lines[255] = "write i31";
+    text(&lines)
 }
 
 fn print_reading(worst: &mut Worst) {
@@ -122,8 +147,9 @@ fn print_reading(worst: &mut Worst) {
         "Reading (run under budget 0; over 256 lines are refused after all are read), in microseconds",
         "    ns/byte",
     );
-    for lines in [16, 64, 256, 1_000, 4_000, 16_000] {
-        let program = good_text(lines);
+    let unsigned = [16, 64, 256, 1_000, 4_000, 16_000].map(|lines| (lines, "", good_text(lines)));
+    let signed = [16, 64, 256].map(|lines| (lines, ", constants below zero", signed_text(lines)));
+    for (lines, kind, program) in unsigned.into_iter().chain(signed) {
         let values = [0; 32];
         let times = medians(
             TIMES,
@@ -132,7 +158,7 @@ fn print_reading(worst: &mut Worst) {
             }],
         );
         let each = format!("{:>11.2}", times[0] * 1e9 / program.len() as f64);
-        let name = format!("{} lines, {} bytes", lines, program.len());
+        let name = format!("{} lines, {} bytes{}", lines, program.len(), kind);
         let ratio = print_line(&name, times, &each);
         worst.meet(lines <= 256, ratio, format!("reading {}", name));
     }
@@ -140,12 +166,12 @@ fn print_reading(worst: &mut Worst) {
 
 fn print_writing(worst: &mut Worst) {
     print_heading("Reading and writing (judge without marks), in microseconds", "    ns/byte");
-    let mut longest = vec!["i31 := 2147483647 + 2147483647"; 256];
-    longest[0] = "read i31";
-    longest[255] = "write i31";
-    let mut programs: Vec<Vec<u8>> = [16, 64, 256].map(good_text).to_vec();
-    programs.push(text(&longest));
-    for program in programs {
+    let mut programs: Vec<(&str, Vec<u8>)> =
+        [16, 64, 256].map(|lines| ("", good_text(lines))).to_vec();
+    programs.push(("", longest_text("i31 := 2147483647 + 2147483647")));
+    programs.push((", constants below zero", signed_text(256)));
+    programs.push((", the longest", longest_text("i31 := -2147483648 + -2147483648")));
+    for (kind, program) in programs {
         let (mut verdicts, mut new) = ([0; VERDICT_BYTES], [0; TEXT_BYTES]);
         let (mut verdicts_2, mut new_2) = (verdicts, new);
         let times = medians(
@@ -157,7 +183,7 @@ fn print_writing(worst: &mut Worst) {
         assert!(new == new_2);
         let each = format!("{:>11.2}", times[0] * 1e9 / program.len() as f64);
         let lines = program.iter().filter(|&&byte| byte == 10).count();
-        let name = format!("{} lines, {} bytes", lines, program.len());
+        let name = format!("{} lines, {} bytes{}", lines, program.len(), kind);
         let ratio = print_line(&name, times, &each);
         worst.meet(true, ratio, format!("reading and writing {}", name));
     }

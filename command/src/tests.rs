@@ -57,7 +57,7 @@ fn lines_of_misspelled_programs_of_any_length_are_found() {
 #[test]
 fn lines_of_marks_are_the_first_misspelled() {
     let (mut met, mut whole) = (0, 0);
-    for mut random in cases(3_000) {
+    for mut random in cases(4_000) {
         let program = generate::program(&mut random, 12);
         let count = random.between(1, 20);
         let list = oracle::marks::text(&generate::marks(&mut random, &program, count));
@@ -167,6 +167,7 @@ fn options_are_spelled_as_lines_of_a_start() {
     assert_eq!(start::budget("0"), Ok(0));
     assert_eq!(start::budget("2147483647"), Ok(2_147_483_647));
     assert_eq!(start::setting("i13=40"), Ok((13, 40)));
+    assert_eq!(start::setting("i13=-40"), Ok((13, -40)));
     assert_eq!(start::setting("i0=-1"), Ok((0, -1)));
     for wrong in ["", "-", "-0", "00", "+1", " 1", "1 ", "2147483648", "-2147483649", "1e3", "٣"] {
         assert!(start::value(wrong).is_err(), "{wrong}");

@@ -195,6 +195,43 @@ total: folders 1; marks 5, accepted 1, no such statement 1, named before 1, does
     }
 }
 
+/// Marks with constants below zero: the text, the explanations and the program that is written.
+#[test]
+fn constants_below_zero() {
+    let read = |file: &str| fs::read(example("offset").join(file)).expect("a file is read");
+    let base = folder("below", &[("given", &read("given")), ("marks", &read("marks"))]);
+    let expected = read("expected");
+    let output = run_in(&base, &["check", "--text", ".", "-o", "new"]);
+    assert_eq!((status(&output), &output.stdout), (0, &expected));
+    let program: Vec<&str> = std::str::from_utf8(&expected).unwrap().lines().skip(12).collect();
+    let new = fs::read_to_string(base.join("new")).expect("a file is read");
+    assert_eq!(new, program.join("\n") + "\n");
+    let explained = printed(&run_in(&base, &["check", "--explain", "."]));
+    for words in [
+        "  line 1: 5: mark(rpl, i4, -40): accepted\n    \
+         condition AY A[((!def(i4) & trans(-40)) & !entry) B stmt(i4 := -40)]\n",
+        "  line 3: 7: mark(rpl, i5, -15): condition false at 7\n    \
+         condition AY A[((!def(i5) & trans(-15)) & !entry) B stmt(i5 := -15)]\n",
+        "  line 4: 3: mark(rm, i5, -15): doesn't fit: statement 3 is `i5 := 0 - 15`\n    \
+         condition !EX E[!def(i5) U use(i5)]\n",
+    ] {
+        assert!(explained.contains(words), "{explained}");
+    }
+}
+
+#[test]
+fn the_longest_report() {
+    let longest = "i31 := -2147483648 + -2147483648\n".repeat(254);
+    let given = format!("read i31\n{longest}write i31\n").into_bytes();
+    let marks = "2147483647: mark(rm, i31, -2147483648 + -2147483648)\n".repeat(256).into_bytes();
+    let base = folder("longest", &[("given", &given), ("marks", &marks)]);
+    let output = run_in(&base, &["check", "--text", "."]);
+    assert_eq!((status(&output), output.stdout.len()), (0, 12_006));
+    assert!(output.stdout == check::check(&given, &marks));
+    let output = run_in(&base, &["check", ".", "--json"]);
+    assert!(told_again(&output.stdout)[0].as_bytes() == check::check(&given, &marks));
+}
+
 /// Each refusal names its file and line, whose mistake it is, what was expected and what was found.
 #[test]
 fn refusals_in_words() {
@@ -219,6 +256,12 @@ fn refusals_in_words() {
         ("read i0\nwrite i0", "", format!("given:2: {misspelled}, found `write i0`")),
         ("read i0\n\nwrite i0\n", "", format!("given:2: {misspelled}, found ``")),
         (&long_line, "", format!("given:2: {misspelled}, found `{}..`", "\\xc3\\xa9".repeat(40))),
+        ("read i0\ni1 := -0\nwrite i1\n", "", format!("given:2: {misspelled}, found `i1 := -0`")),
+        (
+            "read i0\ni1 := -1\nif i1 goto -2 else 3\nwrite i1\n",
+            "",
+            format!("given:3: {misspelled}, found `if i1 goto -2 else 3`"),
+        ),
         ("", "", format!("given: {few}, found 0 lines")),
         (&"skip\n".repeat(1_000), "", format!("given: {few}, found 1,000 lines")),
         ("read i0\nskip\n", "", format!("given:2: {misplaced}, found `skip`")),
@@ -234,6 +277,16 @@ fn refusals_in_words() {
         ),
         (good, "2: mark(rm, i0, 1)\n2: mark(rm, i0)\n", format!("marks:2: {of_mark}, found `2: mark(rm, i0)`")),
         (good, "2: mark(rm, i0, 1)", format!("marks:1: {of_mark}, found `2: mark(rm, i0, 1)`")),
+        (
+            good,
+            "2: mark(rpl, i0, -1)\n2: mark(rpl, i0, --1)\n",
+            format!("marks:2: {of_mark}, found `2: mark(rpl, i0, --1)`"),
+        ),
+        (
+            good,
+            "2: mark(rm, i0, -2147483648)\n-2: mark(rm, i0, 1)\n",
+            format!("marks:2: {of_mark}, found `-2: mark(rm, i0, 1)`"),
+        ),
         (
             good,
             &many_marks,

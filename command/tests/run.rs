@@ -119,6 +119,28 @@ fn runs_of_an_example() {
     }
 }
 
+/// Numbers below zero, in the program and in options.
+#[test]
+fn runs_below_zero() {
+    let offset = example("offset");
+    for (words, expected) in [
+        (&["run", "."][..], "ended -25 steps 12\n"),
+        (&["run", ".", "--input", "-5"], "ended -25 steps 12\n"),
+        (&["run", ".", "--input=-5", "--set=i2=-10"], "ended -25 steps 11\n"),
+        (&["run", ".", "--input", "90", "--set", "i2=-10"], "ended 50 steps 10\n"),
+        (&["run", ".", "--input", "90", "--set", "i2=-11"], "ended 35 steps 11\n"),
+        (&["run", ".", "--input=-2147483648", "--budget=5"], "i3 = 2147483608\n"),
+        (&["run", ".", "--json"], "\"outcome\":\"ended\",\"value\":-25,\"steps\":12"),
+    ] {
+        let output = run_in(&offset, words);
+        assert!(printed(&output).contains(expected), "{words:?}: {}", printed(&output));
+        assert_eq!((status(&output), said(&output).as_str()), (0, ""), "{words:?}");
+    }
+    let base = folder("below", &[("given", b"read i0\ni1 := i0 - i13\nwrite i1\n")]);
+    let output = run_in(&base, &["run", ".", "--set", "i13=-40", "--input", "-5"]);
+    assert_eq!(printed(&output), "ended 35 steps 3\n");
+}
+
 /// Without a start the input must be given, and what the start would have is told.
 #[test]
 fn refused_starts_in_words() {

@@ -69,7 +69,11 @@ fn tables_are_as_by_the_oracle() {
         let files = [("given", &given[..]), ("condition", &file[..])];
         let base = folder("table", if as_option { &files[..1] } else { &files });
         let mut words = vec![OsStr::new("tabulate"), OsStr::new(".")];
-        if as_option {
+        // A text that starts with `-` looks like an option, but for one behind `=`.
+        let joined = [b"--condition=", &bare[..]].concat();
+        if as_option && (bare.starts_with(b"-") || random.chance(50)) {
+            words.push(OsStr::from_bytes(&joined));
+        } else if as_option {
             words.extend([OsStr::new("--condition"), OsStr::from_bytes(&bare)]);
         }
         let output = run_in(&base, &words);
@@ -137,6 +141,29 @@ fn the_table_of_an_example() {
         assert_eq!(status(&run_in(&base, &["tabulate", "."])), expected, "{condition:?}");
         let as_option = run_in(&base, &["tabulate", ".", "--condition", condition]);
         assert_eq!(status(&as_option), i32::from(condition != "true"), "{condition:?}");
+    }
+}
+
+/// Constants below zero stand in atoms, and parts are found around them.
+#[test]
+fn a_table_below_zero() {
+    let expected = concat!(
+        " 1  stmt(i4 := -40): 1 of 12: 2\n",
+        " 2  stmt(i5 := -15): 0 of 12\n",
+        " 3  trans(-1 - -1): 12 of 12: 1-12\n",
+        " 4  E[stmt(i5 := -15) W trans(-1 - -1)]: 12 of 12: 1-12\n",
+        " 5  (stmt(i4 := -40) & E[stmt(i5 := -15) W trans(-1 - -1)]): 1 of 12: 2\n",
+        "parts 5 satisfied 1 first 2\n",
+    );
+    let condition = "(stmt(i4 := -40) & E[stmt(i5 := -15) W trans(-1 - -1)])";
+    let output = run_in(&example("offset"), &["tabulate", ".", "--condition", condition]);
+    assert_eq!((status(&output), printed(&output).as_str()), (0, expected));
+    let expected = "parts 4 satisfied 11 first 2\n";
+    assert!(printed(&run_in(&example("offset"), &["tabulate", "."])).ends_with(expected));
+    for condition in ["stmt(i4 := -0)", "trans(--1)", "node(-1)", "trans(i0 -40)"] {
+        let output = run_in(&example("offset"), &["tabulate", ".", "--condition", condition]);
+        assert_eq!((status(&output), printed(&output).as_str()), (1, ""), "{condition}");
+        assert!(said(&output).ends_with(&format!(", found `{condition}`\n")), "{condition}");
     }
 }
 

@@ -6,7 +6,8 @@
 //!
 //! A program is ASCII text, one statement a line, each line ended by byte 10. The first statement
 //! is `read X`, the last `write X`; between them stand `X := A`, `X := A o A` with `+`, `-`, `*`,
-//! `<` or `=` for o, `if X goto n else m` and `skip`.
+//! `<` or `=` for o, `if X goto n else m` and `skip`. X is a variable, `i0` to `i31`; A is one, or a
+//! constant from -2147483648 to 2147483647, such as `-40`.
 //!
 //! ```
 //! use rewrites::{run, Outcome, Refusal};
@@ -87,7 +88,7 @@ pub const PART_WORDS: usize = 4;
 pub const VERDICT_BYTES: usize = 256;
 
 /// The bytes that there must be for new text.
-pub const TEXT_BYTES: usize = 8192;
+pub const TEXT_BYTES: usize = 8704;
 
 /// What a run answers.
 #[derive(Clone, Copy, Debug, PartialEq, Eq)]
@@ -244,7 +245,7 @@ impl fmt::Display for Refusal {
     fn fmt(&self, f: &mut fmt::Formatter<'_>) -> fmt::Result {
         f.write_str(match self {
             Refusal::Buffer => {
-                "table under 256 words, verdicts under 256 bytes or new text under 8,192 bytes"
+                "table under 256 words, verdicts under 256 bytes or new text under 8,704 bytes"
             }
             Refusal::Budget => "budget over 1,000,000",
             Refusal::Misspelled => {
@@ -282,6 +283,11 @@ impl Error for Refusal {}
 /// let program = b"read i0\ni0 := i0 + 1\nwrite i0\n";
 /// let answer = run(program, &[0; 32], 2147483647, 3);
 /// assert_eq!(answer, Ok(Outcome::Ended { value: -2147483648, steps: 3 }));
+///
+/// // A constant may be below zero.
+/// let program = b"read i0\ni1 := i0 - -40\nwrite i1\n";
+/// let answer = run(program, &[0; 32], 2, 3);
+/// assert_eq!(answer, Ok(Outcome::Ended { value: 42, steps: 3 }));
 /// ```
 pub fn run(
     program: &[u8],

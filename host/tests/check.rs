@@ -53,3 +53,42 @@ fn outputs_are_as_by_the_oracle() {
     first.report();
     missing.report();
 }
+
+/// The longest report: 256 marks that name the largest number, on 254 of the longest statement.
+#[test]
+fn the_longest_report_is_printed() {
+    let program = built("check_rewrites");
+    let longest = "i31 := -2147483648 + -2147483648\n".repeat(254);
+    let given = format!("read i31\n{longest}write i31\n");
+    let marks = "2147483647: mark(rm, i31, -2147483648 + -2147483648)\n".repeat(256);
+    let files = [("given", given.as_bytes()), ("marks", marks.as_bytes())];
+    let output = in_folder(&program, "longest", &files, &[]);
+    assert!(output.status.success());
+    assert_eq!(shown(&output.stderr), "");
+    let numbers = "2147483647 11\n".repeat(256);
+    let expected = format!("marks 256 accepted 0\n{numbers}{given}");
+    assert_eq!((given.len(), expected.len()), (8_401, 12_006));
+    assert_eq!(shown(&output.stdout), shown(expected.as_bytes()));
+    assert!(output.stdout == expected.as_bytes());
+    assert!(output.stdout == check::check(given.as_bytes(), marks.as_bytes()));
+}
+
+/// Each sign that is misspelled, in either file.
+#[test]
+fn misspelled_signs_are_refused() {
+    let program = built("check_rewrites");
+    let wrong =
+        ["-0", "-01", "--1", "- 40", "+1", "-", "-2147483649", "-21474836480", "-4294967296"];
+    for right in wrong.into_iter().chain(["i0 -40"]) {
+        let given = format!("read i0\ni1 := {right}\nwrite i1\n");
+        let output =
+            in_folder(&program, "signs", &[("given", given.as_bytes()), ("marks", b"")], &[]);
+        assert_eq!(shown(&output.stdout), "refused 2\\n", "{right}");
+        let said = "the author of the shift program: line 2 isn't spelled as a statement, or lacks its byte 10";
+        assert_eq!(String::from_utf8_lossy(&output.stderr), format!("{said}\n"), "{right}");
+        let marks = format!("2: mark(rm, i1, {right})\n");
+        let files = [("given", b"read i0\nwrite i0\n".as_slice()), ("marks", marks.as_bytes())];
+        let output = in_folder(&program, "signs", &files, &[]);
+        assert_eq!(shown(&output.stdout), "refused 9\\n", "{right}");
+    }
+}

@@ -195,6 +195,33 @@ fn atoms_that_p_lacks_match_nothing() {
 }
 
 #[test]
+fn minus_1_and_0_less_1_are_different_statements() {
+    let program = text(&["read i0", "i0 := -1", "i0 := 0 - 1", "write i0"]);
+    assert_words(&program, "stmt(i0 := -1)", &[2]);
+    assert_words(&program, "stmt(i0 := 0 - 1)", &[4]);
+    assert_words(&program, "(stmt(i0 := -1) | stmt(i0 := 0 - 1))", &[2, 4, 6]);
+    for atom in ["stmt(i0 := 1)", "stmt(i0 := -2)", "stmt(i0 := 0 + -1)", "stmt(i1 := -1)"] {
+        assert_words(&program, atom, &[0]);
+    }
+    // No statement defines a variable of a constant.
+    assert_words(&program, "trans(-1)", &[15]);
+    assert_words(&program, "trans(-2147483648 - -1)", &[15]);
+    assert_words(&program, "trans(i0 - -1)", &[8]);
+    assert_words(&program, "trans(-1 * i1)", &[15]);
+}
+
+#[test]
+fn the_ends_of_the_range_are_told_apart() {
+    let constants = ["-2147483648", "-2147483647", "-1", "0", "1", "2147483647"];
+    let mut program = vec!["read i0".to_string()];
+    program.extend(constants.map(|constant| format!("i1 := {}", constant)));
+    program.push("write i1".to_string());
+    for (k, constant) in constants.iter().enumerate() {
+        assert_words(&text(&program), &format!("stmt(i1 := {})", constant), &[2 << k]);
+    }
+}
+
+#[test]
 fn q_now_is_enough_for_u_and_s() {
     assert_on_p(&[
         ("E[false U use(i2)]", &[0, 8, 8]),
@@ -549,16 +576,17 @@ fn a_condition_is_read_to_its_end_before_its_parts_are_counted() {
 #[test]
 fn bytes_up_to_1024_are_taken_and_1025_refused_6() {
     // No atom is true anywhere in P. 25 of 36 bytes and 24 operators of 5: 1,020 bytes, 49 parts.
-    let atom = "stmt(i31 := 2147483647 + 2147483647)";
-    let tree = "(".repeat(24) + atom + &format!(" & {})", atom).repeat(24);
-    assert_eq!(tree.len(), 1020);
-    assert_words(P.as_bytes(), &tree, &[0; 49]);
-    for n in 1..=4 {
-        let signs: Vec<u64> = (0..n).map(|k| if k % 2 == 0 { 255 } else { 0 }).collect();
-        let condition = "!".repeat(n) + &tree;
-        assert_words(P.as_bytes(), &condition, &[vec![0; 49], signs].concat());
+    for atom in ["stmt(i31 := 2147483647 + 2147483647)", "stmt(i31 := -214748364 + -214748364)"] {
+        let tree = "(".repeat(24) + atom + &format!(" & {})", atom).repeat(24);
+        assert_eq!(tree.len(), 1020);
+        assert_words(P.as_bytes(), &tree, &[0; 49]);
+        for n in 1..=4 {
+            let signs: Vec<u64> = (0..n).map(|k| if k % 2 == 0 { 255 } else { 0 }).collect();
+            let condition = "!".repeat(n) + &tree;
+            assert_words(P.as_bytes(), &condition, &[vec![0; 49], signs].concat());
+        }
+        assert_number(("!!!!!".to_string() + &tree).as_bytes(), 6);
     }
-    assert_number(("!!!!!".to_string() + &tree).as_bytes(), 6);
     // Whatever it holds.
     assert_number(negations(1020).as_bytes(), 8);
     assert_number(negations(1021).as_bytes(), 6);
@@ -586,7 +614,7 @@ const MISSPELLED: &[&str] = &[
     "node(1 )", "node (1)", "node(2147483648)", "node(99999999999999999999)", "def()", "def(0)",
     "def(i32)", "def(i00)", "def(i01)", "def(i1", "def(i 1)", "use(7)", "use(i)", "use(i1 )",
     "use(I1)", "stmt()", "stmt(", "stmt", "stmt(skip", "stmt(skip )", "stmt(skip\n)", "stmt( skip)",
-    "stmt(i0:=1)", "stmt(i0 := )", "stmt(i0 := -1)", "stmt(i0 := 1 / 2)", "stmt(i0 := 1 + 2 + 3)",
+    "stmt(i0:=1)", "stmt(i0 := )", "stmt(i0 := -0)", "stmt(i0 := 1 / 2)", "stmt(i0 := 1 + 2 + 3)",
     "stmt(i0 := 2147483648)", "stmt(1 := i0)", "stmt(if i0 goto 1)", "stmt(if 1 goto 2 else 3)",
     "stmt(true)", "stmt(if i0 goto 2 else 2147483648)", "stmt(read 1)", "stmt(write)", "trans()",
     "trans(i0 := 1)", "trans(true)", "trans(i0+i1)", "trans(i0 +)", "trans(i0 & i1)",
@@ -609,11 +637,78 @@ fn misspelled_conditions_are_refused_7() {
     }
 }
 
+/// Conditions with a constant in each place that takes one, spelled C.
+const CONSTANT_PLACES: [&str; 7] = [
+    "stmt(i1 := C)",
+    "stmt(i1 := C + i0)",
+    "stmt(i1 := i0 - C)",
+    "stmt(i1 := C = C)",
+    "trans(C)",
+    "!trans(C < i0)",
+    "E[trans(i0 * C) U stmt(i1 := C)]",
+];
+
+fn assert_number_at_places(constant: &str, expected: u8) {
+    for place in CONSTANT_PLACES {
+        assert_number(place.replace('C', constant).as_bytes(), expected);
+    }
+}
+
+#[test]
+fn constants_below_zero_are_taken() {
+    #[rustfmt::skip]
+    let constants = [
+        "-1", "-9", "-10", "-40", "-100", "-1000000000", "-2147483639", "-2147483640",
+        "-2147483647", "-2147483648",
+    ];
+    for constant in constants {
+        assert_number_at_places(constant, 0);
+    }
+    for right in ["i0 - -40", "-1 - -1", "0 - 40", "-40"] {
+        assert_number(format!("stmt(i1 := {})", right).as_bytes(), 0);
+        assert_number(format!("trans({})", right).as_bytes(), 0);
+    }
+}
+
+#[test]
+fn other_signs_are_refused_7() {
+    #[rustfmt::skip]
+    let wrong = [
+        "-0", "-00", "-01", "-007", "-02147483648", "--1", "---1", "- 40", "-  40", "+1", "+0",
+        "+-1", "-+1", "-", "--", "1-", "-1-", "-i0", "-i", "-1_000", "-1.0", "-0x10", "-1 0", " -1",
+        "-1 ", "-٣", "−1", "(-1)", "-2147483649", "-2147483658", "-3000000000", "-4294967295",
+        "-4294967296", "-4294967336", "-9999999999", "-21474836480", "-21474836481",
+        "-18446744073709551615", "-18446744073709551617",
+    ];
+    for constant in wrong {
+        assert_number_at_places(constant, 7);
+    }
+    for digits in [11, 20, 21, 400] {
+        assert_number_at_places(&format!("-{}", "1".repeat(digits)), 7);
+        assert_number_at_places(&format!("-{}", "0".repeat(digits)), 7);
+    }
+    for right in ["i0 -40", "i0 --40", "i0 - - 40", "i0-40", "0 -40", "-1 -1", "-1 --1", "-1 - -0"]
+    {
+        assert_number(format!("stmt(i1 := {})", right).as_bytes(), 7);
+        assert_number(format!("trans({})", right).as_bytes(), 7);
+    }
+}
+
+#[test]
+fn statement_numbers_take_no_sign() {
+    for n in ["-0", "-1", "-2", "+2", "--2", "-", "- 2", "-2147483648", "-4294967294"] {
+        assert_number(format!("node({})", n).as_bytes(), 7);
+        assert_number(format!("stmt(if i0 goto {} else 3)", n).as_bytes(), 7);
+        assert_number(format!("stmt(if i0 goto 3 else {})", n).as_bytes(), 7);
+    }
+}
+
 #[test]
 fn a_prefix_or_a_condition_and_a_byte_is_misspelled() {
     let conditions = [
         "E[!def(i2) U use(i2)]",
         "AY A[((!def(i2) & trans(7)) & !entry) B stmt(i2 := 7)]",
+        "AY A[((!def(i2) & trans(-40)) & !entry) B stmt(i2 := -40)]",
         "(EX exit | AM !stmt(if i0 goto 300 else 0))",
     ];
     for condition in conditions {

@@ -116,3 +116,64 @@ fn comparisons_are_as_by_the_oracle() {
     }
     met.report();
 }
+
+// The longest statement fills its column
+
+/// 253 of the longest statement and a copy, between `read` and `write`.
+fn longest_program() -> Vec<u8> {
+    let longest = "i31 := -2147483648 + -2147483648\n".repeat(253);
+    format!("read i30\n{longest}i10 := i31\nwrite i10\n").into_bytes()
+}
+
+#[test]
+fn the_longest_statements_are_viewed() {
+    let (viewer, given) = (built("view_condition"), longest_program());
+    let conditions = ["stmt(i31 := -2147483648 + -2147483648)", "EX (trans(-1) & use(i31))"];
+    for condition in conditions {
+        let files = [("given", &given[..]), ("condition", condition.as_bytes())];
+        let expected = desk::view(&given, condition.as_bytes());
+        same(0, &printed(&viewer, "longest_view", &files, &[]), &expected, &files);
+        assert!(expected.contains("\n  2  i31 := -2147483648 + -2147483648  "));
+    }
+    // The most that is printed: 64 parts over 256 of the longest rows.
+    let condition = "!".repeat(63) + "true";
+    let files = [("given", &given[..]), ("condition", condition.as_bytes())];
+    let expected = desk::view(&given, condition.as_bytes());
+    same(1, &printed(&viewer, "longest_view", &files, &[]), &expected, &files);
+}
+
+#[test]
+fn the_longest_statements_are_traced() {
+    let (runner, given) = (built("run_program"), longest_program());
+    let start = format!("-2147483648\n256\n{}", "-2147483648\n".repeat(32));
+    let files = [("given", &given[..]), ("start", start.as_bytes())];
+    let expected = desk::run(&given, start.as_bytes(), true);
+    same(
+        0,
+        &printed(&runner, "longest_run", &files, &["given", "start", "trace"]),
+        &expected,
+        &files,
+    );
+    assert!(expected.contains("\n      2    2  i31 := -2147483648 + -2147483648  i31 = 0\n"));
+}
+
+#[test]
+fn the_longest_statements_are_compared() {
+    let (comparer, given) = (built("compare_runs"), longest_program());
+    let start = format!("-2147483648\n256\n{}", "-2147483648\n".repeat(32));
+    // All but the last of the sums are dropped.
+    let list: String =
+        (2..=255).map(|n| format!("{n}: mark(rm, i31, -2147483648 + -2147483648)\n")).collect();
+    for marks in ["", &list] {
+        let files =
+            [("given", &given[..]), ("marks", marks.as_bytes()), ("start", start.as_bytes())];
+        let expected = desk::compare(&given, marks.as_bytes(), start.as_bytes());
+        same(0, &printed(&comparer, "longest_compare", &files, &[]), &expected, &files);
+        let longest = "i31 := -2147483648 + -2147483648";
+        let row = match marks {
+            "" => format!("\n      2    2  {longest}  {longest}\n"),
+            _ => format!("\n      2    2  {longest}  {:32}  i31 0 -2147483648\n", "skip"),
+        };
+        assert!(expected.contains(&row));
+    }
+}

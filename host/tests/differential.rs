@@ -13,10 +13,10 @@ use common::{option, P};
 use coverage::Tally;
 use lent::{Lent, Text};
 use oracle::condition::{self, Atom, Condition, Demand, Direction, Part, Quantifier};
-use oracle::generate::{self, Damage, Random};
+use oracle::generate::{self, Damage, Random, WrongSign};
 use oracle::machine::{self, Outcome, Values};
 use oracle::marks::{self, Kind};
-use oracle::program::{Expression, Operand, Operator, Program, Statement};
+use oracle::program::{Expression, Operand, Operator, Program, Statement, LARGEST, LEAST};
 use rewrites::{raw, MOST_STEPS, TABLE_WORDS, TEXT_BYTES, VERDICT_BYTES};
 
 const CASES: u64 = 100_000;
@@ -79,6 +79,67 @@ impl<T: std::fmt::Debug> std::fmt::Display for Shown<T> {
 
 fn damages(kind: &'static str) -> Tally<Shown<Damage>> {
     Tally::new(kind, Damage::ALL.map(Shown))
+}
+
+/// Spells one of a text's numbers with a wrong sign, and tells which. No text that was well spelled
+/// stays so.
+fn wrongly_signed(random: &mut Random, text: &mut Vec<u8>) -> Option<WrongSign> {
+    let sign = random.pick(&WrongSign::ALL);
+    generate::wrong_sign(random, sign, text);
+    Some(sign)
+}
+
+/// The wrong signs for which texts were refused as misspelled.
+struct Signs {
+    met: Tally<Shown<WrongSign>>,
+    misspelled: u8,
+}
+
+impl Signs {
+    fn new(kind: &'static str, misspelled: u8) -> Signs {
+        Signs { met: Tally::new(kind, WrongSign::ALL.map(Shown)), misspelled }
+    }
+
+    /// A text with this sign, if it has one, got this answer.
+    fn met(&mut self, sign: Option<WrongSign>, number: u8) {
+        if let Some(sign) = sign.filter(|_| number == self.misspelled) {
+            self.met.met(Shown(sign));
+        }
+    }
+}
+
+/// Where in its range a constant lies.
+fn constant_kind(operand: Operand) -> Option<&'static str> {
+    match operand {
+        Operand::Variable(_) => None,
+        Operand::Constant(0) => Some("zero"),
+        Operand::Constant(LARGEST) => Some("the largest"),
+        Operand::Constant(LEAST) => Some("the least"),
+        Operand::Constant(u32::MAX) => Some("-1"),
+        Operand::Constant(bits) if bits < LARGEST => Some("above zero"),
+        Operand::Constant(_) => Some("below zero"),
+    }
+}
+
+/// The constants of right sides.
+struct Constants(Tally<&'static str>);
+
+impl Constants {
+    fn new(kind: &'static str) -> Constants {
+        let kinds = ["the least", "below zero", "-1", "zero", "above zero", "the largest"];
+        Constants(Tally::new(kind, kinds))
+    }
+
+    fn met(&mut self, right: &Expression) {
+        let kinds = right.operands().into_iter().filter_map(constant_kind);
+        kinds.for_each(|kind| self.0.met(kind));
+    }
+
+    fn met_in(&mut self, statement: &Statement) {
+        if let Statement::Assign(_, right) = statement {
+            self.met(right);
+        }
+    }
 }
 
 /// A length for a buffer that must have `least`, often at an edge.
@@ -217,14 +278,18 @@ fn runs_are_as_by_the_oracle() {
     let edges = [0, 1, 2, MOST_STEPS - 1, MOST_STEPS, MOST_STEPS + 1, 1 << 31, u32::MAX];
     let mut budgets = Tally::new("budgets", edges);
     let mut damages = damages("damages of programs run");
+    let mut signs = Signs::new("wrong signs of programs run", 2);
+    let mut constants = Constants::new("constants of programs run");
     for (case, mut random) in cases("run") {
         let random = &mut random;
         let program = program(random, case);
         let mut text = program.text();
+        let mut sign = None;
         if !is_whole(case) {
             match random.below(20) {
                 0 => text = generate::statement_soup(random),
                 1..=6 => damaged(random, &mut text, &mut damages),
+                7 => sign = wrongly_signed(random, &mut text),
                 _ => {}
             }
         }
@@ -235,6 +300,7 @@ fn runs_are_as_by_the_oracle() {
         let input = generate::word(random);
         let answer = run_agrees(random, &case.to_string(), &text, input, budget);
         budgets.met(budget);
+        signs.met(sign, answer.err().unwrap_or(0));
         match answer {
             Err(number) => refusals.met(number),
             Ok(outcome) => {
@@ -248,6 +314,7 @@ fn runs_are_as_by_the_oracle() {
                 let program = Program::read(&text).expect("a program that was run is taken");
                 sizes.met(program.count());
                 program.statements().iter().for_each(|s| kinds.met(statement_kind(s)));
+                program.statements().iter().for_each(|s| constants.met_in(s));
             }
         }
     }
@@ -258,6 +325,8 @@ fn runs_are_as_by_the_oracle() {
     kinds.report();
     budgets.report();
     damages.report();
+    signs.met.report();
+    constants.0.report();
 }
 
 // Tables
@@ -391,6 +460,10 @@ fn tables_are_as_by_the_oracle() {
     let mut satisfied = Tally::new("satisfied", ["none", "some", "all"]);
     let mut of_programs = damages("damages of programs tabulated");
     let mut of_conditions = damages("damages of conditions");
+    let mut program_signs = Signs::new("wrong signs of programs tabulated", 2);
+    let mut condition_signs = Signs::new("wrong signs of conditions", 7);
+    let mut of_stmt = Constants::new("constants of stmt");
+    let mut of_trans = Constants::new("constants of trans");
     for (case, mut random) in cases("tabulate") {
         let random = &mut random;
         let program = program(random, case);
@@ -402,19 +475,26 @@ fn tables_are_as_by_the_oracle() {
             condition_text(random, &program)
         };
         let mut words = TABLE_WORDS + random.below(3);
+        let (mut program_sign, mut condition_sign) = (None, None);
         if !is_whole(case) {
             match random.below(40) {
                 0..=3 => damaged(random, &mut text, &mut of_programs),
                 4 => text = generate::statement_soup(random),
+                5 => program_sign = wrongly_signed(random, &mut text),
                 _ => {}
             }
-            if random.below(5) == 0 {
-                damaged(random, &mut condition, &mut of_conditions);
+            match random.below(20) {
+                0..=3 => damaged(random, &mut condition, &mut of_conditions),
+                4 => condition_sign = wrongly_signed(random, &mut condition),
+                _ => {}
             }
             words = room(random, TABLE_WORDS);
         }
         rooms.met(words);
-        match table_agrees(random, &case.to_string(), &text, &condition, words) {
+        let answer = table_agrees(random, &case.to_string(), &text, &condition, words);
+        program_signs.met(program_sign, answer.err().unwrap_or(0));
+        condition_signs.met(condition_sign, answer.err().unwrap_or(0));
+        match answer {
             Err(number) => refusals.met(number),
             Ok((parts, count, _)) => {
                 let program = Program::read(&text).expect("a program that was tabulated is taken");
@@ -423,6 +503,13 @@ fn tables_are_as_by_the_oracle() {
                 counts.met(parts);
                 taken.met(condition.len());
                 asked.parts().iter().for_each(|part| kinds.met(part_kind(part)));
+                for part in asked.parts() {
+                    match part {
+                        Part::Atom(Atom::Stmt(statement)) => of_stmt.met_in(statement),
+                        Part::Atom(Atom::Trans(e)) => of_trans.met(e),
+                        _ => {}
+                    }
+                }
                 satisfied.met(match count {
                     0 => "none",
                     _ if count == program.count() => "all",
@@ -440,6 +527,10 @@ fn tables_are_as_by_the_oracle() {
     satisfied.report();
     of_programs.report();
     of_conditions.report();
+    program_signs.met.report();
+    condition_signs.met.report();
+    of_stmt.0.report();
+    of_trans.0.report();
 }
 
 // Judgements
@@ -570,19 +661,41 @@ fn runs_stay(random: &mut Random, case: &str, given: &[u8], new: &[u8], runs: &m
 /// What an accepted mark does to its statement.
 fn mark_kind(kind: Kind, statement: &Statement) -> &'static str {
     match (kind, statement) {
+        (Kind::Remove(Expression::Single(Operand::Constant(bits))), _) if bits > LARGEST => {
+            "rm of a constant below zero"
+        }
         (Kind::Remove(_), _) => "rm",
         (Kind::Replace(_), Statement::Branch { .. }) => "rpl in if",
         (Kind::Replace(_), Statement::Write(_)) => "rpl in write",
         (Kind::Replace(Operand::Variable(_)), _) => "rpl by a variable in an assignment",
+        (Kind::Replace(Operand::Constant(bits)), _) if bits > LARGEST => {
+            "rpl by a constant below zero in an assignment"
+        }
         (Kind::Replace(Operand::Constant(_)), _) => "rpl by a constant in an assignment",
     }
 }
 
 #[rustfmt::skip]
-const MARK_KINDS: [&str; 5] = [
-    "rm", "rpl in if", "rpl in write", "rpl by a variable in an assignment",
-    "rpl by a constant in an assignment",
+const MARK_KINDS: [&str; 7] = [
+    "rm", "rm of a constant below zero", "rpl in if", "rpl in write",
+    "rpl by a variable in an assignment", "rpl by a constant in an assignment",
+    "rpl by a constant below zero in an assignment",
 ];
+
+/// Whether one of two right sides is a constant, and the other takes its negative from 0.
+fn is_written_otherwise(one: &Expression, other: &Expression) -> bool {
+    match (*one, *other) {
+        (
+            Expression::Single(Operand::Constant(a)),
+            Expression::Pair(Operand::Constant(0), Operator::Minus, Operand::Constant(b)),
+        )
+        | (
+            Expression::Pair(Operand::Constant(0), Operator::Minus, Operand::Constant(b)),
+            Expression::Single(Operand::Constant(a)),
+        ) => a == b.wrapping_neg() && a > LARGEST,
+        _ => false,
+    }
+}
 
 #[test]
 fn judgements_are_as_by_the_oracle_and_keep_runs() {
@@ -597,6 +710,13 @@ fn judgements_are_as_by_the_oracle_and_keep_runs() {
     let mut of_programs = damages("damages of programs judged");
     let mut of_lists = damages("damages of marks");
     let mut runs = Tally::new("runs of both programs", ["budgets", "ended", "spent"]);
+    let mut program_signs = Signs::new("wrong signs of programs judged", 2);
+    let mut mark_signs = Signs::new("wrong signs of marks", 9);
+    let mut of_rm = Constants::new("constants of rm");
+    let mut of_rpl = Constants::new("constants of rpl");
+    let mut otherwise = Tally::new("rm of -40 at 0 - 40, or the other way round", [13]);
+    let mut too_small = Tally::new("bytes of new text refused 1", [8_192, 8_703]);
+    let mut enough = Tally::new("bytes of new text that do", [8_704, 8_705]);
     for (case, mut random) in cases("judge") {
         let random = &mut random;
         let program = program(random, case);
@@ -607,27 +727,42 @@ fn judgements_are_as_by_the_oracle_and_keep_runs() {
         });
         let mut list = marks::text(&generate::marks(random, &program, count));
         let mut rooms = (VERDICT_BYTES, TEXT_BYTES);
+        let (mut program_sign, mut mark_sign) = (None, None);
         if !is_whole(case) {
             match random.below(40) {
                 0..=3 => damaged(random, &mut text, &mut of_programs),
                 4 => text = generate::statement_soup(random),
+                5 => program_sign = wrongly_signed(random, &mut text),
                 _ => {}
             }
             match random.below(20) {
                 0..=2 => damaged(random, &mut list, &mut of_lists),
                 3 => list = generate::mark_soup(random),
+                4 => mark_sign = wrongly_signed(random, &mut list),
                 _ => {}
             }
-            match random.below(20) {
-                0 => rooms.0 = room(random, VERDICT_BYTES),
-                1 => rooms.1 = room(random, TEXT_BYTES),
-                2 => rooms = (room(random, VERDICT_BYTES), room(random, TEXT_BYTES)),
+            match random.below(40) {
+                0 | 1 => rooms.0 = room(random, VERDICT_BYTES),
+                2 | 3 => rooms.1 = room(random, TEXT_BYTES),
+                4 | 5 => rooms = (room(random, VERDICT_BYTES), room(random, TEXT_BYTES)),
+                // Enough before constants below zero.
+                6 => rooms.1 = random.between(8_192, TEXT_BYTES - 1),
+                7 => rooms.1 = 8_192,
                 _ => {}
             }
         }
         verdict_rooms.met(rooms.0);
         text_rooms.met(rooms.1);
-        match judgement_agrees(random, &case.to_string(), &text, &list, rooms) {
+        let answer = judgement_agrees(random, &case.to_string(), &text, &list, rooms);
+        let number = answer.as_ref().err().copied().unwrap_or(0);
+        program_signs.met(program_sign, number);
+        mark_signs.met(mark_sign, number);
+        match answer {
+            Err(1) if rooms.0 >= VERDICT_BYTES => too_small.met(rooms.1),
+            Ok(_) => enough.met(rooms.1),
+            _ => {}
+        }
+        match answer {
             Err(number) => refusals.met(number),
             Ok(judged) => {
                 let program = Program::read(&text).expect("a program that was judged is taken");
@@ -636,6 +771,20 @@ fn judgements_are_as_by_the_oracle_and_keep_runs() {
                 counts.met(list.len());
                 for (mark, &verdict) in list.iter().zip(&judged.verdicts) {
                     verdicts.met(verdict);
+                    match mark.kind {
+                        Kind::Remove(e) => {
+                            of_rm.met(&e);
+                            match program.statement(mark.number) {
+                                Some(Statement::Assign(x, right))
+                                    if *x == mark.variable && is_written_otherwise(&e, right) =>
+                                {
+                                    otherwise.met(verdict)
+                                }
+                                _ => {}
+                            }
+                        }
+                        Kind::Replace(a) => of_rpl.met(&Expression::Single(a)),
+                    }
                     if verdict == 0 {
                         let statement = program.statement(mark.number).expect("it has a statement");
                         accepted.met(mark_kind(mark.kind, statement));
@@ -664,6 +813,13 @@ fn judgements_are_as_by_the_oracle_and_keep_runs() {
     of_programs.report();
     of_lists.report();
     runs.report();
+    program_signs.met.report();
+    mark_signs.met.report();
+    of_rm.0.report();
+    of_rpl.0.report();
+    otherwise.report();
+    too_small.report();
+    enough.report();
 }
 
 // Whole ranges of cases
@@ -711,6 +867,51 @@ fn every_operator_over_atoms_of_p_is_as_by_the_oracle() {
     }
 }
 
+/// 254 lines of the longest statement between `read` and `write`.
+fn longest_program() -> Vec<u8> {
+    let longest = "i31 := -2147483648 + -2147483648\n";
+    let text = format!("read i31\n{}write i31\n", longest.repeat(254));
+    assert_eq!((longest.len(), text.len()), (33, 8_401));
+    text.into_bytes()
+}
+
+#[test]
+fn the_longest_programs_are_as_by_the_oracle() {
+    let random = &mut Random::new(5);
+    let longest = longest_program();
+    for budget in [0, 1, 255, 256, 1_000] {
+        assert!(run_agrees(random, "longest", &longest, 7, budget).is_ok());
+    }
+    let conditions = ["stmt(i31 := -2147483648 + -2147483648)", "AY trans(-2147483648 - i31)"];
+    for condition in conditions {
+        let text = condition.as_bytes();
+        assert!(table_agrees(random, condition, &longest, text, TABLE_WORDS).is_ok());
+    }
+    // Without marks it is given back, where there is room.
+    for room in [8_192, 8_400, 8_401, 8_402, 8_703, 8_704, 8_705] {
+        match judgement_agrees(random, "longest", &longest, b"", (VERDICT_BYTES, room)) {
+            Ok(judged) => assert!(room >= 8_704 && judged.text == longest),
+            Err(number) => assert!(room < 8_704 && number == 1),
+        }
+    }
+    // Each line but the first two and the last becomes the longest.
+    let copied = "i31 := i30 + i30\n".repeat(253);
+    let given = format!("read i31\ni30 := -2147483648\n{copied}write i31\n").into_bytes();
+    let mark = |n| format!("{n}: mark(rpl, i30, -2147483648)\n");
+    let list: String = (3..=255).map(mark).collect();
+    let rooms = (VERDICT_BYTES, TEXT_BYTES);
+    let judged = judgement_agrees(random, "longest", &given, list.as_bytes(), rooms);
+    let judged = judged.expect("the list is taken");
+    assert_eq!(judged.verdicts, [0; 253]);
+    assert_eq!(judged.text.len(), 9 + 19 + 253 * 33 + 10);
+    assert_eq!(judged.text[28..], longest[9 + 33..]);
+    // A line more, or a byte, is one too many.
+    let longer = [&longest[..longest.len() - 10], b"skip\nwrite i31\n"].concat();
+    assert_eq!(run_agrees(random, "longest", &longer, 7, 9), Err(3));
+    let longer = String::from_utf8_lossy(&longest).replacen("8 +", "80 +", 1).into_bytes();
+    assert_eq!(run_agrees(random, "longest", &longer, 7, 9), Err(2));
+}
+
 /// A text with each byte dropped, replaced by each other byte, and each byte put in at each place.
 fn edits(text: &[u8]) -> impl Iterator<Item = Vec<u8>> + '_ {
     (0..=text.len()).flat_map(move |at| {
@@ -728,11 +929,14 @@ fn edits(text: &[u8]) -> impl Iterator<Item = Vec<u8>> + '_ {
 /// A program with a statement of each kind.
 const EACH_KIND: &[u8] = b"read i0\ni1 := i0\ni2 := i1 + 7\nif i2 goto 5 else 6\nskip\nwrite i2\n";
 
+/// A program with constants below zero in each place.
+const BELOW_ZERO: &[u8] = b"read i0\ni1 := -2147483648\ni2 := -1 - -40\ni2 := i1 - -7\nwrite i2\n";
+
 #[test]
 fn programs_edited_by_one_byte_are_as_by_the_oracle() {
     let random = &mut Random::new(2);
     let mut numbers = Tally::new("answers to edited programs", [0, 2, 5]);
-    for text in edits(EACH_KIND) {
+    for text in edits(EACH_KIND).chain(edits(BELOW_ZERO)) {
         numbers.met(run_agrees(random, "edit", &text, 5, 20).err().unwrap_or(0));
     }
     numbers.report();
@@ -742,8 +946,9 @@ fn programs_edited_by_one_byte_are_as_by_the_oracle() {
 fn conditions_edited_by_one_byte_are_as_by_the_oracle() {
     let random = &mut Random::new(3);
     let mut numbers = Tally::new("answers to edited conditions", [0, 7]);
-    let conditions: [&[u8]; 3] = [
+    let conditions: [&[u8]; 4] = [
         b"AY A[((!def(i2) & trans(7)) & !entry) B stmt(i2 := 7)]",
+        b"(trans(-7) & stmt(i2 := -2147483648 - -1))",
         b"E[EX exit S (node(4) | AM !stmt(if i0 goto 6 else 8))]",
         b"!A[EF use(i3) W (false | true)]",
     ];
@@ -762,8 +967,9 @@ fn marks_edited_by_one_byte_are_as_by_the_oracle() {
     let mut numbers = Tally::new("answers to edited marks", [0, 9]);
     let mut verdicts = Tally::new("verdicts of edited marks", [0, 11, 12, 13, 14]);
     let list = b"4: mark(rpl, i2, 7)\n3: mark(rm, i2, 7)\n4: mark(rm, i3, i1 + i2)\n";
+    let below_zero = b"4: mark(rpl, i2, -2147483648)\n3: mark(rm, i2, -7 - -40)\n";
     let rooms = (VERDICT_BYTES, TEXT_BYTES);
-    for text in edits(list) {
+    for text in edits(list).chain(edits(below_zero)) {
         let answer = judgement_agrees(random, "edit", P.as_bytes(), &text, rooms);
         numbers.met(answer.as_ref().err().copied().unwrap_or(0));
         if let Ok(judged) = answer {

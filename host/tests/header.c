@@ -81,42 +81,73 @@ static int judge_answers(void) {
         "read i0\ni1 := i0\ni2 := 7\ni3 := i1 + 7\n"
         "if i0 goto 6 else 8\ni0 := i0 - 1\nif i0 goto 4 else 8\nwrite i3\n";
     static const uint8_t bytes_of_list[5] = {0, 14, 12, 13, 11};
-    static uint8_t verdicts[256], text[8192];
+    static uint8_t verdicts[256], text[8704];
     const uint8_t *p = (const uint8_t *)P, *m = (const uint8_t *)list;
     const size_t length = strlen(P), size = strlen(list), filled = strlen(rewritten);
     uint32_t count = 15, accepted = 16, bytes = 17;
     size_t k;
 
     for (k = 0; k < 256; k++) verdicts[k] = 18;
-    for (k = 0; k < 8192; k++) text[k] = 19;
-    CHECK(judge(p, 0, m, 1, verdicts, 255, text, 8192, &count, &accepted, &bytes) == 1);
-    CHECK(judge(p, 0, m, 1, verdicts, 256, text, 8191, &count, &accepted, &bytes) == 1);
-    CHECK(judge(p, 0, m, 1, verdicts, 256, text, 8192, &count, &accepted, &bytes) == 3);
-    CHECK(judge(p, length, m, size - 1, verdicts, 256, text, 8192, &count, &accepted, &bytes) == 9);
-    CHECK(judge(p, length, m, size, NULL, 0, text, 8192, &count, &accepted, &bytes) == 1);
+    for (k = 0; k < 8704; k++) text[k] = 19;
+    CHECK(judge(p, 0, m, 1, verdicts, 255, text, 8704, &count, &accepted, &bytes) == 1);
+    CHECK(judge(p, 0, m, 1, verdicts, 256, text, 8703, &count, &accepted, &bytes) == 1);
+    CHECK(judge(p, 0, m, 1, verdicts, 256, text, 8192, &count, &accepted, &bytes) == 1);
+    CHECK(judge(p, 0, m, 1, verdicts, 256, text, 8704, &count, &accepted, &bytes) == 3);
+    CHECK(judge(p, length, m, size - 1, verdicts, 256, text, 8704, &count, &accepted, &bytes) == 9);
+    CHECK(judge(p, length, m, size, NULL, 0, text, 8704, &count, &accepted, &bytes) == 1);
     CHECK(judge(p, length, m, size, verdicts, 256, NULL, 0, &count, &accepted, &bytes) == 1);
     CHECK(judge(NULL, 0, NULL, 0, NULL, 0, NULL, 0, &count, &accepted, &bytes) == 1);
-    CHECK(judge(NULL, 0, NULL, 0, verdicts, 256, text, 8192, &count, &accepted, &bytes) == 3);
+    CHECK(judge(NULL, 0, NULL, 0, verdicts, 256, text, 8704, &count, &accepted, &bytes) == 3);
     CHECK(count == 15 && accepted == 16 && bytes == 17);
     for (k = 0; k < 256; k++) CHECK(verdicts[k] == 18);
-    for (k = 0; k < 8192; k++) CHECK(text[k] == 19);
+    for (k = 0; k < 8704; k++) CHECK(text[k] == 19);
 
-    CHECK(judge(p, length, m, size, verdicts, 256, text, 8192, &count, &accepted, &bytes) == 0);
+    CHECK(judge(p, length, m, size, verdicts, 256, text, 8704, &count, &accepted, &bytes) == 0);
     CHECK(count == 5 && accepted == 1 && bytes == filled);
     CHECK(memcmp(verdicts, bytes_of_list, 5) == 0);
     CHECK(memcmp(text, rewritten, filled) == 0);
     for (k = 5; k < 256; k++) CHECK(verdicts[k] == 18);
-    for (k = filled; k < 8192; k++) CHECK(text[k] == 19);
+    for (k = filled; k < 8704; k++) CHECK(text[k] == 19);
 
     /* No marks give the program back. */
     for (k = 0; k < 5; k++) verdicts[k] = 18;
-    CHECK(judge(p, length, NULL, 0, verdicts, 256, text, 8192, &count, &accepted, &bytes) == 0);
+    CHECK(judge(p, length, NULL, 0, verdicts, 256, text, 8704, &count, &accepted, &bytes) == 0);
     CHECK(count == 0 && accepted == 0 && bytes == length);
     CHECK(memcmp(text, P, length) == 0);
     for (k = 0; k < 256; k++) CHECK(verdicts[k] == 18);
     return 0;
 }
 
+/* Constants below zero, in each of the texts. */
+static int below_zero_answers(void) {
+    static const char given[] = "read i0\ni1 := -40\ni2 := i0 - i1\nwrite i2\n";
+    static const char rewritten[] = "read i0\ni1 := -40\ni2 := i0 - -40\nwrite i2\n";
+    static const char condition[] = "stmt(i1 := -40)", wrong[] = "stmt(i1 := -0)";
+    static const char list[] = "3: mark(rpl, i1, -40)\n2: mark(rm, i1, -40)\n";
+    static uint8_t verdicts[256], text[8704];
+    const uint8_t *p = (const uint8_t *)given, *m = (const uint8_t *)list;
+    const uint32_t values[32] = {0};
+    uint64_t table[256] = {0};
+    uint32_t ended, steps, statement, left[32], first, second, third;
+    int32_t value;
+
+    CHECK(rewrites_run(p, strlen(given), values, 2, 4, &ended, &value, &steps, &statement, left) == 0);
+    CHECK(ended == 1 && value == 42 && steps == 4);
+
+    CHECK(rewrites_tabulate(p, strlen(given), (const uint8_t *)condition, strlen(condition), table, 256,
+                            &first, &second, &third) == 0);
+    CHECK(first == 1 && second == 1 && third == 2 && table[0] == 2);
+    CHECK(rewrites_tabulate(p, strlen(given), (const uint8_t *)wrong, strlen(wrong), table, 256,
+                            &first, &second, &third) == 7);
+
+    CHECK(rewrites_judge(p, strlen(given), m, strlen(list), verdicts, 256, text, 8704, &first, &second,
+                         &third) == 0);
+    CHECK(first == 2 && second == 1 && third == strlen(rewritten));
+    CHECK(verdicts[0] == 0 && verdicts[1] == 14);
+    CHECK(memcmp(text, rewritten, strlen(rewritten)) == 0);
+    return 0;
+}
+
 int main(void) {
-    return run_answers() || tabulate_answers() || judge_answers();
+    return run_answers() || tabulate_answers() || judge_answers() || below_zero_answers();
 }

@@ -368,7 +368,7 @@ const MISSPELLED: &[&str] = &[
     "4, 5: mark(rm, i2, 7)", "0x4: mark(rm, i2, 7)", "4: 4: mark(rm, i2, 7)",
     "4: mark(rm, 7, i2)", "4: mark(rpl, 7, i2)", "4: mark(rm, i, 7)", "4: mark(rm, I2, 7)",
     "4: mark(rm, i32, 7)", "4: mark(rm, i02, 7)", "4: mark(rm, i2, i32)", "4: mark(rm, i2, i00)",
-    "4: mark(rm, i2, -7)", "4: mark(rm, i2, 07)", "4: mark(rm, i2, 2147483648)",
+    "4: mark(rm, i2, 07)", "4: mark(rm, i2, 2147483648)",
     "4: mark(rpl, i2, 2147483648)", "4: mark(rpl, i2, 4294967303)", "4: mark(rm, i2 := 7)",
     "4: mark(rm, i2, i2 := 7)", "4: mark(rm, i2, (7))", "4: mark(rm, i2, 7, 7)",
     "4: mark(rm, i2, i1+i2)", "4: mark(rm, i2, i1 +i2)", "4: mark(rm, i2, i1 / i2)",
@@ -448,6 +448,73 @@ fn numbers_over_2147483647_are_refused_9() {
     for digits in [11, 20, 21, 1000, 100_000] {
         assert_number(&text(&[format!("{}: mark(rm, i2, 7)", "1".repeat(digits))]), 9);
         assert_number(&text(&[format!("4: mark(rm, i2, {})", "1".repeat(digits))]), 9);
+    }
+}
+
+/// Marks with a constant in each place that takes one, spelled C.
+const CONSTANT_PLACES: [&str; 5] = [
+    "4: mark(rm, i2, C)",
+    "4: mark(rm, i2, C + i1)",
+    "4: mark(rm, i2, i1 - C)",
+    "4: mark(rm, i2, C = C)",
+    "4: mark(rpl, i2, C)",
+];
+
+fn assert_number_at_places(constant: &str, expected: u8) {
+    for place in CONSTANT_PLACES {
+        assert_number(&text(&[place.replace('C', constant)]), expected);
+    }
+}
+
+#[test]
+fn constants_below_zero_are_taken() {
+    #[rustfmt::skip]
+    let constants = [
+        "-1", "-9", "-10", "-40", "-100", "-1000000000", "-2147483639", "-2147483640",
+        "-2147483647", "-2147483648",
+    ];
+    for constant in constants {
+        assert_number_at_places(constant, 0);
+    }
+    for line in ["4: mark(rm, i2, i0 - -40)", "4: mark(rm, i2, -1 - -1)", "4: mark(rm, i2, 0 - 40)"]
+    {
+        assert_number(&text(&[line]), 0);
+    }
+}
+
+#[test]
+fn other_signs_are_refused_9() {
+    #[rustfmt::skip]
+    let wrong = [
+        "-0", "-00", "-01", "-007", "-02147483648", "--1", "---1", "- 40", "-  40", "+1", "+0",
+        "+-1", "-+1", "-", "--", "1-", "-1-", "-i0", "-i", "-1_000", "-1.0", "-0x10", "-1 0", " -1",
+        "-1 ", "-٣", "−1", "(-1)", "-2147483649", "-2147483658", "-3000000000", "-4294967295",
+        "-4294967296", "-4294967336", "-9999999999", "-21474836480", "-21474836481",
+        "-18446744073709551615", "-18446744073709551617",
+    ];
+    for constant in wrong {
+        assert_number_at_places(constant, 9);
+    }
+    for digits in [11, 20, 21, 1000, 100_000] {
+        assert_number_at_places(&format!("-{}", "1".repeat(digits)), 9);
+        assert_number_at_places(&format!("-{}", "0".repeat(digits)), 9);
+    }
+    for right in ["i0 -40", "i0 --40", "i0 - - 40", "i0-40", "0 -40", "-1 -1", "-1 --1", "-1 - -0"]
+    {
+        assert_number(&text(&[format!("4: mark(rm, i2, {})", right)]), 9);
+    }
+    // `rpl` takes no two operands.
+    for right in ["0 - 40", "-1 - -1", "i0 - -40"] {
+        assert_number(&text(&[format!("3: mark(rpl, i1, {})", right)]), 9);
+    }
+}
+
+#[test]
+fn statement_numbers_take_no_sign() {
+    for n in ["-0", "-1", "-4", "+4", "--4", "-", "- 4", "-2147483648", "-4294967292"] {
+        assert_number(&text(&[format!("{}: mark(rm, i2, 7)", n)]), 9);
+        assert_number(&text(&[format!("{}: mark(rpl, i2, 7)", n)]), 9);
+        assert_number(&text(&[format!("{}: mark(rpl, i2, -7)", n)]), 9);
     }
 }
 
@@ -591,6 +658,80 @@ fn rm_fits_its_own_assignment_alone() {
     ] {
         assert_judged(&program, &[(mark, 13)], &[]);
     }
+}
+
+#[test]
+fn rm_of_a_constant_below_zero_fits_itself_alone() {
+    let program =
+        ["read i0", "i3 := -7", "i3 := -2147483648", "i3 := 0 - 7", "i3 := 7", "write i0"];
+    let marks = [
+        ("2: mark(rm, i3, -7)", 0),
+        ("3: mark(rm, i3, -2147483648)", 0),
+        ("4: mark(rm, i3, 0 - 7)", 0),
+        ("5: mark(rm, i3, 7)", 0),
+    ];
+    assert_judged(&program, &marks, &[(2, "skip"), (3, "skip"), (4, "skip"), (5, "skip")]);
+    for mark in [
+        "2: mark(rm, i3, 7)",
+        "2: mark(rm, i3, -8)",
+        "2: mark(rm, i3, 0 - 7)",
+        "2: mark(rm, i3, 0 + -7)",
+        "2: mark(rm, i3, i7)",
+        "3: mark(rm, i3, -2147483647)",
+        "3: mark(rm, i3, 2147483647)",
+        "3: mark(rm, i3, 0)",
+        "4: mark(rm, i3, -7)",
+        "4: mark(rm, i3, 0 - -7)",
+        "4: mark(rm, i3, 0 + -7)",
+        "5: mark(rm, i3, -7)",
+        "5: mark(rm, i3, 0 - -7)",
+    ] {
+        assert_judged(&program, &[(mark, 13)], &[]);
+    }
+}
+
+#[test]
+fn minus_40_replaces_its_copy_and_0_less_40_is_no_copy() {
+    let program = ["read i0", "i1 := -40", "i2 := i1 + i0", "write i2"];
+    let made = [(3, "i2 := -40 + i0")];
+    let marks = [("3: mark(rpl, i1, -40)", 0), ("2: mark(rm, i1, -40)", 14)];
+    assert_judged_in_any_order(&program, &marks, &made);
+    let answer = judge(
+        &text(&program),
+        b"3: mark(rpl, i1, -40)\n2: mark(rm, i1, -40)\n",
+        &mut [0; VERDICT_BYTES],
+        &mut [0; TEXT_BYTES],
+    );
+    assert_eq!(answer, Ok(Judged { marks: 2, accepted: 1, bytes: 42 }));
+    // Then nothing uses it.
+    let new = changed(&program, &made);
+    assert_judged(&new, &[("2: mark(rm, i1, -40)", 0)], &[(2, "skip")]);
+
+    let program = ["read i0", "i1 := 0 - 40", "i2 := i1 + i0", "write i2"];
+    let marks = [("3: mark(rpl, i1, -40)", 14), ("2: mark(rm, i1, -40)", 13)];
+    assert_judged_in_any_order(&program, &marks, &[]);
+    // `i1` is used, so its assignment is needed.
+    let marks = [("3: mark(rpl, i1, 40)", 14), ("2: mark(rm, i1, 0 - 40)", 14)];
+    assert_judged_in_any_order(&program, &marks, &[]);
+}
+
+#[test]
+fn only_the_copied_constant_replaces() {
+    let program = ["read i0", "i1 := -40", "i2 := i1 + i0", "write i2"];
+    for a in ["40", "-41", "-4", "-400", "0", "-2147483648", "i0"] {
+        let mark = format!("3: mark(rpl, i1, {})", a);
+        assert_judged(&program, &[(&mark, 14)], &[]);
+    }
+    // The bits of -2147483648 and of 2147483647 differ in all places.
+    let program = ["read i0", "i1 := -2147483648", "i2 := i1 - i1", "write i2"];
+    let made = [(3, "i2 := -2147483648 - -2147483648")];
+    assert_judged(&program, &[("3: mark(rpl, i1, -2147483648)", 0)], &made);
+    assert_judged(&program, &[("3: mark(rpl, i1, 2147483647)", 14)], &[]);
+    assert_judged(&program, &[("3: mark(rpl, i1, -2147483647)", 14)], &[]);
+    // An `if` and a `write` have no place for a constant.
+    let program = ["read i0", "i1 := -1", "if i1 goto 4 else 4", "write i1"];
+    let marks = [("3: mark(rpl, i1, -1)", 13), ("4: mark(rpl, i1, -1)", 13)];
+    assert_judged_in_any_order(&program, &marks, &[]);
 }
 
 #[test]
@@ -996,7 +1137,7 @@ fn every_use_is_replaced_and_the_defined_variable_kept() {
     assert_eq!(value(&changed(&program, &[(3, "i0 := i0 * i0")]), 5), 5);
 
     // Each form of a right side, with a constant and with a variable.
-    for a in ["7", "i9", "2147483647"] {
+    for a in ["7", "i9", "2147483647", "-40", "-2147483648"] {
         let forms = [
             ("i1", a.to_string()),
             ("i1 + i2", format!("{} + i2", a)),
@@ -1084,6 +1225,27 @@ fn accepted_marks_are_all_made_together() {
 
 #[test]
 fn the_longest_programs_are_written() {
+    let mut longest = vec!["i31 := -2147483648 + -2147483648"; 256];
+    longest[0] = "read i31";
+    longest[255] = "write i31";
+    assert_eq!(text(&longest).len(), 8401);
+    assert_judged(&longest, &[], &[]);
+
+    // 253 lines of 15 bytes become 33 each: 9 + 18 + 253 * 33 + 10.
+    let mut program = vec!["i31 := i0 + i0"; 256];
+    program[0] = "read i31";
+    program[1] = "i0 := -2147483648";
+    program[255] = "write i31";
+    let marks: Vec<String> =
+        (3..256).map(|n| format!("{}: mark(rpl, i0, -2147483648)", n)).collect();
+    let marks: Vec<(&str, u8)> = marks.iter().map(|line| (&line[..], 0)).collect();
+    let made: Vec<(usize, &str)> = (3..256).map(|n| (n, longest[2])).collect();
+    assert_eq!(text(&changed(&program, &made)).len(), 8386);
+    assert_judged(&program, &marks, &made);
+}
+
+#[test]
+fn the_longest_programs_without_signs_are_written() {
     let mut longest = vec!["i31 := 2147483647 + 2147483647"; 256];
     longest[0] = "read i31";
     longest[255] = "write i31";
@@ -1166,18 +1328,18 @@ fn refused_marks() -> Vec<(Vec<u8>, u8)> {
 }
 
 #[test]
-fn verdicts_under_256_or_new_text_under_8192_bytes_are_refused_1() {
+fn verdicts_under_256_or_new_text_under_8704_bytes_are_refused_1() {
     for marks in [&b""[..], b"4: mark(rpl, i2, 7)\n"] {
         for verdicts in [0, 1, 5, 255] {
             assert_eq!(number(P.as_bytes(), marks, [verdicts, TEXT_BYTES]), 1);
             assert_eq!(number(P.as_bytes(), marks, [verdicts, 10_000]), 1);
         }
-        for bytes in [0, 1, 100, 101, 7893, 8191] {
+        for bytes in [0, 1, 100, 101, 7893, 8191, 8192, 8193, 8401, 8448, 8703] {
             assert_eq!(number(P.as_bytes(), marks, [VERDICT_BYTES, bytes]), 1);
             assert_eq!(number(P.as_bytes(), marks, [1000, bytes]), 1);
             assert_eq!(number(P.as_bytes(), marks, [255, bytes]), 1);
         }
-        for room in [ROOM, [257, 8192], [256, 8193], [65_536, 65_536]] {
+        for room in [ROOM, [257, 8704], [256, 8705], [65_536, 65_536]] {
             assert_eq!(number(P.as_bytes(), marks, room), 0);
         }
     }
@@ -1189,12 +1351,12 @@ fn refusals_come_in_order_and_change_nothing_lent() {
     let lists = [vec![good], refused_marks()].concat();
     for (marks, of_marks) in &lists {
         assert_number(marks, *of_marks);
-        for room in [[255, 8192], [256, 8191], [0, 0]] {
+        for room in [[255, 8704], [256, 8703], [256, 8192], [0, 0]] {
             assert_eq!(number(P.as_bytes(), marks, room), 1);
         }
         for (program, of_program) in refused_programs() {
             assert_eq!(number(&program, marks, ROOM), of_program);
-            for room in [[255, 8192], [256, 8191], [0, 0]] {
+            for room in [[255, 8704], [256, 8703], [256, 8192], [0, 0]] {
                 assert_eq!(number(&program, marks, room), 1);
             }
         }

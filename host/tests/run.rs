@@ -242,6 +242,18 @@ fn the_text_ends_at_its_length() {
 
 #[test]
 fn the_longest_program_is_taken() {
+    let mut program = vec!["i31 := -2147483648 + -2147483648"; 256];
+    program[0] = "read i31";
+    program[255] = "write i31";
+    assert_eq!(program[1].len(), 32);
+    let program = text(&program);
+    assert_eq!(program.len(), 8401);
+    // -2147483648 twice is -2^32.
+    assert_eq!(run(&program, &given(), 5, 256), ended(0, 256));
+}
+
+#[test]
+fn the_longest_program_without_signs_is_taken() {
     let mut program = vec!["i31 := 2147483647 + 2147483647"; 256];
     program[0] = "read i31";
     program[255] = "write i31";
@@ -369,13 +381,143 @@ fn strings_of_thousands_of_digits_are_refused_2() {
 fn other_spellings_of_numbers_are_refused_2() {
     #[rustfmt::skip]
     let wrong = [
-        "00", "01", "007", "0000000000", "02147483647", "-0", "-1", "+1", "1_000", "1,000", "1.0",
+        "00", "01", "007", "0000000000", "02147483647", "-0", "+1", "1_000", "1,000", "1.0",
         "0x10", "1e3", "1 0", " 1", "1 ", "٣", "a", "",
     ];
     for number in wrong {
         assert_number_at(&CONSTANT_PLACES, "C", number, 2);
         assert_number_at(&TARGET_PLACES, "T", number, 2);
     }
+}
+
+#[test]
+fn constants_down_to_the_least_are_taken() {
+    #[rustfmt::skip]
+    let constants = [
+        "-1", "-2", "-9", "-10", "-40", "-99", "-100", "-1000000000", "-2147483639", "-2147483640",
+        "-2147483647", "-2147483648",
+    ];
+    for constant in constants {
+        assert_number_at(&CONSTANT_PLACES, "C", constant, 0);
+        let expected = constant.parse().unwrap();
+        let answer = run_lines(&["read i0", &format!("i0 := {}", constant), "write i0"], 5, 9);
+        assert_eq!(answer, ended(expected, 3));
+        // An input of these bits equals it.
+        let equal = format!("i0 := {} = i0", constant);
+        let answer = run_lines(&["read i0", &equal, "write i0"], expected as u32, 9);
+        assert_eq!(answer, ended(1, 3));
+    }
+}
+
+#[test]
+fn constants_under_the_least_are_refused_2() {
+    let wrong = [
+        "-2147483649",
+        "-2147483650",
+        "-2147483658",
+        "-2999999999",
+        "-3000000000",
+        "-4294967295",
+        "-4294967296",
+        "-4294967297",
+        "-4294967336",
+        "-9999999999",
+        "-10000000000",
+        "-21474836480",
+        "-21474836481",
+        "-21474836470",
+        "-9223372036854775808",
+        "-18446744073709551615",
+        "-18446744073709551616",
+        "-18446744073709551617",
+        "-340282366920938463463374607431768211457",
+    ];
+    for constant in wrong {
+        assert_number_at(&CONSTANT_PLACES, "C", constant, 2);
+    }
+    for digits in [11, 20, 21, 40, 1000, 100_000] {
+        for digit in ["0", "1", "9"] {
+            assert_number_at(&CONSTANT_PLACES, "C", &format!("-{}", digit.repeat(digits)), 2);
+        }
+    }
+}
+
+#[test]
+fn other_signs_are_refused_2() {
+    #[rustfmt::skip]
+    let wrong = [
+        "-0", "-00", "-01", "-007", "-0000000000", "-02147483648", "--1", "---1", "- 40", "-  40",
+        "-\t40", "+1", "+0", "+2147483647", "+-1", "-+1", "-", "--", "+", "1-", "-1-", "4-0", "-i0",
+        "-i", "-x", "-1_000", "-1,000", "-1.0", "-0x10", "-1e3", "-1 0", " -1", "-1 ", "-٣", "−1",
+        "(-1)", "~1", "!1", "-\0", "-\x001",
+    ];
+    for constant in wrong {
+        assert_number_at(&CONSTANT_PLACES, "C", constant, 2);
+    }
+    #[rustfmt::skip]
+    let right_sides = [
+        "i0 -40", "i0 --40", "i0 - - 40", "i0 - --40", "i0- 40", "i0-40", "i0- -40", "0 -40",
+        "-40 -40", "-1 -1", "-1 --1", "-1- -1", "-1 - -1 - -1", "-1 -", "-1 - ", "-1 - -",
+        "- 1 - 1", "i0 - -0", "-0 - i0", "i0 + -", "- + i0", "i0 - -i0", "-i0 - i0",
+    ];
+    for right in right_sides {
+        assert_number(&text(&["read i0", &format!("i1 := {}", right), "write i0"]), 2);
+    }
+}
+
+#[test]
+fn a_minus_before_a_constant_below_zero_is_taken() {
+    for (right, expected) in [
+        ("i0 - -40", 42),
+        ("-1 - -1", 0),
+        ("-40 - 2", -42),
+        ("-40", -40),
+        ("0 - 40", -40),
+        ("0 - -40", 40),
+        ("i0 * -1", -2),
+        ("-3 < -2", 1),
+        ("-2 < -3", 0),
+        ("-1 < 0", 1),
+        ("-1 = 1", 0),
+        ("0 - -2147483648", -2147483648),
+    ] {
+        let line = format!("i1 := {}", right);
+        assert_eq!(
+            run_lines(&["read i0", &line, "write i1"], 2, 3),
+            ended(expected, 3),
+            "{}",
+            line
+        );
+    }
+}
+
+#[test]
+fn input_2_less_minus_40_ends_with_42_after_3() {
+    let answer = run_lines(&["read i0", "i1 := i0 - -40", "write i1"], 2, 1_000_000);
+    assert_eq!(answer, ended(42, 3));
+}
+
+#[test]
+fn the_least_constant_is_below_the_largest_and_wraps() {
+    let program = [
+        "read i0",
+        "i1 := -2147483648 < 2147483647",
+        // -2147483648 - 1 is 2147483647.
+        "i2 := -2147483648 - 1",
+        "i3 := i1 + i2",
+        "write i3",
+    ];
+    assert_eq!(run_lines(&program, 2, 1_000_000), ended(-2147483648, 5));
+    let left = given_but(&[(0, 2), (1, 1), (2, 2147483647), (3, 1 << 31)]);
+    assert_eq!(run_lines(&program, 2, 4), spent(5, left));
+}
+
+#[test]
+fn targets_take_no_sign() {
+    for target in ["-0", "-1", "-2", "-3", "-4", "+2", "--2", "-", "-2147483648", "-4294967294"] {
+        assert_number_at(&TARGET_PLACES, "T", target, 2);
+    }
+    assert_number(&text(&["read i0", "if i0 goto -2 else 3", "write i0"]), 2);
 }
 
 /// A program with each kind of statement, and damaged forms of each of its lines.
@@ -408,7 +550,7 @@ const KINDS: [(&str, &[&str]); 6] = [
             "i2 := i1 +", "i2 := i1 + ", "i2 := + 7", "i2 :=  + 7", "i2 := i1 7", "i2 := i1  7",
             "i2 := i1+7", "i2 := i1 +7", "i2 := i1+ 7", "i2 := i1  + 7", "i2 := i1 +  7",
             "i2 := i1 + 7 ", "i2 := i1 + 7\t", "i2 := i1\t+ 7", "i2 := i1 ++ 7", "i2 := i1 + + 7",
-            "i2 := i1 + 7 + 1", "i2 := i1 + 7 +", "i2 := i1 + -7", "i2 := i1 <= 7", "i2 := i1 == 7",
+            "i2 := i1 + 7 + 1", "i2 := i1 + 7 +", "i2 := i1 + --7", "i2 := i1 <= 7", "i2 := i1 == 7",
             "i2 := i1 > 7", "i2 := i1 % 7", "i2 := i1 & 7", "i2 := i1 ^ 7", "i2 := i1 << 7",
             "i2 := i1 , 7", "i2 := i1 . 7", "i2 := i1 x 7", "i2 := i1 plus 7", "i2 : = i1 + 7",
             "i2 = i1 + 7", "i2 : i1 + 7", "i2 := i1 + 7\r", "i2 := i1 + 7\0", "i2 := i1 \0 7",
@@ -665,14 +807,11 @@ fn refusal_2_comes_before_3_4_and_5_whatever_the_line_order() {
 // Values
 
 /// Holds an operator to rows of left operand, right operand and value, once for each way to spell
-/// the operands: as variables, and as constants where they are in a constant's range.
+/// the operands: as variables and as constants.
 fn operator_gives(operator: &str, rows: &[(u32, u32, i32)]) {
     for &(a, b, expected) in rows {
         let values = given_but(&[(1, a), (2, b)]);
-        let spellings = |v: u32, variable: &str| match i32::try_from(v) {
-            Ok(constant) => vec![variable.to_string(), constant.to_string()],
-            Err(_) => vec![variable.to_string()],
-        };
+        let spellings = |v: u32, variable: &str| [variable.to_string(), (v as i32).to_string()];
         for left in spellings(a, "i1") {
             for right in spellings(b, "i2") {
                 // The last two write over an operand.
@@ -1027,7 +1166,7 @@ fn a_spent_run_sets_statement_and_values_and_keeps_the_rest() {
 #[test]
 fn refusals_print_their_words() {
     let words = [
-        (1, "table under 256 words, verdicts under 256 bytes or new text under 8,192 bytes"),
+        (1, "table under 256 words, verdicts under 256 bytes or new text under 8,704 bytes"),
         (15, "budget over 1,000,000"),
         (2, "some line isn't spelled as a statement, or the last lacks its byte 10"),
         (3, "under 2 or over 256 lines"),

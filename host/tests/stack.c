@@ -12,7 +12,7 @@
 #define ROOM ((size_t)4 << 20)
 #define PATTERN 0xa5
 
-static uint8_t program[8192], condition[1024], marks[8192];
+static uint8_t program[8704], condition[1024], marks[8704];
 static size_t program_len, condition_len, marks_len;
 static uint8_t number;
 
@@ -35,9 +35,9 @@ static void *tabulate(void *unused) {
 }
 
 static void *judge(void *unused) {
-    static uint8_t verdicts[256], text[8192];
+    static uint8_t verdicts[256], text[8704];
     static uint32_t count, accepted, bytes;
-    number = rewrites_judge(program, program_len, marks, marks_len, verdicts, 256, text, 8192, &count,
+    number = rewrites_judge(program, program_len, marks, marks_len, verdicts, 256, text, 8704, &count,
                             &accepted, &bytes);
     return unused;
 }

@@ -9,7 +9,7 @@ use std::ops::RangeInclusive;
 
 /// The columns of a statement's number and of its text.
 const NUMBER_COLUMNS: usize = 3;
-const STATEMENT_COLUMNS: usize = 30;
+const STATEMENT_COLUMNS: usize = 32;
 /// The columns before the marks of a row.
 const MARGIN: usize = NUMBER_COLUMNS + 2 + STATEMENT_COLUMNS + 2;
 /// The columns of a step's number.

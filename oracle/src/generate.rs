@@ -4,7 +4,7 @@ use crate::condition::LONGEST_TEXT;
 use crate::machine::{Values, LARGEST_BUDGET};
 use crate::marks::{Judge, Kind, Mark};
 use crate::program::{
-    Expression, Operand, Operator, Program, Statement, LARGEST, MOST_LINES, VARIABLES,
+    Expression, Operand, Operator, Program, Statement, LARGEST, LEAST, MOST_LINES, VARIABLES,
 };
 
 /// A source of random numbers (splitmix64).
@@ -150,7 +150,9 @@ impl Style {
     fn copies(&self, random: &mut Random, lines: &mut Vec<Statement>) {
         let copied: Vec<u8> = (0..random.between(1, 3)).map(|_| self.variable(random)).collect();
         for &x in &copied {
-            lines.push(Statement::Assign(x, Expression::Single(self.operand(random))));
+            let right = Expression::Single(self.operand(random));
+            let right = if random.chance(5) { written_otherwise(right) } else { right };
+            lines.push(Statement::Assign(x, right));
         }
         for _ in 0..random.between(0, 3) {
             let used = Operand::Variable(random.pick(&copied));
@@ -165,13 +167,33 @@ impl Style {
     }
 }
 
+/// A constant's bits, often those of one at an end of its range or near 0. Of three one is below zero.
 fn constant(random: &mut Random) -> u32 {
-    match random.below(8) {
-        0 => 0,
-        1 | 2 => 1,
-        3 => LARGEST,
-        4 => random.bits() as u32 & LARGEST,
+    match random.below(24) {
+        0 | 1 => 0,
+        2..=5 => 1,
+        6 | 7 => LARGEST,
+        8 | 9 => random.bits() as u32 & LARGEST,
+        10 | 11 => u32::MAX,
+        12 | 13 => LEAST,
+        14 | 15 => random.bits() as u32 | LEAST,
+        16 | 17 => u32::MAX - random.below(60) as u32,
         _ => random.below(20) as u32,
+    }
+}
+
+/// The other way to write a constant below zero: `0 - 40` for `-40`, and `-40` for `0 - 40`.
+fn written_otherwise(e: Expression) -> Expression {
+    match e {
+        Expression::Single(Operand::Constant(c)) => Expression::Pair(
+            Operand::Constant(0),
+            Operator::Minus,
+            Operand::Constant(c.wrapping_neg()),
+        ),
+        Expression::Pair(Operand::Constant(0), Operator::Minus, Operand::Constant(c)) => {
+            Expression::Single(Operand::Constant(c.wrapping_neg()))
+        }
+        _ => e,
     }
 }
 
@@ -273,6 +295,7 @@ fn variable_near(random: &mut Random, program: &Program) -> u8 {
 /// An expression, mostly one that the program holds or a variable of it.
 fn expression_near(random: &mut Random, program: &Program) -> Expression {
     match random.pick(program.statements()) {
+        Statement::Assign(_, right) if random.chance(10) => written_otherwise(right),
         Statement::Assign(_, right) if random.chance(80) => right,
         _ if random.chance(70) => {
             Expression::Single(Operand::Variable(variable_near(random, program)))
@@ -375,7 +398,8 @@ pub fn condition_of_length(random: &mut Random, program: &Program, length: usize
         text = match room {
             60.. => {
                 let x = random.between(10, 31);
-                pair(random, &text, &format!("stmt(i{x} := {LARGEST} * {LARGEST})"))
+                let c = Operand::Constant(random.pick(&[LARGEST, LEAST]));
+                pair(random, &text, &format!("stmt(i{x} := {c} * {c})"))
             }
             12.. => {
                 let number = LARGEST.to_string();
@@ -470,6 +494,13 @@ pub fn marks(random: &mut Random, program: &Program, count: usize) -> Vec<Mark> 
                 let number = random.pick(&lacking);
                 Some(any_mark(random, program, number))
             }
+            95 | 96 => match program.statement(somewhere) {
+                Some(&Statement::Assign(variable, e)) => {
+                    let kind = Kind::Remove(written_otherwise(e));
+                    Some(Mark { number: somewhere, variable, kind })
+                }
+                _ => None,
+            },
             _ => None,
         };
         list.push(mark.unwrap_or_else(|| any_mark(random, program, somewhere)));
@@ -515,6 +546,81 @@ fn many_digits(random: &mut Random, _: &[u8]) -> Vec<u8> {
     (0..random.between(11, 400)).map(|_| random.pick(b"0123456789")).collect()
 }
 
+/// A way to spell a number below zero, or its sign, that no text has.
+#[derive(Clone, Copy, Debug, PartialEq, Eq, PartialOrd, Ord)]
+pub enum WrongSign {
+    /// `-0`.
+    OfZero,
+    /// `-01`.
+    LeadingZero,
+    /// `--1`.
+    Twice,
+    /// `- 1`.
+    Apart,
+    /// `+1`.
+    Plus,
+    /// `-`.
+    Alone,
+    /// `1-`.
+    Behind,
+    /// `i0 -1`.
+    Unspaced,
+    /// `-2147483649`.
+    BelowLeast,
+    /// `-21474836480`.
+    DigitBehindLeast,
+    /// `-4294967296`.
+    Wrapping,
+}
+
+impl WrongSign {
+    pub const ALL: [WrongSign; 11] = [
+        WrongSign::OfZero,
+        WrongSign::LeadingZero,
+        WrongSign::Twice,
+        WrongSign::Apart,
+        WrongSign::Plus,
+        WrongSign::Alone,
+        WrongSign::Behind,
+        WrongSign::Unspaced,
+        WrongSign::BelowLeast,
+        WrongSign::DigitBehindLeast,
+        WrongSign::Wrapping,
+    ];
+
+    /// What it makes of a number of these digits.
+    fn spelled(self, digits: &str) -> String {
+        match self {
+            WrongSign::OfZero => "-0".to_string(),
+            WrongSign::LeadingZero => format!("-0{digits}"),
+            WrongSign::Twice => format!("--{digits}"),
+            WrongSign::Apart => format!("- {digits}"),
+            WrongSign::Plus => format!("+{digits}"),
+            WrongSign::Alone => "-".to_string(),
+            WrongSign::Behind => format!("{digits}-"),
+            WrongSign::Unspaced => format!("i0 -{digits}"),
+            WrongSign::BelowLeast => "-2147483649".to_string(),
+            WrongSign::DigitBehindLeast => "-21474836480".to_string(),
+            WrongSign::Wrapping => "-4294967296".to_string(),
+        }
+    }
+}
+
+/// Spells one of a text's constants and statement numbers in such a way; where it has none, one is put at its
+/// end.
+pub fn wrong_sign(random: &mut Random, sign: WrongSign, text: &mut Vec<u8>) {
+    let mut runs = digit_runs(text);
+    runs.retain(|&(begin, _)| begin == 0 || text[begin - 1] != b'i');
+    if runs.is_empty() {
+        text.extend(sign.spelled("7").bytes());
+        return;
+    }
+    let (begin, end) = random.pick(&runs);
+    let number = sign.spelled(&String::from_utf8_lossy(&text[begin..end]));
+    let is_signed = begin > 0 && text[begin - 1] == b'-';
+    text.splice(begin - usize::from(is_signed)..end, number.into_bytes());
+}
+
 /// A kind of damage to a text.
 #[derive(Clone, Copy, Debug, PartialEq, Eq, PartialOrd, Ord)]
 pub enum Damage {
@@ -527,6 +633,7 @@ pub enum Damage {
     CutEnd,
     DropLastByte,
     WrongNumber,
+    WrongSign,
     ManyDigits,
     EmptyLine,
     SwapLines,
@@ -538,7 +645,7 @@ pub enum Damage {
 }
 
 impl Damage {
-    pub const ALL: [Damage; 17] = [
+    pub const ALL: [Damage; 18] = [
         Damage::InsertByte,
         Damage::FlipBit,
         Damage::OverwriteByte,
@@ -548,6 +655,7 @@ impl Damage {
         Damage::CutEnd,
         Damage::DropLastByte,
         Damage::WrongNumber,
+        Damage::WrongSign,
         Damage::ManyDigits,
         Damage::EmptyLine,
         Damage::SwapLines,
@@ -611,6 +719,10 @@ pub fn damage_by(random: &mut Random, kind: Damage, text: &mut Vec<u8>) {
         Damage::CutEnd => text.truncate(at),
         Damage::DropLastByte => drop(text.pop()),
         Damage::WrongNumber => replace_number(random, text, wrong_number),
+        Damage::WrongSign => {
+            let sign = random.pick(&WrongSign::ALL);
+            wrong_sign(random, sign, text);
+        }
         Damage::ManyDigits => replace_number(random, text, many_digits),
         Damage::LongLine => {
             let long = if random.chance(2) { 70_000 } else { random.between(100, 3_000) };
@@ -645,14 +757,15 @@ fn soup(random: &mut Random, pieces: &[&str], most: usize) -> String {
 }
 
 #[rustfmt::skip]
-const STATEMENT_PIECES: [&str; 25] = [
+const STATEMENT_PIECES: [&str; 27] = [
     "skip", "read", "write", "if", "goto", "else", " ", " ", " ", ":=", ":", "=", "i", "i0", "i1",
-    "i31", "i32", "0", "2", "2147483647", "2147483648", "+", "-", "*", "<",
+    "i31", "i32", "0", "2", "2147483647", "2147483648", "+", "-", "*", "<", "-2", "-0",
 ];
 
 #[rustfmt::skip]
-const EXPRESSION_PIECES: [&str; 14] = [
+const EXPRESSION_PIECES: [&str; 20] = [
     "i0", "i31", "i32", "0", "7", "2147483647", "2147483648", " ", " + ", " - ", " * ", " < ", " = ", "-",
+    "-7", "-40", "-0", "-2147483648", "-2147483649", " - -",
 ];
 
 /// A program of three lines, the middle one of pieces of statements in any order, now and then a statement.
@@ -666,10 +779,10 @@ pub fn statement_soup(random: &mut Random) -> Vec<u8> {
 }
 
 #[rustfmt::skip]
-const CONDITION_PIECES: [&str; 37] = [
+const CONDITION_PIECES: [&str; 41] = [
     "true", "false", "entry", "exit", "node(", "stmt(", "def(", "use(", "trans(", "i0", "i31", "1",
     "skip", "i0 := 1", ")", ")", ")", "!", "(", " & ", " | ", "EX ", "AF ", "EG ", "AY ", "ER ",
-    "AM ", "E[", "A[", " U ", " W ", " S ", " B ", "]", "]", " ", "true",
+    "AM ", "E[", "A[", " U ", " W ", " S ", " B ", "]", "]", " ", "true", "-1", "-0", "i0 := -1", "-",
 ];
 
 /// Pieces of conditions in any order, now and then such that they spell one.
@@ -708,9 +821,9 @@ pub fn nested_condition(random: &mut Random) -> Vec<u8> {
 }
 
 #[rustfmt::skip]
-const MARK_PIECES: [&str; 20] = [
+const MARK_PIECES: [&str; 26] = [
     "1", "2", "0", "257", ":", " ", "mark", "(", "rm", "rpl", ",", ", ", "i0", "i1", "i32", "7",
-    " + ", "+", ")", "2147483648",
+    " + ", "+", ")", "2147483648", "-7", "-0", "-2147483648", "-2147483649", " - ", "-",
 ];
 
 /// A line of pieces of marks in any order, now and then a mark.

@@ -1,4 +1,4 @@
-//! A second implementation of shift program rewrites, written from their defining document alone.
+//! A second implementation of shift program rewrites, written from their defining documents alone.
 //!
 //! It serves as the oracle of tests: the same calls, the same refusal numbers and the same contents of the
 //! lent buffers, by other algorithms. `generate` makes the random cases, `folder` those of files. `tuned` has the calls once more, made to

@@ -12,7 +12,7 @@ pub const MOST_MARKS: usize = 256;
 
 /// The smallest buffers that may be lent, in bytes.
 pub const VERDICT_BYTES: usize = 256;
-pub const TEXT_BYTES: usize = 8_192;
+pub const TEXT_BYTES: usize = 8_704;
 
 #[derive(Clone, Copy, Debug, PartialEq, Eq)]
 pub enum Kind {

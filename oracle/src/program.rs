@@ -8,6 +8,9 @@ use std::fmt;
 /// The largest constant and the largest statement number that can be spelled.
 pub const LARGEST: u32 = 2_147_483_647;
 
+/// The bits of the least constant, -2147483648.
+pub const LEAST: u32 = i32::MIN as u32;
+
 /// The number of variables, `i0` to `i31`.
 pub const VARIABLES: u8 = 32;
 
@@ -17,6 +20,7 @@ pub const MOST_LINES: usize = 256;
 #[derive(Clone, Copy, Debug, PartialEq, Eq, Hash)]
 pub enum Operand {
     Variable(u8),
+    /// The 32 bits of a number from -2147483648 to 2147483647.
     Constant(u32),
 }
 
@@ -56,6 +60,12 @@ pub(crate) fn number(word: &[u8]) -> Option<u32> {
     Some(value).filter(|&value| value <= LARGEST)
 }
 
+/// A constant's bits; leading zeros and either sign pass here, also before a zero.
+fn constant(word: &[u8]) -> Option<u32> {
+    let value: i32 = std::str::from_utf8(word).ok()?.parse().ok()?;
+    Some(value as u32)
+}
+
 /// A variable, its number read as leniently as any.
 pub(crate) fn variable(word: &[u8]) -> Option<u8> {
     let value = number(word.strip_prefix(b"i")?)?;
@@ -63,7 +73,7 @@ pub(crate) fn variable(word: &[u8]) -> Option<u8> {
 }
 
 fn operand(word: &[u8]) -> Option<Operand> {
-    variable(word).map(Operand::Variable).or_else(|| number(word).map(Operand::Constant))
+    variable(word).map(Operand::Variable).or_else(|| constant(word).map(Operand::Constant))
 }
 
 fn operator(word: &[u8]) -> Option<Operator> {
@@ -228,7 +238,7 @@ impl fmt::Display for Operand {
     fn fmt(&self, f: &mut fmt::Formatter<'_>) -> fmt::Result {
         match self {
             Operand::Variable(x) => write!(f, "i{x}"),
-            Operand::Constant(c) => write!(f, "{c}"),
+            Operand::Constant(c) => write!(f, "{}", *c as i32),
         }
     }
 }

@@ -5,7 +5,7 @@ use Prim.Native.Nat.{ℕ, zero, suc, _≤_}
 use native.Mathlib.Omega.{arith}
 use lib.ListN.{length}
 use Rattle.lines.specs.Lines as lines
-use Rattle.tokens.specs.Parsing.{Parsed, found, after, afterOr, parseWord, digitOf, parseDigits, parseZero, parseNumber, parseVariable}
+use Rattle.tokens.specs.Parsing.{Parsed, found, after, afterOr, parseWord, digitOf, parseDigits, parseZero, parseNumber, parseNegative, parseConstant, parseVariable}
 use Rattle.statement_reader.specs.Parsing.{parseOperand, parseOperator, parseExpression}
 use Rattle.tokens.proofs.Parse.{after-inv, afterOr-inv}
 use Rattle.marks.specs.declared.Mark.{Mark}
@@ -16,7 +16,7 @@ use Rattle.marks.proofs.Spelling.{line-sound}
 
 -- the marks whose lines begin the text, at most n of them
 unfoldable pub parseMarks : ℕ → List ℕ → Parsed (List Mark)
-unfolding parseMarkLine parseMark parseTail parseFront parseExpression parseOperator parseOperand parseVariable parseNumber parseZero parseDigits digitOf parseWord
+unfolding parseMarkLine parseMark parseTail parseFront parseExpression parseOperator parseOperand parseVariable parseConstant parseNegative parseNumber parseZero parseDigits digitOf parseWord
 parseMarks zero t = found [] t
 parseMarks (suc n) t =
     afterOr (parseMarkLine t)

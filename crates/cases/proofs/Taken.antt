@@ -10,7 +10,7 @@ use Rattle.language.specs.declared.Operator.the-variants.{Add, Subtract}
 use Rattle.language.specs.declared.Expression.the-variants.{Single, Binary}
 use Rattle.language.specs.declared.Statement.{Statement}
 use Rattle.language.specs.declared.Statement.the-variants.{Read, Write, Assign, Branch}
-use Rattle.language.specs.Spelling.{digitsBy, digits, spellVariable, spellOperand, spellExpression, spell}
+use Rattle.language.specs.Spelling.{digitsBy, signedDigits, digits, spellVariable, spellOperand, spellExpression, spell}
 use Rattle.program.specs.Program.{at, InPlace, Targets, WellFormed, Taken}
 use Rattle.base.proofs.Bools.{last-or-below}
 use Rattle.cases.specs.Cases.{P-text}
@@ -46,5 +46,5 @@ P-well-formed = record {
 }
 
 pub P-taken : Taken P-text P-program
-unfolding P-text P-program lines.text spell spellExpression spellOperand spellVariable digits digitsBy
+unfolding P-text P-program lines.text spell spellExpression spellOperand spellVariable signedDigits digits digitsBy
 P-taken = record { lines = refl; program = P-well-formed }

@@ -8,7 +8,7 @@ use lib.Dec.{leb, ltb}
 use lib.ListN.{length, getD}
 use borrow.Author.Tests.{ltb-true, leb-true, lt-ltb}
 use Rattle.language.specs.declared.Statement.{Statement}
-use Rattle.tokens.specs.Parsing.{Parsed, found, misspelled, parseWord, digitOf, parseDigits, parseZero, parseNumber, parseVariable}
+use Rattle.tokens.specs.Parsing.{Parsed, found, misspelled, parseWord, digitOf, parseDigits, parseZero, parseNumber, parseNegative, parseConstant, parseVariable}
 use Rattle.statement_reader.specs.Parsing.{parseOperand, parseOperator, parseExpression, parseRead, parseWrite, parseSkip, parseAssign, parseBranch, parseAssignOrBranch, byFirst, parseStatement}
 use Rattle.program.specs.Program.{WellFormed}
 use Rattle.bits.specs.Row.{bit}
@@ -91,7 +91,7 @@ module _ (P : List Statement) (w : WellFormed P) where
   read-right t xs misspelled = false
 
   unfoldable pub right : List ℕ → List ℕ → Bool
-  unfolding read-right parseCondition parseBracketed parseBinary parseUnary parseLeaf parseOpening parseMiddle parsePrefix parseLetter byLetter parseAtom parseTrueOrTrans parseEntryOrExit parseTrans parseUse parseDef parseStmt parseNode parseEnded parseStatement byFirst parseAssignOrBranch parseBranch parseAssign parseSkip parseWrite parseRead parseExpression parseOperator parseOperand parseVariable parseNumber parseZero parseDigits digitOf parseWord
+  unfolding read-right parseCondition parseBracketed parseBinary parseUnary parseLeaf parseOpening parseMiddle parsePrefix parseLetter byLetter parseAtom parseTrueOrTrans parseEntryOrExit parseTrans parseUse parseDef parseStmt parseNode parseEnded parseStatement byFirst parseAssignOrBranch parseBranch parseAssign parseSkip parseWrite parseRead parseExpression parseOperator parseOperand parseVariable parseConstant parseNegative parseNumber parseZero parseDigits digitOf parseWord
   right t xs = read-right t xs (parseCondition (length t) t)
 
   pub right-tabulates : (t xs : List ℕ) → right t xs ≡ true → Tabulates P t xs

@@ -6,27 +6,24 @@ use Prim.Native.Nat.{ℕ, _+_, _^_, _≤_, _<_}
 use native.Mathlib.Omega.{arith}
 use lib.Dec.{eqb}
 use lib.ListN.{length, getD, length-append}
-use mir.Syntax.{w32}
-use mir.Val.{toZ}
-use Rattle.language.specs.Spelling.{variables, spellVariable, ValidVariable, spell, Valid}
+use Rattle.language.specs.Spelling.{variables, spellConstant, spellVariable, ValidVariable, spell, Valid}
 use Rattle.base.specs.Pick.{pick}
 use Rattle.language.specs.declared.Statement.{Statement}
-use Rattle.language.proofs.Lengths.{variable-most}
+use Rattle.language.proofs.Lengths.{constant-most, variable-most}
 use Rattle.program.specs.Program.{most, Targets}
-use Rattle.desk.specs.Columns.{statement-columns, padded, signedDigits}
+use Rattle.desk.specs.Columns.{statement-columns, padded}
 use Rattle.trace.specs.Trace.{stepHead}
-use Rattle.desk.proofs.Lengths.{signed-most}
 use Rattle.trace.proofs.Room.{text-most, head-most}
 use Rattle.trace.proofs.Series.{Parts, parts-most}
 use Rattle.comparison.specs.Lines.{pairText, difference, differences, pairLine}
 use Rattle.comparison.specs.Stepping.{pair-room, line-room}
 
-pub pair-length : (x v w : ℕ) → length (pairText x v w) ≡ 2 + (length (spellVariable x) + (1 + (length (signedDigits (toZ w32 v)) + (1 + length (signedDigits (toZ w32 w))))))
+pub pair-length : (x v w : ℕ) → length (pairText x v w) ≡ 2 + (length (spellVariable x) + (1 + (length (spellConstant v) + (1 + length (spellConstant w)))))
 unfolding pairText
 pair-length x v w = simp length-append (omega arith)
 
 pub pair-most : (x v w : ℕ) → ValidVariable x → length (pairText x v w) ≤ pair-room
-pair-most x v w h = omega (arith, pair-length x v w, variable-most x h, signed-most v, signed-most w)
+pair-most x v w h = omega (arith, pair-length x v w, variable-most x h, constant-most v, constant-most w)
 
 difference-most : (x : ℕ) (vs ws : List ℕ) → ValidVariable x → length (difference x vs ws) ≤ pair-room
 unfolding difference

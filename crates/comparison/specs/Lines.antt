@@ -3,20 +3,18 @@ use mathlib.Core.List.{List, [], _∷_, _++_}
 use Prim.Native.Nat.{ℕ, zero, suc, _+_}
 use lib.Dec.{eqb}
 use lib.ListN.{getD}
-use mir.Syntax.{w32}
-use mir.Val.{toZ}
 use Rattle.base.specs.Bytes.{byte}
-use Rattle.language.specs.Spelling.{variables, spellVariable, spell}
+use Rattle.language.specs.Spelling.{variables, spellConstant, spellVariable, spell}
 use Rattle.base.specs.Pick.{pick}
 use Rattle.language.specs.declared.Statement.{Statement}
 use Rattle.program.specs.Program.{at}
 use Rattle.machine.specs.Machine.{State, before, ended, perform, after}
-use Rattle.desk.specs.Columns.{statement-columns, spaces, padded, signedDigits}
+use Rattle.desk.specs.Columns.{statement-columns, spaces, padded}
 use Rattle.trace.specs.Trace.{stepHead, valuesIn}
 
 -- two spaces, the variable and its two values: `i2 7 0`
 unfoldable pub pairText : ℕ → ℕ → ℕ → List ℕ
-pairText x v w = spaces 2 ++ (spellVariable x ++ (byte " " ∷ (signedDigits (toZ w32 v) ++ (byte " " ∷ signedDigits (toZ w32 w)))))
+pairText x v w = spaces 2 ++ (spellVariable x ++ (byte " " ∷ (spellConstant v ++ (byte " " ∷ spellConstant w))))
 
 -- where its values differ
 unfoldable pub difference : ℕ → List ℕ → List ℕ → List ℕ

@@ -6,19 +6,19 @@ use mathlib.Core.Bool.{Bool, true, false}
 use Prim.Native.Nat.{ℕ, suc, _+_, _*_, _≤_, _<_}
 use lib.ListN.{length, take}
 use Rattle.language.specs.Spelling.{variables}
-use Rattle.language.specs.Room.{variable-room}
+use Rattle.language.specs.Room.{variable-room, constant-room}
 use Rattle.statement_writer.specs.Writing.{Put}
 use Rattle.language.specs.declared.Statement.{Statement}
 use Rattle.machine.specs.Machine.{Final, before, ended, after}
 use Rattle.lockstep.specs.Lockstep.{Together}
-use Rattle.desk.specs.Columns.{statement-columns, signed-room}
+use Rattle.desk.specs.Columns.{statement-columns}
 use Rattle.trace.specs.Stepping.{head-room}
 use Rattle.comparison.specs.Lines.{bothLines}
 use Rattle.comparison.specs.declared.Progress.{Progress}
 
 -- a variable and its two values have room in this many bytes, and every line in this many
 abbrev pub pair-room : ℕ
-pair-room = 2 + (variable-room + (1 + (signed-room + (1 + signed-room))))
+pair-room = 2 + (variable-room + (1 + (constant-room + (1 + constant-room))))
 
 abbrev pub pairs-room : ℕ
 pairs-room = variables * pair-room

@@ -8,8 +8,8 @@ ghost use Rattle.program.specs.Program.{most, Targets, WellFormed};
 ghost use Rattle.program.specs.Reading.{statements};
 ghost use Rattle.comparison.specs.Lines.{pairText, difference as differenceBytes, differences as differencesBytes, pairLine};
 ghost use Rattle.comparison.specs.Stepping.{pair-room, pairs-room, line-room, Stepped};
-use desk::columns::SIGNED_ROOM;
 use desk::columns::STATEMENT_COLUMNS;
+use language::CONSTANT_ROOM;
 use language::Statement;
 use language::VARIABLE_ROOM;
 use machine::Next;
@@ -18,7 +18,7 @@ use program::Program;
 use trace::HEAD_ROOM;
 
 // A variable and its two values have room in this many bytes, and a line in this many.
-const PAIR_ROOM: usize = 2 + VARIABLE_ROOM + 1 + SIGNED_ROOM + 1 + SIGNED_ROOM;
+const PAIR_ROOM: usize = 2 + VARIABLE_ROOM + 1 + CONSTANT_ROOM + 1 + CONSTANT_ROOM;
 
 pub const LINE_ROOM: usize = HEAD_ROOM + 2 + STATEMENT_COLUMNS + VALUES * PAIR_ROOM + 1;
 
@@ -30,9 +30,9 @@ fn pair(out: &mut [u8], at: usize, x: u8, v: u32, w: u32) -> usize
     let k1 = desk::columns::spaces(out, at, 2);
     let k2 = statement_writer::variable(out, k1, x);
     let k3 = statement_writer::byte(out, k2, b' ');
-    let k4 = desk::columns::signed(out, k3, machine::signed(v));
+    let k4 = statement_writer::constant(out, k3, v);
     let k5 = statement_writer::byte(out, k4, b' ');
-    desk::columns::signed(out, k5, machine::signed(w))
+    statement_writer::constant(out, k5, w)
 }
 
 fn difference(out: &mut [u8], at: usize, x: usize, a: &[u32; VALUES], b: &[u32; VALUES]) -> usize

@@ -1,21 +1,14 @@
 -- How long a column's text is. Assumes nothing.
-use mathlib.Core.Path.{_≡_, refl, _∙_}
+use mathlib.Core.Path.{_≡_, _∙_}
 use mathlib.Core.List.{List, [], _∷_, _++_}
-use mathlib.Core.Bool.{Bool, true, false}
-use Prim.Native.Nat.{ℕ, suc, _+_, _-_, _^_, _≤_, _<_}
+use Prim.Native.Nat.{ℕ, _+_, _-_, _≤_}
 use native.Mathlib.Omega.{arith}
-use lib.Dec.{ltb}
 use lib.ListN.{length, set, length-append, length-replicate, replicate-append-replicate}
 use lib.Seq.{sets}
-use lib.IntN.{ℤ, natAbs}
-use mir.Syntax.{w32}
-use mir.Val.{toZ}
-use borrow.Author.Tests.{ltb-true, ltb-false, lt-ltb, le-ltb}
 use Rattle.language.specs.Spelling.{digits}
-use Rattle.language.proofs.Lengths.{number-most}
 use Rattle.statement_writer.specs.Writing.{Put}
 use Rattle.statement_writer.proofs.Puts.{sets-append, put-then, room}
-use Rattle.desk.specs.Columns.{spaces, wide, padded, signMark, signedDigits, signed-room}
+use Rattle.desk.specs.Columns.{spaces, wide, padded}
 
 pub wide-length : (w n : ℕ) → length (wide w n) ≡ (w - length (digits n)) + length (digits n)
 unfolding wide
@@ -24,19 +17,6 @@ wide-length w n = simp (length-append, length-replicate)
 pub padded-length : (w : ℕ) (xs : List ℕ) → length (padded w xs) ≡ length xs + (w - length xs)
 unfolding padded
 padded-length w xs = simp (length-append, length-replicate)
-
-pub signed-length : (v : ℤ) → length (signedDigits v) ≡ length (signMark v) + length (digits (natAbs v))
-unfolding signedDigits
-signed-length v = length-append (signMark v) (digits (natAbs v))
-
--- 32 bits, as the number that they stand for, have at most ten digits and a sign
-pub signed-most : (v : ℕ) → length (signedDigits (toZ w32 v)) ≤ signed-room
-unfolding signedDigits
-signed-most v = go (ltb v (2 ^ 31)) refl
-  where
-    go : (b : Bool) → ltb v (2 ^ 31) ≡ b → length (signedDigits (toZ w32 v)) ≤ signed-room
-    go true e = let h = ltb-true v (2 ^ 31) e in rw (lt-ltb v (2 ^ 31) h) (omega (arith, number-most v (omega arith)))
-    go false e = let h = ltb-false v (2 ^ 31) e in rw (le-ltb v (2 ^ 31) h) (omega (arith, number-most (suc (2 ^ 32 - suc v)) (omega arith)))
 
 -- one space more
 pub spaces-more : (o : List ℕ) (at i : ℕ) → set (sets o at (spaces i)) (at + i) 32 ≡ sets o at (spaces (i + 1))

@@ -1,50 +1,45 @@
--- Signed values and their magnitudes. Assumes nothing.
-use mathlib.Core.Path.{_≡_, refl}
-use mathlib.Core.List.{_∷_}
+-- Signed values and their bits. Assumes nothing.
+use mathlib.Core.Path.{_≡_, refl, ap}
 use mathlib.Core.Bool.{Bool, true, false}
-use Prim.Native.Nat.{ℕ, suc, _+_}
+use Prim.Native.Nat.{ℕ, suc, _+_, _-_, _^_, _≤_, _<_}
 use native.Mathlib.Omega.{arith}
 use lib.Dec.{T}
-use lib.IntN.{ℤ, pos, negsuc, natAbs, _-ℤ_}
+use lib.IntN.{ℤ, pos, negsuc, natAbs, _+ℤ_}
 use lib.Signed.{ltZ, nonNeg}
 use mir.Syntax.{w32, w64}
-use mir.Val.{Fits, SFits, toZ, ofZ}
-use mir.Facts.{toZ-ofZ}
-use borrow.Author.Tests.{ltb-true}
-use Rattle.language.specs.Spelling.{digits}
-use Rattle.desk.specs.Columns.{signedDigits}
-
-pub opposite : (v : ℤ) → ltZ v (pos 0) ≡ true → pos 0 -ℤ v ≡ pos (natAbs v)
-opposite (pos n) e = absurd (omega (arith, ltb-true n 0 e))
-opposite (negsuc n) e = let z : 0 + suc n ≡ suc n = omega arith in rw z
+use mir.Val.{Fits, SFits, toZ}
+use borrow.Author.Tests.{ltb-true, lt-ltb, le-ltb}
 
 pub not-negative : (v : ℤ) → ltZ v (pos 0) ≡ false → T (nonNeg v)
 not-negative (pos n) e = tt
 not-negative (negsuc n) e = absurd (let z : _≡_ {A = Bool} true false = e in let y : _≡_ {A = ℕ} 0 1 = cc in omega arith)
 
--- a value's magnitude fits 32 bits
 pub magnitude-fits : (v : ℤ) → SFits w32 v → Fits w32 (natAbs v)
 magnitude-fits (pos n) f = record { fits = omega (arith, f .sfits) }
 magnitude-fits (negsuc n) f = record { fits = omega (arith, f .sfits) }
 
-pub opposite-fits : (v : ℤ) → SFits w32 v → SFits w64 (pos (natAbs v))
-opposite-fits (pos n) f = record { sfits = omega (arith, f .sfits) }
-opposite-fits (negsuc n) f = record { sfits = omega (arith, f .sfits) }
+-- a value that isn't negative is its bits
+pub own-bits : (v : ℤ) → SFits w32 v → ltZ v (pos 0) ≡ false → toZ w32 (natAbs v) ≡ v
+own-bits (pos n) f e = rw (lt-ltb n (2 ^ 31) (f .sfits))
+own-bits (negsuc n) f e = absurd (not-negative (negsuc n) e)
 
--- the sign and the digits; the code compares the value as it stores it
-negative-text : (v : ℤ) → ltZ v (pos 0) ≡ true → signedDigits v ≡ 45 ∷ digits (natAbs v)
-unfolding signedDigits
-negative-text (pos n) e = absurd (omega (arith, ltb-true n 0 e))
-negative-text (negsuc n) e = refl
+-- the bits of a negative one are its distance from 2 ^ 32
+abbrev pub raised : ℤ → ℕ
+raised v = 2 ^ 32 - natAbs v
 
-positive-text : (v : ℤ) → ltZ v (pos 0) ≡ false → signedDigits v ≡ digits (natAbs v)
-unfolding signedDigits
-positive-text (pos n) e = refl
-positive-text (negsuc n) e = absurd (let z : _≡_ {A = Bool} true false = e in let y : _≡_ {A = ℕ} 0 1 = cc in omega arith)
+pub raised-sum : (v : ℤ) → SFits w32 v → ltZ v (pos 0) ≡ true → v +ℤ pos 4294967296 ≡ pos (raised v)
+raised-sum (pos n) f e = absurd (omega (arith, ltb-true n 0 e))
+raised-sum (negsuc n) f e = rw (le-ltb 4294967296 (suc n) (omega (arith, f .sfits)))
 
-module _ (v : ℤ) (f : SFits w32 v) {m : ℕ} (is : m ≡ natAbs (toZ w32 (ofZ w32 v))) where
-  pub negative-mark : ltZ (toZ w32 (ofZ w32 v)) (pos 0) ≡ true → signedDigits v ≡ 45 ∷ digits m
-  negative-mark e = rw (is, toZ-ofZ {w = w32} f) (negative-text v (rw (toZ-ofZ {w = w32} f) at e))
+pub raised-wide : (v : ℤ) → SFits w64 (pos (raised v))
+raised-wide v = record { sfits = omega arith }
 
-  pub positive-mark : ltZ (toZ w32 (ofZ w32 v)) (pos 0) ≡ false → signedDigits v ≡ digits m
-  positive-mark e = rw (is, toZ-ofZ {w = w32} f) (positive-text v (rw (toZ-ofZ {w = w32} f) at e))
+pub raised-fits : (v : ℤ) → ltZ v (pos 0) ≡ true → Fits w32 (raised v)
+raised-fits (pos n) e = absurd (omega (arith, ltb-true n 0 e))
+raised-fits (negsuc n) e = record { fits = omega arith }
+
+pub raised-bits : (v : ℤ) → SFits w32 v → ltZ v (pos 0) ≡ true → toZ w32 (raised v) ≡ v
+raised-bits (pos n) f e = absurd (omega (arith, ltb-true n 0 e))
+raised-bits (negsuc n) f e =
+    let d : 2 ^ 32 - suc (2 ^ 32 - suc n) ≡ n = omega (arith, f .sfits) in
+    rw (le-ltb (2 ^ 32 - suc n) (2 ^ 31) (omega (arith, f .sfits)), d)

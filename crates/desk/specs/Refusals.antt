@@ -15,7 +15,7 @@ pub data Row : Type 0 where
 
 abbrev pub refusals : List Row
 refusals =
-    whole 1 "the host program: table under 256 words, verdicts under 256 bytes or new text under 8,192 bytes"
+    whole 1 "the host program: table under 256 words, verdicts under 256 bytes or new text under 8,704 bytes"
     ∷ whole 15 "the host program: budget over 1,000,000"
     ∷ onLine 2 "the author of the shift program: line " " isn't spelled as a statement, or lacks its byte 10"
     ∷ whole 3 "the author of the shift program: under 2 or over 256 lines"

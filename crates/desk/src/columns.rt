@@ -1,20 +1,18 @@
 // Columns: numbers, statements and values at a fixed width.
 ghost use mathlib.Core.Path.{_≡_};
 ghost use lib.ListN.{length};
-ghost use lib.IntN.{natAbs};
+ghost use mir.Syntax.{w32};
+ghost use mir.Val.{toZ};
 ghost use Prim.Native.Nat.{_≤_, _+_, _-_};
-ghost use Rattle.language.specs.Spelling.{digits, spell};
+ghost use Rattle.language.specs.Spelling.{digits, signedDigits, spell};
 ghost use Rattle.statement_writer.specs.Writing.{Put};
-ghost use Rattle.desk.specs.Columns.{spaces as blanks, wide, padded, signedDigits};
-use language::NUMBER_DIGITS;
+ghost use Rattle.desk.specs.Columns.{spaces as blanks, wide, padded};
 use language::Statement;
 
 // The columns of a statement's number, and of its text.
 pub const NUMBER_COLUMNS: usize = 3;
 
-pub const STATEMENT_COLUMNS: usize = 30;
-// A value of 32 bits with its sign has room in this many bytes.
-pub const SIGNED_ROOM: usize = 1 + NUMBER_DIGITS;
+pub const STATEMENT_COLUMNS: usize = 32;
 
 pub fn spaces(out: &mut [u8], at: usize, n: usize) -> usize
     requires { ⌜ at + n ≤ length (now out) ⌝ }
@@ -59,25 +57,21 @@ pub fn statement(out: &mut [u8], at: usize, w: usize, s: Statement) -> usize
     spaces(out, k, gap(w, k - at))
 }
 
-// The value without its sign.
-fn magnitude(v: i32) -> u32
-    ensures { λ r. ⌜ r ≡ natAbs v ⌝ }
+// The bits of a signed value.
+fn bits_of(v: i32) -> u32
+    ensures { λ r. ⌜ toZ w32 r ≡ v ⌝ }
 {
     if v < 0 {
-        (0 - (v as i64)) as u32
+        ((v as i64) + 4294967296) as u32
     } else {
         v as u32
     }
 }
 
-// A signed value, with `-` before its digits where it is negative.
+// A signed value, spelled as a constant is.
 pub fn signed(out: &mut [u8], at: usize, v: i32) -> usize
     requires { ⌜ at + length (signedDigits v) ≤ length (now out) ⌝ }
     ensures { λ r. ⌜ Put (now (out .entry)) at (signedDigits v) (now (out .exit)) r ⌝ }
 {
-    if v < 0 {
-        let k = statement_writer::byte(out, at, b'-');
-        return statement_writer::number(out, k, magnitude(v));
-    }
-    statement_writer::number(out, at, magnitude(v))
+    statement_writer::constant(out, at, bits_of(v))
 }

@@ -29,7 +29,7 @@ pub fn words(out: &mut [u8], at: usize, n: u8, line: u32) -> usize
             statement_writer::word(
                 out,
                 at,
-                b"the host program: table under 256 words, verdicts under 256 bytes or new text under 8,192 bytes",
+                b"the host program: table under 256 words, verdicts under 256 bytes or new text under 8,704 bytes",
             )
         }
         15 => statement_writer::word(out, at, b"the host program: budget over 1,000,000"),

@@ -2,11 +2,11 @@
 use mathlib.Core.Path.{_≡_, refl, ap, sym, _∙_}
 use mathlib.Core.List.{List, [], _∷_, _++_}
 use mathlib.Core.Bool.{Bool, true, false}
-use Prim.Native.Nat.{ℕ, zero, suc, _+_, _*_, _/_, _%_, _^_, _≤_, _<_}
+use Prim.Native.Nat.{ℕ, zero, suc, _+_, _-_, _*_, _/_, _%_, _^_, _≤_, _<_}
 use native.Mathlib.Omega.{arith}
 use lib.Dec.{ltb}
 use lib.ListN.{length, length-append}
-use borrow.Author.Tests.{ltb-true, ltb-false}
+use borrow.Author.Tests.{ltb-true, ltb-false, lt-ltb, le-ltb}
 use Rattle.language.specs.declared.Operand.{Operand}
 use Rattle.language.specs.declared.Operand.the-variants.{Variable, Constant}
 use Rattle.language.specs.declared.Operator.{Operator}
@@ -14,8 +14,8 @@ use Rattle.language.specs.declared.Expression.{Expression}
 use Rattle.language.specs.declared.Expression.the-variants.{Single, Binary}
 use Rattle.language.specs.declared.Statement.{Statement}
 use Rattle.language.specs.declared.Statement.the-variants.{Read, Write, Assign, Branch, Skip}
-use Rattle.language.specs.Spelling.{largest, digits, spellVariable, spellOperand, spellExpression, spell, ValidVariable, ValidOperand, ValidExpression, Valid}
-use Rattle.language.specs.Room.{number-digits, variable-digits, target-digits, variable-room, operand-room, expression-room, statement-room}
+use Rattle.language.specs.Spelling.{largest, digits, signedDigits, spellConstant, spellVariable, spellOperand, spellExpression, spell, ValidVariable, ValidOperand, ValidExpression, Valid}
+use Rattle.language.specs.Room.{number-digits, variable-digits, target-digits, variable-room, constant-room, operand-room, expression-room, statement-room}
 use Rattle.language.proofs.Digits.{digits-small, digits-next}
 
 -- a number below 10 ^ d has at most d digits
@@ -31,6 +31,15 @@ digits-length (suc (suc k)) n p h = go (ltb n 10) refl (digits-length (suc k) (n
 -- a number of 32 bits
 pub number-most : (n : ℕ) → n < 2 ^ 32 → length (digits n) ≤ number-digits
 number-most n h = digits-length number-digits n (omega arith) (omega arith)
+
+-- a constant has at most as many digits, and a sign
+pub constant-most : (n : ℕ) → length (spellConstant n) ≤ constant-room
+unfolding signedDigits
+constant-most n = go (ltb n (2 ^ 31)) refl
+  where
+    go : (b : Bool) → ltb n (2 ^ 31) ≡ b → length (spellConstant n) ≤ constant-room
+    go true e = let h = ltb-true n (2 ^ 31) e in rw (lt-ltb n (2 ^ 31) h) (omega (arith, number-most n (omega arith)))
+    go false e = let h = ltb-false n (2 ^ 31) e in rw (le-ltb n (2 ^ 31) h) (omega (arith, number-most (suc (2 ^ 32 - suc n)) (omega arith)))
 
 -- how long a text is, from its parts
 pub variable-length : (x : ℕ) → length (spellVariable x) ≡ 1 + length (digits x)
@@ -56,7 +65,7 @@ variable-most x h = omega (arith, variable-length x, digits-length variable-digi
 pub operand-most : (a : Operand) → ValidOperand a → length (spellOperand a) ≤ operand-room
 unfolding spellOperand
 operand-most (Variable x) v = omega (arith, variable-most x v)
-operand-most (Constant n) v = number-most n (omega arith)
+operand-most (Constant n) v = constant-most n
 
 pub expression-most : (e : Expression) → ValidExpression e → length (spellExpression e) ≤ expression-room
 unfolding spellExpression

@@ -1,7 +1,7 @@
 -- Room for the longest of what is spelled, in digits and in bytes: proofs/Lengths.antt shows that nothing is longer.
 use Prim.Native.Nat.{ℕ, _+_}
 
--- a number of 32 bits, and so a constant or a statement's number: `4294967295`
+-- a number of 32 bits, and so a statement's number or a constant without its sign: `4294967295`
 abbrev pub number-digits : ℕ
 number-digits = 10
 
@@ -13,12 +13,15 @@ variable-digits = 2
 abbrev pub target-digits : ℕ
 target-digits = 6
 
--- `i31`, `2147483647`, `2147483647 + 2147483647`, `i31 := 2147483647 + 2147483647`
+-- `i31`, `-2147483648`, `-2147483648 + -2147483648`, `i31 := -2147483648 + -2147483648`
 abbrev pub variable-room : ℕ
 variable-room = 1 + variable-digits
 
+abbrev pub constant-room : ℕ
+constant-room = 1 + number-digits
+
 abbrev pub operand-room : ℕ
-operand-room = number-digits
+operand-room = constant-room
 
 abbrev pub expression-room : ℕ
 expression-room = operand-room + (3 + operand-room)

@@ -1,7 +1,10 @@
--- How statements are spelled, and which are valid: document 01, "The statement language".
-use Prim.Native.Nat.{ℕ, zero, suc, _+_, _/_, _%_, _≤_, _<_}
+-- How statements are spelled, and which are valid: document 01, "The statement language", with document 02's constants below zero.
+use Prim.Native.Nat.{ℕ, zero, suc, _+_, _/_, _%_, _^_, _≤_, _<_}
 use mathlib.Core.List.{List, [], _∷_, _++_}
 use lib.Dec.{ltb}
+use lib.IntN.{ℤ, pos, negsuc, natAbs}
+use mir.Syntax.{w32}
+use mir.Val.{toZ}
 use Rattle.base.specs.Bytes.{byte, bytes}
 use Rattle.base.specs.Pick.{pick}
 use Rattle.language.specs.declared.Operand.{Operand}
@@ -17,7 +20,7 @@ use Rattle.language.specs.declared.Statement.the-variants.{Read, Write, 
 abbrev pub variables : ℕ
 variables = 32
 
--- "Constants and statement numbers are decimal, 0 to 2147483647"
+-- "statement numbers are decimal, 0 to 2147483647"
 abbrev pub largest : ℕ
 largest = 2147483647
 
@@ -32,12 +35,21 @@ digitsBy (suc fuel) n =
 unfoldable pub digits : ℕ → List ℕ
 digits n = digitsBy (suc n) n
 
--- a constant is its 32 bits
+-- a whole number in decimal, with `-` before the digits of one below zero
+abbrev pub signMark : ℤ → List ℕ
+signMark (pos n) = []
+signMark (negsuc n) = bytes "-"
+
+unfoldable pub signedDigits : ℤ → List ℕ
+signedDigits v = signMark v ++ digits (natAbs v)
+
+-- "Constants shall reach from -2147483648 to 2147483647, as `-40`" (document 02): a constant is its 32 bits, and spelled as the number that
+-- they stand for
 abbrev pub spellConstant : ℕ → List ℕ
-spellConstant n = digits n
+spellConstant n = signedDigits (toZ w32 n)
 
 abbrev pub ValidConstant : ℕ → Type 0
-ValidConstant n = n ≤ largest
+ValidConstant n = n < 2 ^ 32
 
 abbrev pub spellStatementNumber : ℕ → List ℕ
 spellStatementNumber n = digits n

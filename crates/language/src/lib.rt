@@ -2,10 +2,12 @@
 
 // Variables are i0 to i31.
 pub const VARIABLES: u32 = 32;
-// The largest constant and statement number.
+// The largest statement number, and the largest constant.
 pub const LARGEST: u64 = 2147483647;
-// A number of 32 bits has at most this many digits, and a variable's text this many bytes.
+// A number of 32 bits has at most this many digits, a constant's text this many bytes, and a variable's this many.
 pub const NUMBER_DIGITS: usize = 10;
+
+pub const CONSTANT_ROOM: usize = 1 + NUMBER_DIGITS;
 
 pub const VARIABLE_ROOM: usize = 3;
 

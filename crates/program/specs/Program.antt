@@ -29,9 +29,9 @@ most = 256
 abbrev pub Counted : List Statement → Type 0
 Counted P = (fewest ≤ length P) × (length P ≤ most)
 
--- a line has room in this many bytes with its byte 10, and so the text of every program in this many: "new text under 8,192 bytes"
+-- a line has room in this many bytes with its byte 10, and so the text of every program in this many: "the buffer for new text must have 8,704 bytes" (document 02)
 abbrev pub line-room : ℕ
-line-room = 32
+line-room = 34
 
 abbrev pub text-room : ℕ
 text-room = most * line-room

@@ -14,7 +14,7 @@ pub const FEWEST: usize = 2;
 
 pub const MOST: usize = 256;
 // A line has room in this many bytes with its byte 10, and every program's text in this many.
-const LINE_ROOM: usize = 32;
+const LINE_ROOM: usize = 34;
 
 pub const TEXT_ROOM: usize = MOST * LINE_ROOM;
 

@@ -4,24 +4,17 @@ use mathlib.Core.List.{List, [], _∷_, _++_}
 use Prim.Native.Nat.{ℕ, suc, _+_, _^_, _≤_, _<_}
 use lib.Dec.{eqb}
 use lib.ListN.{length, getD, drop, replicate}
-use mir.Syntax.{w32}
-use mir.Val.{toZ}
 use Rattle.lines.specs.Lines.{LineOf, NoLine}
-use Rattle.language.specs.Spelling.{variables, digits}
+use Rattle.language.specs.Spelling.{variables, digits, spellConstant}
 use Rattle.base.specs.Pick.{pick}
 use Rattle.tokens.specs.declared.NumberRead.{NumberRead}
 use Rattle.tokens.specs.declared.NumberRead.the-variants.{Found, Misspelled}
-use Rattle.desk.specs.Columns.{signedDigits}
 use Rattle.start.specs.declared.Answer.{Answer}
 use Rattle.start.specs.declared.Answer.the-variants.{Taken, Few, Many, Line}
 
--- 32 bits are spelled as the number that they stand for: `-7`
-abbrev pub spellValue : ℕ → List ℕ
-spellValue v = signedDigits (toZ w32 v)
-
--- line k, counted from 0: line 1 is the budget, 0 to 2147483647 without sign; each other is a value of 32 bits
+-- line k, counted from 0: line 1 is the budget, 0 to 2147483647 without sign; each other is a value, spelled as a constant
 abbrev pub spellLine : ℕ → ℕ → List ℕ
-spellLine k v = pick (eqb k 1) (digits v) (spellValue v)
+spellLine k v = pick (eqb k 1) (digits v) (spellConstant v)
 
 abbrev pub RightLine : ℕ → ℕ → Type 0
 RightLine k v = v < pick (eqb k 1) (2 ^ 31) (2 ^ 32)

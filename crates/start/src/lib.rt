@@ -5,7 +5,7 @@ ghost use lib.ListN.{length, getD, drop, replicate};
 ghost use Rattle.language.specs.Spelling.{variables};
 ghost use Rattle.tokens.specs.Parsing.{parsedNumber, numberEnd};
 ghost use Rattle.start.specs.Start.{StartRead, Nothing, LineRead, most};
-ghost use Rattle.start.specs.Parsing.{parseNegative, parseSigned, parseField, parseStartLine};
+ghost use Rattle.start.specs.Parsing.{parseField, parseStartLine};
 use machine::VALUES;
 use tokens::NumberRead;
 use tokens::WordRead;
@@ -31,37 +31,6 @@ pub struct Start {
     pub values: [u32; VALUES],
 }
 
-// The bits of the number whose digits follow a `-`.
-fn negative(s: &[u8], at: usize) -> NumberRead
-    ensures { λ r. ⌜ parsedNumber (now (s .entry)) r ≡ parseNegative (drop at (now (s .entry))) ⌝ }
-    ensures { λ r. ⌜ numberEnd r ≤ length (now (s .entry)) ⌝ }
-{
-    let NumberRead::Found(n, k) = tokens::number(s, at) else {
-        let WordRead::Found(j) = tokens::word(s, at, b"2147483648") else {
-            return NumberRead::Misspelled;
-        };
-        return NumberRead::Found(2147483648, j);
-    };
-    if n == 0 {
-        return NumberRead::Misspelled;
-    }
-    NumberRead::Found(4294967295 - n + 1, k)
-}
-
-// The bits of a whole number from -2147483648 to 2147483647.
-fn signed(s: &[u8], at: usize) -> NumberRead
-    ensures { λ r. ⌜ parsedNumber (now (s .entry)) r ≡ parseSigned (drop at (now (s .entry))) ⌝ }
-    ensures { λ r. ⌜ numberEnd r ≤ length (now (s .entry)) ⌝ }
-{
-    let NumberRead::Found(n, k) = tokens::number(s, at) else {
-        let WordRead::Found(j) = tokens::word(s, at, b"-") else {
-            return NumberRead::Misspelled;
-        };
-        return negative(s, j);
-    };
-    NumberRead::Found(n, k)
-}
-
 // The number that line k has, without its byte 10.
 fn field(s: &[u8], at: usize, k: usize) -> NumberRead
     ensures { λ r. ⌜ parsedNumber (now (s .entry)) r ≡ parseField k (drop at (now (s .entry))) ⌝ }
@@ -70,7 +39,7 @@ fn field(s: &[u8], at: usize, k: usize) -> NumberRead
     if k == 1 {
         return tokens::number(s, at);
     }
-    signed(s, at)
+    tokens::constant(s, at)
 }
 
 fn ended_field(s: &[u8], at: usize, k: usize) -> NumberRead

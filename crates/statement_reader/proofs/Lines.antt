@@ -16,7 +16,7 @@ use Rattle.language.specs.declared.Expression.the-variants.{Single, Binary}
 use Rattle.language.specs.declared.Statement.{Statement}
 use Rattle.language.specs.declared.Statement.the-variants.{Read, Write, Assign, Branch, Skip}
 use Rattle.language.specs.Spelling.{largest, digits, spellVariable, spellOperand, spellOperator, spellExpression, spell, ValidOperand, ValidExpression, Valid, read-word, write-word, becomes-word, if-word, goto-word, else-word, skip-word}
-use Rattle.tokens.specs.Parsing.{Parsed, found, misspelled, after, afterOr, where?, either, parseWord, digitOf, parseNumber, parseVariable}
+use Rattle.tokens.specs.Parsing.{Parsed, found, misspelled, after, afterOr, where?, either, parseWord, digitOf, parseNumber, parseConstant, parseVariable}
 use Rattle.base.specs.Pick.{pick}
 use Rattle.statement_reader.specs.Parsing.{parseOperand, parseOperator, parseExpression, parseRead, parseWrite, parseSkip, parseAssign, parseBranch, parseAssignOrBranch, byFirst, parseStatement, parseLine, parsedStatement, statementEnd}
 use lib.ListN.{length, getD, drop}
@@ -24,14 +24,15 @@ use Rattle.statement_reader.specs.Reading.{LineRead}
 use Rattle.statement_reader.specs.declared.StatementRead.{StatementRead}
 use Rattle.statement_reader.specs.declared.StatementRead.the-variants as statement
 use Rattle.tokens.proofs.Numbers.{NoDigit, number-sound, number-complete, variable-sound, variable-complete}
+use Rattle.tokens.proofs.Constants.{constant-sound, constant-complete}
 use Rattle.tokens.proofs.Steps.{at-byte}
 use Rattle.tokens.proofs.Parse.{after-inv, afterOr-inv, where-inv, either-inv, pick-inv, skip-sound}
 
 -- what is spelled is read
 pub operand-complete : (a : Operand) (rest : List ℕ) → ValidOperand a → NoDigit rest → parseOperand (spellOperand a ++ rest) ≡ found a rest
-unfolding parseOperand spellOperand spellVariable parseNumber digitOf
+unfolding parseOperand spellOperand spellVariable parseConstant parseNumber parseWord digitOf
 operand-complete (Variable x) rest p h = rw (variable-complete x rest p h)
-operand-complete (Constant n) rest p h = rw (number-complete n rest p h)
+operand-complete (Constant n) rest p h = rw (constant-complete n rest p h)
 
 operator-complete : (o : Operator) (l : List ℕ) → parseOperator (spellOperator o ∷ l) ≡ found o l
 unfolding parseOperator
@@ -106,11 +107,11 @@ line-unique s r t u v w e =
 pub operand-sound : (l : List ℕ) (a : Operand) (u : List ℕ) → parseOperand l ≡ found a u → (l ≡ spellOperand a ++ u) × ValidOperand a
 unfolding parseOperand spellOperand
 operand-sound l a u e =
-    either-inv (after (parseNumber l) (λ n t. found (Constant n) t)) (after (parseVariable l) (λ x t. found (Variable x) t)) e
-    (λ f. after-inv (parseNumber l) _ f λ n t e₁ f₁.
+    either-inv (after (parseConstant l) (λ n t. found (Constant n) t)) (after (parseVariable l) (λ x t. found (Variable x) t)) e
+    (λ f. after-inv (parseConstant l) _ f λ n t e₁ f₁.
     let p : Constant n ≡ a = cc in
     let q : t ≡ u = cc in
-    rw (← p, ← q) (number-sound l n t e₁))
+    rw (← p, ← q) (constant-sound l n t e₁))
     (λ f. after-inv (parseVariable l) _ f λ x t e₁ f₁.
     let p : Variable x ≡ a = cc in
     let q : t ≡ u = cc in

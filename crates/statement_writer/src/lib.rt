@@ -6,6 +6,7 @@ ghost use Prim.Native.Nat.{_≤_, _+_};
 ghost use Rattle.language.specs.Spelling.{digits, spellConstant, spellStatementNumber, spellVariable, spellOperand, spellOperator, spellExpression, spell};
 ghost use Rattle.statement_writer.specs.Writing.{Put};
 use language::Expression;
+use language::LARGEST;
 use language::Operand;
 use language::Operator;
 use language::Statement;
@@ -43,10 +44,15 @@ pub fn number(out: &mut [u8], at: usize, n: u32) -> usize
     }
 }
 
-fn constant(out: &mut [u8], at: usize, n: u32) -> usize
+// The number that the 32 bits stand for. One below zero is written from its bits: the least has no counterpart above.
+pub fn constant(out: &mut [u8], at: usize, n: u32) -> usize
     requires { ⌜ at + length (spellConstant n) ≤ length (now out) ⌝ }
     ensures { λ r. ⌜ Put (now (out .entry)) at (spellConstant n) (now (out .exit)) r ⌝ }
 {
+    if LARGEST < n as u64 {
+        let k = byte(out, at, b'-');
+        return number(out, k, 4294967295 - n + 1);
+    }
     number(out, at, n)
 }
 

@@ -1,3 +1,4 @@
 pub mod Steps
 pub mod Parse
 pub mod Numbers
+pub mod Constants

@@ -1,6 +1,6 @@
 -- A proof device: what each reader of words, numbers and variables finds at the front of a text, the readers' common language. It promises
--- nothing by itself: proofs/Numbers.antt holds it to the spelling, both ways round.
-use Prim.Native.Nat.{ℕ, zero, suc, _+_, _-_, _*_}
+-- nothing by itself: proofs/Numbers.antt and Constants.antt hold it to the spelling, both ways round.
+use Prim.Native.Nat.{ℕ, zero, suc, _+_, _-_, _*_, _^_}
 use mathlib.Core.List.{List, [], _∷_}
 use mathlib.Core.Bool.{Bool, true, false}
 use lib.Dec.{ltb, leb, eqb}
@@ -92,8 +92,19 @@ abbrev pub numberEnd : NumberRead → ℕ
 numberEnd (number.Found a k) = k
 numberEnd number.Misspelled = 0
 
-abbrev pub parseConstant : List ℕ → Parsed ℕ
-parseConstant l = parseNumber l
+-- the magnitude of the least constant, which is no number that stands without sign
+abbrev pub least-word : List ℕ
+least-word = bytes "2147483648"
+
+-- the 32 bits of a constant, after its `-`
+unfoldable pub parseNegative : List ℕ → Parsed ℕ
+parseNegative l =
+    afterOr (parseNumber l)
+    (λ n t. where? (ltb 0 n) (found (2 ^ 32 - n) t))
+    (after (parseWord least-word l) λ _ t. found (2 ^ 31) t)
+
+unfoldable pub parseConstant : List ℕ → Parsed ℕ
+parseConstant l = either (parseNumber l) (after (parseWord (bytes "-") l) λ _ t. parseNegative t)
 
 abbrev pub parseStatementNumber : List ℕ → Parsed ℕ
 parseStatementNumber l = parseNumber l

@@ -3,7 +3,7 @@ ghost use mathlib.Core.Path.{_≡_};
 ghost use lib.ListN.{length, drop};
 ghost use Prim.Native.Nat.{_≤_, _<_};
 ghost use Rattle.language.specs.Spelling.{largest};
-ghost use Rattle.tokens.specs.Parsing.{parseWord, parsedWord, wordEnd, digitOf, parseZero, parseDigits, parseNumber, parsedNumber, numberEnd, parseConstant, parseStatementNumber, parseVariable, parsedVariable, variableEnd};
+ghost use Rattle.tokens.specs.Parsing.{parseWord, parsedWord, wordEnd, digitOf, parseZero, parseDigits, parseNumber, parsedNumber, numberEnd, parseNegative, parseConstant, parseStatementNumber, parseVariable, parsedVariable, variableEnd};
 use language::LARGEST;
 use language::VARIABLES;
 
@@ -114,11 +114,35 @@ fn digits(s: &[u8], at: usize, first: u64) -> NumberRead
     NumberRead::Found(n as u32, k)
 }
 
+// The bits of the constant whose digits follow a `-`. The least one has no counterpart above zero.
+fn negative(s: &[u8], at: usize) -> NumberRead
+    ensures { λ r. ⌜ parsedNumber (now (s .entry)) r ≡ parseNegative (drop at (now (s .entry))) ⌝ }
+    ensures { λ r. ⌜ numberEnd r ≤ length (now (s .entry)) ⌝ }
+{
+    let NumberRead::Found(n, k) = number(s, at) else {
+        let WordRead::Found(j) = word(s, at, b"2147483648") else {
+            return NumberRead::Misspelled;
+        };
+        return NumberRead::Found(2147483648, j);
+    };
+    if n == 0 {
+        return NumberRead::Misspelled;
+    }
+    NumberRead::Found(4294967295 - n + 1, k)
+}
+
+// The bits of a constant. Its sign is looked for only where no digit stands.
 pub fn constant(s: &[u8], at: usize) -> NumberRead
     ensures { λ r. ⌜ parsedNumber (now (s .entry)) r ≡ parseConstant (drop at (now (s .entry))) ⌝ }
     ensures { λ r. ⌜ numberEnd r ≤ length (now (s .entry)) ⌝ }
 {
-    number(s, at)
+    let NumberRead::Found(n, k) = number(s, at) else {
+        let WordRead::Found(j) = word(s, at, b"-") else {
+            return NumberRead::Misspelled;
+        };
+        return negative(s, j);
+    };
+    NumberRead::Found(n, k)
 }
 
 pub fn statement_number(s: &[u8], at: usize) -> NumberRead

@@ -6,26 +6,24 @@ use Prim.Native.Nat.{ℕ, _+_, _^_, _≤_, _<_}
 use native.Mathlib.Omega.{arith}
 use lib.Dec.{eqb}
 use lib.ListN.{length, getD, length-append}
-use mir.Syntax.{w32}
-use mir.Val.{toZ}
-use Rattle.language.specs.Spelling.{variables, spellVariable, ValidVariable, spell, Valid}
+use Rattle.language.specs.Spelling.{variables, spellConstant, spellVariable, ValidVariable, spell, Valid}
 use Rattle.base.specs.Pick.{pick}
 use Rattle.language.specs.declared.Statement.{Statement}
-use Rattle.language.proofs.Lengths.{digits-length, number-most, variable-most}
+use Rattle.language.proofs.Lengths.{digits-length, number-most, constant-most, variable-most}
 use Rattle.program.specs.Program.{most, Targets}
-use Rattle.desk.specs.Columns.{number-columns, statement-columns, spaces, wide, padded, signedDigits}
+use Rattle.desk.specs.Columns.{number-columns, statement-columns, spaces, wide, padded}
 use Rattle.program.proofs.Lengths.{statement-short}
-use Rattle.desk.proofs.Lengths.{wide-length, padded-length, signed-most}
+use Rattle.desk.proofs.Lengths.{wide-length, padded-length}
 use Rattle.trace.specs.Trace.{valueText, change, changes, step-columns, stepHead, lineText}
 use Rattle.trace.specs.Stepping.{head-room, value-room, change-room, line-room}
 use Rattle.trace.proofs.Series.{Parts, parts-most}
 
-pub value-length : (x v : ℕ) → length (valueText x v) ≡ length (spellVariable x) + (3 + length (signedDigits (toZ w32 v)))
+pub value-length : (x v : ℕ) → length (valueText x v) ≡ length (spellVariable x) + (3 + length (spellConstant v))
 unfolding valueText
 value-length x v = simp length-append (omega arith)
 
 pub value-most : (x v : ℕ) → ValidVariable x → length (valueText x v) ≤ value-room
-value-most x v h = omega (arith, value-length x v, variable-most x h, signed-most v)
+value-most x v h = omega (arith, value-length x v, variable-most x h, constant-most v)
 
 change-most : (x : ℕ) (vs us : List ℕ) → ValidVariable x → length (change x vs us) ≤ change-room
 unfolding change

@@ -6,12 +6,12 @@ use mathlib.Core.Bool.{Bool, true, false}
 use Prim.Native.Nat.{ℕ, _+_, _*_, _≤_, _<_}
 use lib.ListN.{length}
 use Rattle.language.specs.Spelling.{variables}
-use Rattle.language.specs.Room.{number-digits, variable-room}
+use Rattle.language.specs.Room.{number-digits, variable-room, constant-room}
 use Rattle.statement_writer.specs.Writing.{Put}
 use Rattle.language.specs.declared.Statement.{Statement}
 use Rattle.machine.specs.Machine.{Final, before, after}
 use Rattle.machine.specs.Answer.{Ends}
-use Rattle.desk.specs.Columns.{number-columns, statement-columns, signed-room}
+use Rattle.desk.specs.Columns.{number-columns, statement-columns}
 use Rattle.trace.specs.Trace.{stepLines}
 use Rattle.trace.specs.declared.Progress.{Progress}
 
@@ -21,7 +21,7 @@ head-room = number-digits + (2 + (number-columns + (2 + statement-columns)))
 
 -- a value: the variable, ` = ` and the number; a changed one: two spaces more
 abbrev pub value-room : ℕ
-value-room = variable-room + (3 + signed-room)
+value-room = variable-room + (3 + constant-room)
 
 abbrev pub change-room : ℕ
 change-room = 2 + value-room

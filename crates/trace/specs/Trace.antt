@@ -3,19 +3,17 @@ use mathlib.Core.List.{List, [], _∷_, _++_}
 use Prim.Native.Nat.{ℕ, zero, suc, _+_}
 use lib.Dec.{eqb}
 use lib.ListN.{getD}
-use mir.Syntax.{w32}
-use mir.Val.{toZ}
 use Rattle.base.specs.Bytes.{bytes}
-use Rattle.language.specs.Spelling.{variables, spellVariable, spell}
+use Rattle.language.specs.Spelling.{variables, spellConstant, spellVariable, spell}
 use Rattle.base.specs.Pick.{pick}
 use Rattle.language.specs.declared.Statement.{Statement}
 use Rattle.program.specs.Program.{at}
 use Rattle.machine.specs.Machine.{State, before, ended, perform, after}
-use Rattle.desk.specs.Columns.{number-columns, statement-columns, spaces, wide, padded, signedDigits}
+use Rattle.desk.specs.Columns.{number-columns, statement-columns, spaces, wide, padded}
 
 -- `i3 = 9`: variable x has the 32 bits v
 unfoldable pub valueText : ℕ → ℕ → List ℕ
-valueText x v = spellVariable x ++ (bytes " = " ++ signedDigits (toZ w32 v))
+valueText x v = spellVariable x ++ (bytes " = " ++ spellConstant v)
 
 -- two spaces and the value in us, where it differs from that in vs
 unfoldable pub change : ℕ → List ℕ → List ℕ → List ℕ

@@ -8,8 +8,8 @@ ghost use Rattle.program.specs.Reading.{statements};
 ghost use Rattle.trace.specs.Trace.{valueText as valueBytes, change as changeBytes, changes as changesBytes, stepHead, lineText};
 ghost use Rattle.trace.specs.Stepping.{Traced, change-room, changes-room, line-room};
 use desk::columns::NUMBER_COLUMNS;
-use desk::columns::SIGNED_ROOM;
 use desk::columns::STATEMENT_COLUMNS;
+use language::CONSTANT_ROOM;
 use language::NUMBER_DIGITS;
 use language::Statement;
 use language::VARIABLE_ROOM;
@@ -22,7 +22,7 @@ const STEP_COLUMNS: usize = 7;
 // What stands before the changed values has room in this many bytes: a step's number may have more digits than its columns.
 pub const HEAD_ROOM: usize = NUMBER_DIGITS + 2 + NUMBER_COLUMNS + 2 + STATEMENT_COLUMNS;
 // A value, a changed value, and a line.
-pub const VALUE_ROOM: usize = VARIABLE_ROOM + 3 + SIGNED_ROOM;
+pub const VALUE_ROOM: usize = VARIABLE_ROOM + 3 + CONSTANT_ROOM;
 
 const CHANGE_ROOM: usize = 2 + VALUE_ROOM;
 
@@ -35,7 +35,7 @@ pub fn value(out: &mut [u8], at: usize, x: u8, v: u32) -> usize
 {
     let k1 = statement_writer::variable(out, at, x);
     let k2 = statement_writer::word(out, k1, b" = ");
-    desk::columns::signed(out, k2, machine::signed(v))
+    statement_writer::constant(out, k2, v)
 }
 
 // Two spaces and the new value, where it differs from the old one.

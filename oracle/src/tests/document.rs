@@ -53,7 +53,7 @@ fn check_of_p() {
     let expected = "marks 5 accepted 1\n4 0\n3 14\n4 12\n6 13\n9 11\nread i0\ni1 := i0\ni2 := 7\n\
                     i3 := i1 + 7\nif i0 goto 6 else 8\ni0 := i0 - 1\nif i0 goto 4 else 8\nwrite i3\n";
     assert_eq!(check(P.as_bytes(), MARKS.as_bytes()), expected.as_bytes());
-    let (mut verdicts, mut text) = ([0; 256], [0; 8_192]);
+    let (mut verdicts, mut text) = ([0; 256], [0; 8_704]);
     let answer = judge(P.as_bytes(), MARKS.as_bytes(), &mut verdicts, &mut text);
     assert_eq!(answer, Ok((5, 1, P.len() as u32 - 1)));
 }
@@ -116,14 +116,14 @@ fn refusals_by_order() {
     );
     assert_eq!(table, [7; 300]);
 
-    let (mut verdicts, mut text) = ([7; 256], [7; 8_192]);
+    let (mut verdicts, mut text) = ([7; 256], [7; 8_704]);
     assert_eq!(judge(b"", b"x", &mut verdicts[..255], &mut text), Err(1));
-    assert_eq!(judge(b"", b"x", &mut verdicts, &mut text[..8_191]), Err(1));
+    assert_eq!(judge(b"", b"x", &mut verdicts, &mut text[..8_703]), Err(1));
     assert_eq!(judge(b"", b"x", &mut verdicts, &mut text), Err(3));
     assert_eq!(judge(P.as_bytes(), b"x", &mut verdicts, &mut text), Err(9));
     let many = "0: mark(rm, i0, 1)\n".repeat(257);
     assert_eq!(judge(P.as_bytes(), many.as_bytes(), &mut verdicts, &mut text), Err(10));
-    assert_eq!((verdicts, text), ([7; 256], [7; 8_192]));
+    assert_eq!((verdicts, text), ([7; 256], [7; 8_704]));
 
     assert_eq!(run(b"", [0; 32], 0, 1_000_001), Err(15));
     assert_eq!(run(b"", [0; 32], 0, 1_000_000), Err(3));

@@ -245,7 +245,7 @@ fn given_and_rewritten_program_agree_step_by_step() {
         let given = generate::program(random, size);
         let count = random.between(0, size.min(60));
         let list = generate::marks(random, &given, count);
-        let (mut verdicts, mut text) = ([99; 256], [99; 8_192]);
+        let (mut verdicts, mut text) = ([99; 256], [99; 8_704]);
         let answer = judge(&given.text(), &marks::text(&list), &mut verdicts, &mut text);
         let (_, accepted, bytes) = answer.expect("program and list are taken");
         assert!(verdicts[count..].iter().all(|&byte| byte == 99));
@@ -446,10 +446,10 @@ fn refused_calls_keep_what_is_lent() {
         }
         let list = marks::text(&generate::marks(random, &program, 3));
         let list = if random.chance(50) { list } else { generate::damage(random, &list) };
-        let (mut verdicts, mut new_text) = ([5; 256], [5; 8_192]);
+        let (mut verdicts, mut new_text) = ([5; 256], [5; 8_704]);
         match judge(&text, &list, &mut verdicts, &mut new_text) {
             Err(number) => {
-                assert_eq!((verdicts, new_text), ([5; 256], [5; 8_192]));
+                assert_eq!((verdicts, new_text), ([5; 256], [5; 8_704]));
                 let long = text.len().max(list.len()) > LARGEST_FILE;
                 let line = if long { String::new() } else { format!("refused {number}\n") };
                 assert_eq!(check(&text, &list), line.as_bytes());

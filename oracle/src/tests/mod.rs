@@ -1,5 +1,6 @@
-//! Cases from the defining document, decided open points, and random cross tests.
+//! Cases from the defining documents, decided open points, and random cross tests.
 
+mod constants;
 mod document;
 mod generated;
 mod naive;
@@ -47,7 +48,7 @@ fn whole(program: &str, text: &str) -> u64 {
 
 /// The verdicts of a list and the new text.
 fn judged(program: &str, list: &str) -> (Vec<u8>, String) {
-    let (mut verdicts, mut text) = ([99; 256], [99; 8_192]);
+    let (mut verdicts, mut text) = ([99; 256], [99; 8_704]);
     let answer = marks::judge(program.as_bytes(), list.as_bytes(), &mut verdicts, &mut text);
     let (count, accepted, bytes) = answer.unwrap_or_else(|number| panic!("refused {number}"));
     let verdicts = verdicts[..count as usize].to_vec();

@@ -77,8 +77,8 @@ fn tuned_judgements_are_the_plain_ones() {
             1..=3 => generate::damage(random, &list),
             _ => list,
         };
-        let (verdict_room, text_room) =
-            (random.pick(&[256, 256, 256, 300, 255]), random.pick(&[8_192, 8_192, 8_192, 8_191]));
+        let verdict_room = random.pick(&[256, 256, 256, 300, 255]);
+        let text_room = random.pick(&[8_704, 8_704, 8_704, 8_704, 8_703, 8_192]);
         let wanted = {
             let (mut verdicts, mut new) = (vec![7; verdict_room], vec![7; text_room]);
             let answer = judge(&text, &list, &mut verdicts, &mut new);

@@ -5,7 +5,7 @@ use super::read::{List, Program};
 use super::tabulate::Rows;
 use crate::condition::Direction;
 use crate::marks::{Kind, Mark, TEXT_BYTES, VERDICT_BYTES};
-use crate::program::{Expression, Operand, Operator, Statement};
+use crate::program::{Expression, Operand, Operator, Statement, LARGEST};
 
 /// What verdicts are found from.
 struct Judge {
@@ -163,6 +163,13 @@ impl Writer<'_> {
         self.word(&digits[start..]);
     }
 
+    /// A constant below zero, from its bits.
+    #[cold]
+    fn negative(&mut self, bits: u32) {
+        self.word(b"-");
+        self.number(bits.wrapping_neg());
+    }
+
     fn variable(&mut self, x: u8) {
         self.word(b"i");
         self.number(u32::from(x));
@@ -171,6 +178,7 @@ impl Writer<'_> {
     fn operand(&mut self, operand: Operand) {
         match operand {
             Operand::Variable(x) => self.variable(x),
+            Operand::Constant(c) if c > LARGEST => self.negative(c),
             Operand::Constant(c) => self.number(c),
         }
     }

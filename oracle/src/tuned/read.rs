@@ -1,7 +1,7 @@
 //! Readers of the one spelling of each thing.
 
 use crate::marks::{Kind, Mark, MOST_MARKS};
-use crate::program::{Expression, Operand, Operator, Statement, LARGEST, MOST_LINES};
+use crate::program::{Expression, Operand, Operator, Statement, LARGEST, LEAST, MOST_LINES};
 
 pub struct Cursor<'a> {
     text: &'a [u8],
@@ -53,6 +53,11 @@ impl<'a> Cursor<'a> {
     }
 
     pub fn number(&mut self) -> Option<u32> {
+        self.number_up_to(LARGEST)
+    }
+
+    #[inline(always)]
+    fn number_up_to(&mut self, most: u32) -> Option<u32> {
         let mut value = u64::from(self.digit()?);
         self.pass();
         if value == 0 {
@@ -60,12 +65,19 @@ impl<'a> Cursor<'a> {
         }
         while let Some(digit) = self.digit() {
             value = 10 * value + u64::from(digit);
-            if value > u64::from(LARGEST) {
+            if value > u64::from(most) {
                 return None;
             }
             self.pass();
         }
         Some(value as u32)
+    }
+
+    /// A constant below zero, as its bits. It is tried only where no digit stands.
+    #[cold]
+    fn negative(&mut self) -> Option<u32> {
+        self.byte(b'-')?;
+        self.number_up_to(LEAST).filter(|&number| number != 0).map(u32::wrapping_neg)
     }
 
     pub fn variable(&mut self) -> Option<u8> {
@@ -85,7 +97,7 @@ impl<'a> Cursor<'a> {
         if self.peek() == b'i' {
             self.variable().map(Operand::Variable)
         } else {
-            self.number().map(Operand::Constant)
+            self.number().or_else(|| self.negative()).map(Operand::Constant)
         }
     }
 

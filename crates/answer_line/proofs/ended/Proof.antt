@@ -4,24 +4,23 @@ use mir.Syntax.{w32}
 use mir.Val.{ofZ}
 use mir.Facts.{toZ-ofZ}
 use borrow.Author.Needs.{needs}
-use Rattle.language.proofs.Lengths.{number-most}
+use Rattle.language.proofs.Lengths.{number-most, constant-most}
 use Rattle.statement_writer.proofs.Puts.{put-then}
-use Rattle.desk.proofs.Lengths.{signed-most}
 use Rattle.answer_line.specs.AnswerLine.{answerLine}
 use Rattle.answer_line.proofs.ended.Statement.{statement}
 use Rattle.answer_line.proofs.ended.Tie as tie
 
 signed-requires : tie.Need-signed-requires
-signed-requires c κs = let s = c .before .before .before .before .before .before .before in omega (arith, signed-most (ofZ w32 (s .args .v)))
+signed-requires c κs = let s = c .before .before .before .before .before .before .before in omega (arith, constant-most (ofZ w32 (s .args .v)))
 
 word-requires-2 : tie.Need-word-requires-2
-word-requires-2 c κs = let s = c .before .before .before .before .before .before .before .before .before .before .before .before in omega (arith, signed-most (ofZ w32 (s .args .v)))
+word-requires-2 c κs = let s = c .before .before .before .before .before .before .before .before .before .before .before .before in omega (arith, constant-most (ofZ w32 (s .args .v)))
 
 number-requires : tie.Need-number-requires
-number-requires c κs = let s = c .before .before .before .before .before .before .before .before .before .before .before .before .before .before .before .before in omega (arith, signed-most (ofZ w32 (s .args .v)), number-most (s .args .k) (search needs))
+number-requires c κs = let s = c .before .before .before .before .before .before .before .before .before .before .before .before .before .before .before .before in omega (arith, constant-most (ofZ w32 (s .args .v)), number-most (s .args .k) (search needs))
 
 byte-requires : tie.Need-byte-requires
-byte-requires c κs = let s = c .before .before .before .before .before .before .before .before .before .before .before .before .before .before .before .before .before .before .before .before in omega (arith, signed-most (ofZ w32 (s .args .v)), number-most (s .args .k) (search needs))
+byte-requires c κs = let s = c .before .before .before .before .before .before .before .before .before .before .before .before .before .before .before .before .before .before .before .before in omega (arith, constant-most (ofZ w32 (s .args .v)), number-most (s .args .k) (search needs))
 
 returns : tie.Need-returns
 unfolding answerLine
@@ -33,7 +32,7 @@ returns c =
     let w1 = c .before .before .before .before .before .before .before .before .before .before .before .before .before .before .before .before .before .before .before .word .ensures in
     let s = c .before .before .before .before .before .before .before .before .before .before .before .before .before .before .before .before .before .before .before .before .before .before .before in (
       put-then w1 (put-then (rw (toZ-ofZ {w = w32} (s .fits .v)) at (w2)) (put-then w3 (put-then w4 w5))),
-      omega (arith, w1 .after, w2 .after, w3 .after, w4 .after, w5 .after, signed-most (ofZ w32 (s .args .v)), number-most (s .args .k) (search needs)),
+      omega (arith, w1 .after, w2 .after, w3 .after, w4 .after, w5 .after, constant-most (ofZ w32 (s .args .v)), number-most (s .args .k) (search needs)),
     )
 
 pub ended-spec : {M : Type 1} → statement M

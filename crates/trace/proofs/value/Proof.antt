@@ -1,7 +1,6 @@
 -- `value` meets its contract: the variable, a word and the value. Assumes nothing.
 use native.Mathlib.Omega.{arith}
 use Rattle.statement_writer.proofs.Puts.{put-then}
-use Rattle.machine.proofs.Words.{stored-same}
 use Rattle.trace.specs.Trace.{valueText}
 use Rattle.trace.proofs.Room.{value-length}
 use borrow.Author.Needs.{needs}
@@ -16,19 +15,14 @@ word-requires c κs =
     let args = c .before .before .before .before .before .before .before .args in
     omega (arith, value-length (args .x) (args .v))
 
-signed-requires-2 : tie.Need-signed-requires-2
-signed-requires-2 c κs =
-    let args = c .before .before .before .before .before .before .before .before .before .before .before .before .args in
-    rw (stored-same (args .v) (search needs) (c .signed .ensures)) (omega (arith, value-length (args .x) (args .v)))
+constant-requires : tie.Need-constant-requires
+constant-requires c κs =
+    let args = c .before .before .before .before .before .before .before .before .before .before .before .args in
+    omega (arith, value-length (args .x) (args .v))
 
 returns : tie.Need-returns
 unfolding valueText
-returns c =
-    let args = c .before .before .before .before .before .before .before .before .before .before .before .before .before .before .before .args in
-    let variable = c .before .before .before .before .before .before .before .before .before .before .before .before .variable in
-    let word = c .before .before .before .before .before .before .before .word in
-    let signed = c .before .before .before .signed in
-    put-then (variable .ensures) (put-then (word .ensures) (rw (stored-same (args .v) (search needs) (signed .ensures)) at (c .before .before .signed2 .ensures)))
+returns c = put-then (c .before .before .before .before .before .before .before .before .before .before .before .variable .ensures) (put-then (c .before .before .before .before .before .before .word .ensures) (c .before .before .constant .ensures))
 
 pub value-spec : {M : Type 1} → statement M
 value-spec =
@@ -37,7 +31,6 @@ value-spec =
     variable-requires
     (λ c. search needs)
     word-requires
-    (λ c κs. search needs)
-    signed-requires-2
+    constant-requires
     (λ c. search needs)
     returns)

@@ -3,11 +3,10 @@ use mathlib.Core.Path.{_≡_, sym, ap, _∙_}
 use Prim.Native.Nat.{_+_, _-_, _^_}
 use native.Mathlib.Omega.{arith}
 use borrow.Author.Tests.{lt-ltb, le-ltb}
-use Rattle.tokens.specs.Parsing.{parsedWord, parsedNumber, wordEnd, numberEnd}
-use Rattle.start.specs.Parsing.{parseNegative}
+use Rattle.tokens.specs.Parsing.{parsedWord, parsedNumber, wordEnd, numberEnd, parseNegative}
 use borrow.Author.Needs.{needs}
-use Rattle.start.proofs.negative.Statement.{statement}
-use Rattle.start.proofs.negative.Tie as tie
+use Rattle.tokens.proofs.negative.Statement.{statement}
+use Rattle.tokens.proofs.negative.Tie as tie
 
 returns : tie.Need-returns
 unfolding parseNegative

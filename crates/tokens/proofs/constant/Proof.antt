@@ -1,14 +1,13 @@
--- `signed` meets its contract: at each return the readers that were called say what `parseSigned` finds. Assumes nothing.
+-- `constant` meets its contract: at each return the readers that were called say what `parseConstant` finds. Assumes nothing.
 use mathlib.Core.Path.{sym, ap, _∙_}
 use native.Mathlib.Omega.{arith}
-use Rattle.tokens.specs.Parsing.{parsedWord, parsedNumber, numberEnd}
-use Rattle.start.specs.Parsing.{parseSigned}
+use Rattle.tokens.specs.Parsing.{parsedWord, parsedNumber, numberEnd, parseConstant}
 use borrow.Author.Needs.{needs}
-use Rattle.start.proofs.signed.Statement.{statement}
-use Rattle.start.proofs.signed.Tie as tie
+use Rattle.tokens.proofs.constant.Statement.{statement}
+use Rattle.tokens.proofs.constant.Tie as tie
 
 returns : tie.Need-returns
-unfolding parseSigned
+unfolding parseConstant
 returns c =
     let p₁ = c .before .before .before .before in (
       rw (
@@ -19,7 +18,7 @@ returns c =
     )
 
 returns-2 : tie.Need-returns-2
-unfolding parseSigned
+unfolding parseConstant
 returns-2 c =
     let p₂ = c .before .before in
     let p₁ = p₂ .before .before .before .before in (
@@ -31,14 +30,14 @@ returns-2 c =
     )
 
 returns-3 : tie.Need-returns-3
-unfolding parseSigned
+unfolding parseConstant
 returns-3 c =
     let p₁ = c .before in
     let a = p₁ .before .before .number .ensures in
     (rw (sym (a .0) ∙ ap (parsedNumber _) (p₁ .n .given .1)), omega (arith, a .1, ap numberEnd (p₁ .n .given .1)))
 
-pub signed-spec : {M : Type 1} → statement M
-signed-spec =
+pub constant-spec : {M : Type 1} → statement M
+constant-spec =
     tie.close
     (tie.spec
     (λ c κs. search needs)
