@@ -6,11 +6,11 @@ use Prim.Native.Nat.{ℕ, _<_}
 use native.Mathlib.Omega.{arith}
 use borrow.Author.Tests.{eqb-true, eqb-false}
 use lib.Dec.{eqb}
-use lib.ListN.{length, getD, set, length-set, replicate, length-replicate, getD-replicate}
+use lib.ListN.{length, getD, set, length-set}
 use lib.Seq.{getD-set-same, getD-set-other}
 use Rattle.language.specs.declared.Operand.{Operand}
 use Rattle.language.specs.declared.Statement.{Statement}
-use Rattle.language.specs.declared.Statement.the-variants.{Skip}
+use Rattle.codes.specs.Codes.{code-words}
 use Rattle.codes.proofs.Words.{words-unique}
 use Rattle.bits.specs.Row.{member, ZeroRows}
 use Rattle.labelling.specs.Labels.{Labelled}
@@ -21,14 +21,12 @@ use Rattle.marks.specs.declared.Mark.{Mark}
 use Rattle.marks.specs.declared.Mark.the-variants.{Rm, Rpl}
 use Rattle.lockstep.specs.Rules.{published, unneeded, copiedBefore}
 use Rattle.published_rows.specs.Rows.{RowFor}
-use Rattle.published_rows.specs.Memory.{keyOf, keyWords, slots, Unused, Remembers}
+use Rattle.published_rows.specs.Memory.{keyOf, keyWords, slots, Remembers}
 
-pub unused : (ws : List ℕ) → ws ≡ keyWords Skip → Unused (replicate slots ws)
-unused ws e = record { many = length-replicate slots ws; empty = λ i l. getD-replicate slots i ws [] l ∙ e }
-
-key-some : (m : Mark) → keyOf m ≡ Skip → ⊥
-key-some (Rm n x e) z = let z : _≡_ {A = ℕ} 0 1 = cc in omega arith
-key-some (Rpl n x a) z = let z : _≡_ {A = ℕ} 0 1 = cc in omega arith
+-- a key's first number isn't 0
+key-some : (m : Mark) → getD (keyWords (keyOf m)) 0 0 ≡ 0 → ⊥
+key-some (Rm n x e) z = omega (arith, z)
+key-some (Rpl n x a) z = omega (arith, z)
 
 -- equal keys are those of equal conditions
 key-tells : (m o : Mark) → keyOf m ≡ keyOf o → published m ≡ published o
@@ -38,11 +36,11 @@ key-tells (Rpl n x a) (Rm n′ x′ e′) h = let z : _≡_ {A = ℕ} 0 1 = cc i
 key-tells (Rpl n x a) (Rpl n′ x′ a′) h = ap₂ (λ (y : ℕ) (b : Operand). copiedBefore y b) (cc) (cc)
 
 -- where no key is set nothing is remembered
-pub remembers-none : {P : List Statement} {keys memory : List (List ℕ)} → Unused keys → ZeroRows slots part-words memory → Remembers P keys memory
+pub remembers-none : {P : List Statement} {keys memory : List (List ℕ)} → ZeroRows slots code-words keys → ZeroRows slots part-words memory → Remembers P keys memory
 remembers-none k r = record {
   many-keys = k .many;
   many-rows = r .many;
-  right = λ i l m e. absurd (key-some m (words-unique (keyOf m) Skip (sym e ∙ k .empty i l)));
+  right = λ i l m e. absurd (key-some m (ap (λ (w : List ℕ). getD w 0 0) (sym e) ∙ k .zero i l .zero 0));
 }
 
 -- one row more

@@ -5,16 +5,16 @@ use Prim.Native.Nat.{ℕ, _<_}
 use lib.ListN.{length, getD}
 use Rattle.language.specs.declared.Expression.the-variants.{Single}
 use Rattle.language.specs.declared.Statement.{Statement}
-use Rattle.language.specs.declared.Statement.the-variants.{Read, Assign, Skip}
+use Rattle.language.specs.declared.Statement.the-variants.{Write, Assign}
 use Rattle.codes.specs.Codes.{statementCode, codeWords}
 use Rattle.table.specs.Known.{Known}
 use Rattle.marks.specs.declared.Mark.{Mark}
 use Rattle.marks.specs.declared.Mark.the-variants.{Rm, Rpl}
 use Rattle.published_rows.specs.Rows.{RowFor}
 
--- a statement for a mark's published condition: those of different conditions differ, and none is `skip`, whose code an empty slot has
+-- a statement for a mark's published condition: those of different conditions differ, and none has the code of zeros, as an empty slot has
 abbrev pub keyOf : Mark → Statement
-keyOf (Rm n x e) = Read x
+keyOf (Rm n x e) = Write x
 keyOf (Rpl n x a) = Assign x (Single a)
 
 abbrev pub keyWords : Statement → List ℕ
@@ -23,11 +23,6 @@ keyWords s = codeWords (statementCode s)
 -- the most rows that are remembered, the code's SLOTS
 abbrev pub slots : ℕ
 slots = 251
-
--- no key is set
-pub record Unused (keys : List (List ℕ)) : Type 0 where
-  pub many : length keys ≡ slots
-  pub empty : (i : ℕ) → i < slots → getD keys i [] ≡ keyWords Skip
 
 -- a row beside the key of a mark is that of its published condition
 pub record Remembers (P : List Statement) (keys memory : List (List ℕ)) : Type 0 where

@@ -4,15 +4,16 @@ ghost use mathlib.Core.List.{List};
 ghost use Prim.Native.Nat.{_<_};
 ghost use Rattle.language.specs.declared.Statement.{Statement};
 ghost use Rattle.bits.specs.Row.{Zeros, ZeroRows};
+ghost use Rattle.codes.specs.Codes.{code-words};
 ghost use Rattle.table.specs.Table.{part-words};
 ghost use Rattle.table.specs.Known.{Known, SomeKnown};
 ghost use Rattle.marks.specs.Marks.{ValidMark};
 ghost use Rattle.published.specs.Published.{published-room};
 ghost use Rattle.published_rows.specs.Rows.{published-words, SmallTaken, RowOf, RowFor};
-ghost use Rattle.published_rows.specs.Memory.{keyOf, slots, Unused, Remembering};
+ghost use Rattle.published_rows.specs.Memory.{keyOf, slots, Remembering};
 use codes::CODE_WORDS;
-use codes::Code;
 use language::Expression;
+use language::Operand;
 use language::Statement as Key;
 use marks::Mark;
 use published::PUBLISHED_ROOM;
@@ -83,10 +84,9 @@ const SLOTS: usize = 251;
 
 // Keys of no condition.
 pub fn blank_keys() -> [[u64; CODE_WORDS]; SLOTS]
-    ensures { λ r. ⌜ Unused r ⌝ }
+    ensures { λ r. ⌜ ZeroRows slots code-words r ⌝ }
 {
-    let empty = codes::words_of(codes::statement_code(Key::Skip));
-    [empty; SLOTS]
+    [[0; CODE_WORDS]; SLOTS]
 }
 
 pub fn blank_memory() -> [[u64; WORDS]; SLOTS]
@@ -100,21 +100,27 @@ fn key_of(m: Mark) -> Key
     ensures { λ r. ⌜ r ≡ keyOf m ⌝ }
 {
     match m {
-        Mark::Rm(_, x, _) => Key::Read(x),
+        Mark::Rm(_, x, _) => Key::Write(x),
         Mark::Rpl(_, x, a) => Key::Assign(x, Expression::Single(a)),
     }
 }
 
-// The slot of a key.
-fn slot_of(c: Code) -> usize
+// A number of the mark's published condition, by which the keys spread; two conditions may share one.
+fn number_of(m: Mark) -> u64 {
+    match m {
+        Mark::Rm(_, x, _) => (x as u64) + 128,
+        Mark::Rpl(_, x, a) => match a {
+            Operand::Variable(y) => (x as u64) + 32 + 128 * (y as u64),
+            Operand::Constant(c) => (x as u64) + 64 + 128 * (c as u64),
+        },
+    }
+}
+
+// The slot of the mark's key.
+fn slot_of(m: Mark) -> usize
     ensures { λ r. ⌜ r < slots ⌝ }
 {
-    let n = SLOTS as u64;
-    let kind = c.kind % n;
-    let first = c.first % n;
-    let second = c.second % n;
-    let third = c.third % n;
-    ((kind + 8 * first + 64 * second + 17 * third) % n) as usize
+    (number_of(m) % (SLOTS as u64)) as usize
 }
 
 // The same as `published_row`: equal conditions are labelled once, unless another takes the slot between.
@@ -132,7 +138,7 @@ pub fn remembered_row(
     ensures { λ r. ⌜ ((P : List Statement) → Known P n (now (rows .entry)) (now (codes .entry)) (now (flow .entry)) → RowFor P m r) × Remembering n (now (rows .entry)) (now (codes .entry)) (now (flow .entry)) (now (keys .exit)) (now (memory .exit)) ⌝ }
 {
     let key = codes::statement_code(key_of(m));
-    let slot = slot_of(key);
+    let slot = slot_of(m);
     if codes::same_words(key, &keys[slot]) {
         return memory[slot];
     }
