@@ -22,25 +22,25 @@ loop-holds : tie.Need-loop-holds Inv-loop μ-loop
 loop-holds c = none-written (spaced-parts (c .before .args .kept .now)) (c .before .pre)
 
 byte-requires : tie.Need-byte-requires Inv-loop μ-loop
-byte-requires c κs = omega (arith, part-room (spaced-parts (c .before .before .before .before .args .kept .now)) (c .before .before .loop .inv) (c .before .loop-test .taken))
+byte-requires c κs = omega (arith, part-room (spaced-parts (c .before .before .before .before .args .kept .now)) (c .before .before .loop .inv) (omega arith))
 
 constant-requires : tie.Need-constant-requires Inv-loop μ-loop
 constant-requires c κs =
     let ks = c .before .before .before .before .before .before .before .before .before .args .kept .now in
     let loop = c .before .before .before .before .before .before .before .loop in
     let space = c .before .before .before .before .byte .ensures in
-    omega (arith, space .after, put-length space, part-room (spaced-parts ks) (loop .inv) (c .before .before .before .before .before .before .loop-test .taken), constant-most (getD ks (loop .x) 0))
+    omega (arith, space .after, put-length space, part-room (spaced-parts ks) (loop .inv) (omega arith), constant-most (getD ks (loop .x) 0))
 
 loop-again : tie.Need-loop-again Inv-loop μ-loop
 loop-again c =
-    one-written (spaced-parts (c .before .before .before .before .before .before .before .before .before .before .before .before .args .kept .now)) (c .before .before .before .before .before .before .before .before .before .before .loop .inv) (c .before .before .before .before .before .before .before .before .before .loop-test .taken) (put-then (c .before .before .before .before .before .before .before .byte .ensures) (c .before .before .constant .ensures))
+    one-written (spaced-parts (c .before .before .before .before .before .before .before .before .before .before .before .before .args .kept .now)) (c .before .before .before .before .before .before .before .before .before .before .loop .inv) (omega arith) (put-then (c .before .before .before .before .before .before .before .byte .ensures) (c .before .before .constant .ensures))
 
 same-length : tie.Need-same-length Inv-loop μ-loop
 same-length c = put-length (c .before .loop .inv .put)
 
 returns : tie.Need-returns Inv-loop μ-loop
 returns c =
-    let all = all-written (c .before .loop .inv) (c .loop-test .left) in
+    let all = all-written (c .before .loop .inv) (omega arith) in
     (all, omega (arith, all .after, parts-most (spaced-parts (c .before .before .before .args .kept .now)) kept-count (omega arith)))
 
 pub spaced-spec : {M : Type 1} → statement M
