@@ -6,10 +6,13 @@
    - a program is misspelled exactly where a line of it is, and is written as it was read;
    - a sign stands before no zero, and the line without it is a statement too, but for the least
      constant's;
-   - a run that is spent goes on, and one that has ended stays so;
+   - a run that is spent goes on, and one that has ended stays so; what it keeps is what it had one
+     step before;
+   - `use` holds at the last statement of what is written and of what the unit keeps, i24 to i31;
    - `!` in front of a condition complements its row and keeps the others;
-   - a mark's verdict is that of its published condition's table;
-   - the rewritten program is taken, and both programs' runs agree.
+   - a mark's verdict is that of its published condition's table, and at `write` only what is written
+     is replaced;
+   - the rewritten program is taken, and both programs' runs agree, in all nine values where they end.
    `fuzz/run` builds it and runs it; `host/tests/fuzz.rs` runs it on the seeds. */
 #define _DEFAULT_SOURCE
 #include "rewrites.h"
@@ -31,6 +34,9 @@
 #define TABLE_WORDS 256
 #define VERDICT_BYTES 256
 #define TEXT_BYTES 8704
+#define VARIABLES 32
+#define FIRST_KEPT 24
+#define KEPT 8
 
 static const char P[] =
     "read i0\ni1 := i0\ni2 := 7\ni3 := i1 + i2\n"
@@ -98,11 +104,11 @@ static struct text put(struct region *r, const void *bytes, size_t length) {
 
 static struct region programs, others, conditions, tables, verdict_bytes, new_text;
 
-/* Out-parameters, with a kept word on both sides of each. */
-#define KEPT 0xa5c3e187u
+/* What out-parameters hold before a call, and the words on both sides of each. */
+#define UNSET 0xa5c3e187u
 
-static void keep(uint32_t *places, size_t count) {
-    for (size_t k = 0; k < count; k++) places[k] = KEPT;
+static void unset(uint32_t *places, size_t count) {
+    for (size_t k = 0; k < count; k++) places[k] = UNSET;
 }
 
 static size_t lines_of(struct text text) {
@@ -114,13 +120,13 @@ static size_t lines_of(struct text text) {
 /* Runs */
 
 struct run {
-    uint32_t ended, steps, statement, left[32];
+    uint32_t ended, steps, statement, left[VARIABLES], kept[KEPT];
     int32_t value;
 };
 
-static uint8_t run(struct text program, const uint32_t values[32], uint32_t input, uint32_t budget,
-                   struct run *answer) {
-    uint32_t places[7], left[34], given[32];
+static uint8_t run(struct text program, const uint32_t values[VARIABLES], uint32_t input,
+                   uint32_t budget, struct run *answer) {
+    uint32_t places[7], left[VARIABLES + 2], kept[KEPT + 2], given[VARIABLES];
     union {
         uint32_t word;
         int32_t value;
@@ -128,25 +134,29 @@ static uint8_t run(struct text program, const uint32_t values[32], uint32_t inpu
     uint8_t number;
 
     memcpy(given, values, sizeof given);
-    keep(places, 7);
-    keep(left, 34);
-    value.word = KEPT;
+    unset(places, 7);
+    unset(left, VARIABLES + 2);
+    unset(kept, KEPT + 2);
+    value.word = UNSET;
     number = rewrites_run(program.bytes, program.length, values, input, budget, &places[1],
-                          &value.value, &places[3], &places[5], left + 1);
+                          &value.value, &places[3], &places[5], left + 1, kept + 1);
     REQUIRE(memcmp(given, values, sizeof given) == 0);
-    for (size_t k = 0; k < 7; k += 2) REQUIRE(places[k] == KEPT);
-    REQUIRE(left[0] == KEPT && left[33] == KEPT);
+    for (size_t k = 0; k < 7; k += 2) REQUIRE(places[k] == UNSET);
+    REQUIRE(left[0] == UNSET && left[VARIABLES + 1] == UNSET);
+    REQUIRE(kept[0] == UNSET && kept[KEPT + 1] == UNSET);
     if (number != 0 || places[1] == 1)
-        for (size_t k = 1; k < 33; k++) REQUIRE(left[k] == KEPT);
+        for (size_t k = 1; k <= VARIABLES; k++) REQUIRE(left[k] == UNSET);
+    if (number != 0 || places[1] == 0)
+        for (size_t k = 1; k <= KEPT; k++) REQUIRE(kept[k] == UNSET);
     if (number != 0) {
-        REQUIRE(places[1] == KEPT && value.word == KEPT && places[3] == KEPT && places[5] == KEPT);
+        REQUIRE(places[1] == UNSET && value.word == UNSET && places[3] == UNSET && places[5] == UNSET);
         return number;
     }
     REQUIRE(places[1] <= 1);
     if (places[1] == 1) {
-        REQUIRE(places[5] == KEPT && places[3] >= 2 && places[3] <= budget);
+        REQUIRE(places[5] == UNSET && places[3] >= 2 && places[3] <= budget);
     } else {
-        REQUIRE(value.word == KEPT && places[3] == KEPT);
+        REQUIRE(value.word == UNSET && places[3] == UNSET);
         REQUIRE(places[5] >= 1 && places[5] <= lines_of(program));
     }
     answer->ended = places[1];
@@ -154,17 +164,19 @@ static uint8_t run(struct text program, const uint32_t values[32], uint32_t inpu
     answer->steps = places[3];
     answer->statement = places[5];
     memcpy(answer->left, left + 1, sizeof answer->left);
+    memcpy(answer->kept, kept + 1, sizeof answer->kept);
     return 0;
 }
 
-/* Whether both runs have ended alike, or stand before one statement. */
+/* Whether both runs have ended alike, in all nine values, or stand before one statement. */
 static int agree(const struct run *a, const struct run *b) {
     if (a->ended != b->ended) return 0;
-    if (a->ended) return a->value == b->value && a->steps == b->steps;
-    return a->statement == b->statement;
+    if (!a->ended) return a->statement == b->statement;
+    return a->value == b->value && a->steps == b->steps &&
+           memcmp(a->kept, b->kept, sizeof a->kept) == 0;
 }
 
-static void check_runs(struct text program, const uint32_t values[32], uint32_t input,
+static void check_runs(struct text program, const uint32_t values[VARIABLES], uint32_t input,
                        uint32_t budget) {
     struct run before = {0}, after = {0};
 
@@ -178,6 +190,10 @@ static void check_runs(struct text program, const uint32_t values[32], uint32_t 
             break;
         }
         REQUIRE(!after.ended || after.steps == b);
+        if (after.ended) {
+            REQUIRE(memcmp(after.kept, before.left + FIRST_KEPT, sizeof after.kept) == 0);
+            met(OF_CALLS, 66 + (memcmp(after.kept, values + FIRST_KEPT, sizeof after.kept) == 0));
+        }
         before = after;
     }
     met(OF_CALLS, 64 + before.ended);
@@ -187,7 +203,7 @@ static void check_runs(struct text program, const uint32_t values[32], uint32_t 
 
 /* Whether a line, without its byte 10, is a statement: it is then one in a program of its own. */
 static int is_statement(struct text line) {
-    static const uint32_t values[32];
+    static const uint32_t values[VARIABLES];
     static uint8_t program[PAGE];
     struct run answer;
     size_t length = 8;
@@ -226,7 +242,7 @@ static void check_signs(struct text line) {
 
 /* The number by which a program is refused, or 0. */
 static uint8_t check_program(struct text program) {
-    static const uint32_t values[32];
+    static const uint32_t values[VARIABLES];
     struct run answer;
     uint8_t number = run(program, values, 0, 0, &answer);
     size_t start = 0, lines = lines_of(program);
@@ -268,10 +284,10 @@ static uint8_t tabulate(struct text program, struct text condition, size_t room,
     uint64_t *words = (uint64_t *)(void *)lend(&tables, room * sizeof *words);
     uint8_t number;
 
-    keep(places, 7);
+    unset(places, 7);
     number = rewrites_tabulate(program.bytes, program.length, condition.bytes, condition.length,
                                words, room, &places[1], &places[3], &places[5]);
-    for (size_t k = 0; k < 7; k++) REQUIRE((number == 0 && k % 2 == 1) || places[k] == KEPT);
+    for (size_t k = 0; k < 7; k++) REQUIRE((number == 0 && k % 2 == 1) || places[k] == UNSET);
     if (number == 0) {
         REQUIRE(places[1] >= 1 && places[1] <= 64);
         set(&tables, (uint8_t *)words, 4 * places[1] * sizeof *words);
@@ -330,6 +346,37 @@ static uint8_t check_condition(struct text program, struct text condition, uint8
     return 0;
 }
 
+/* Whether a program that is taken ends with `write` of this variable. */
+static int is_written(struct text program, unsigned variable) {
+    char line[32];
+    size_t length = (size_t)snprintf(line, sizeof line, "\nwrite i%u\n", variable);
+
+    return program.length > length &&
+           memcmp(program.bytes + program.length - length, line, length) == 0;
+}
+
+/* Whether a condition is true at the last statement of a program that is taken. */
+static int holds_at_write(struct text program, const char *condition) {
+    static struct table answer;
+
+    REQUIRE(tabulate(program, put(&others, condition, strlen(condition)), TABLE_WORDS, &answer) ==
+            0);
+    return holds(answer.words + 4 * (answer.parts - 1), lines_of(program));
+}
+
+/* `use` of what the unit keeps, and of any variable, at the last statement. */
+static void check_use_at_write(struct text program, unsigned variable) {
+    static const char all_kept[] =
+        "(use(i24) & (use(i25) & (use(i26) & (use(i27) & "
+        "(use(i28) & (use(i29) & (use(i30) & use(i31))))))))";
+    char condition[32];
+    int is_kept = variable >= FIRST_KEPT && variable < FIRST_KEPT + KEPT;
+
+    REQUIRE(holds_at_write(program, all_kept));
+    snprintf(condition, sizeof condition, "use(i%u)", variable);
+    REQUIRE(holds_at_write(program, condition) == (is_kept || is_written(program, variable)));
+}
+
 /* Marks */
 
 struct judgement {
@@ -343,10 +390,10 @@ static uint8_t judge(struct text program, struct text marks, size_t verdict_room
     uint8_t *verdicts = lend(&verdict_bytes, verdict_room), *text = lend(&new_text, text_room);
     uint8_t number;
 
-    keep(places, 7);
+    unset(places, 7);
     number = rewrites_judge(program.bytes, program.length, marks.bytes, marks.length, verdicts,
                             verdict_room, text, text_room, &places[1], &places[3], &places[5]);
-    for (size_t k = 0; k < 7; k++) REQUIRE((number == 0 && k % 2 == 1) || places[k] == KEPT);
+    for (size_t k = 0; k < 7; k++) REQUIRE((number == 0 && k % 2 == 1) || places[k] == UNSET);
     if (number == 0) {
         REQUIRE(places[1] <= 256 && places[5] <= TEXT_BYTES);
         set(&verdict_bytes, verdicts, places[1]);
@@ -381,6 +428,15 @@ static int is_true(struct text program, const char *line, size_t n) {
     return holds(answer.words + 4 * (answer.parts - 1), n);
 }
 
+/* Whether a mark on `write` fits: it replaces the written variable by a variable. */
+static int fits_write(struct text program, const char *line) {
+    unsigned variable;
+    char by;
+
+    if (sscanf(line, "%*[0-9]: mark(rpl, i%u, %c", &variable, &by) != 2) return 0;
+    return by == 'i' && is_written(program, variable);
+}
+
 static void check_verdicts(struct text program, struct text marks, const struct judgement *answer) {
     static char line[128];
     size_t lines = lines_of(program), start = 0, accepted = 0;
@@ -406,6 +462,7 @@ static void check_verdicts(struct text program, struct text marks, const struct 
             REQUIRE(verdict == 12);
         } else {
             REQUIRE(verdict == 0 || verdict == 13 || verdict == 14);
+            if (n == lines) REQUIRE((verdict != 13) == fits_write(program, line));
             if (verdict != 13 && j < 40) REQUIRE(is_true(program, line, n) == (verdict == 0));
             if (verdict != 13) met_text(OF_MARKS, (uint8_t *)line, length);
             named[n] = 1;
@@ -415,7 +472,7 @@ static void check_verdicts(struct text program, struct text marks, const struct 
 }
 
 static void check_marks(struct text program, struct text marks, uint8_t refused,
-                        const uint32_t values[32], uint32_t input, uint32_t budget) {
+                        const uint32_t values[VARIABLES], uint32_t input, uint32_t budget) {
     static struct judgement answer, other;
     struct run given = {0}, made = {0};
     struct text rewritten;
@@ -480,7 +537,7 @@ int LLVMFuzzerInitialize(int *count, char ***arguments) {
 int LLVMFuzzerTestOneInput(const uint8_t *data, size_t size) {
     static const uint32_t edges[8] = {0, 1, 2, 0x7fffffff, 0x80000000, 0xffffffff, 0xfffffffe, 7};
     struct text program, condition, marks;
-    uint32_t values[32], input, budget, sum = 0;
+    uint32_t values[VARIABLES], input, budget, sum = 0;
     uint8_t refused;
 
     if (size > 16 * PAGE) return 0;
@@ -489,7 +546,7 @@ int LLVMFuzzerTestOneInput(const uint8_t *data, size_t size) {
     marks = cut(&data, &size);
     budget = size > 0 ? data[0] % 64 : 12;
     for (size_t k = 0; k < size; k++) sum = sum * 31 + data[k];
-    for (size_t k = 0; k < 32; k++) {
+    for (size_t k = 0; k < VARIABLES; k++) {
         uint32_t bits = (sum + (uint32_t)k) * 2654435761u;
         values[k] = bits & 1 ? edges[bits >> 29] : bits >> 3;
     }
@@ -497,7 +554,10 @@ int LLVMFuzzerTestOneInput(const uint8_t *data, size_t size) {
 
     program = put(&programs, program.bytes, program.length);
     refused = check_program(program);
-    if (refused == 0) check_runs(program, values, input, budget);
+    if (refused == 0) {
+        check_runs(program, values, input, budget);
+        check_use_at_write(program, sum % VARIABLES);
+    }
     condition = put(&conditions, condition.bytes, condition.length);
     check_condition(program, condition, refused);
     if (refused != 0) check_condition(put(&programs, P, strlen(P)), condition, 0);

@@ -25,10 +25,11 @@ extern "C" {
    Takes at most 64 KiB of stack.
 
    Returns 0, and sets
-   *ended = 1, *value and *steps, where the run ends within the budget: the value that `write`
-              wrote, signed, and the steps taken. *statement and left are kept.
+   *ended = 1, *value, *steps and kept, where the run ends within the budget: the value that `write`
+              wrote, signed, the steps taken, and the values of i24 to i31 in this order, which the
+              unit keeps for its next pass. *statement and left stay as they were.
    *ended = 0, *statement and left, where the budget is spent: the statement and the 32 values after
-              that many steps. *value and *steps are kept.
+              that many steps. *value, *steps and kept stay as they were.
 
    Returns the number of a refusal, and keeps all:
    15: the budget is over 1,000,000.
@@ -38,13 +39,15 @@ extern "C" {
     5: a target outside 2 to N, the count of statements. */
 uint8_t rewrites_run(const uint8_t *program, size_t program_len, const uint32_t values[32],
                      uint32_t input, uint32_t budget, uint32_t *ended, int32_t *value,
-                     uint32_t *steps, uint32_t *statement, uint32_t left[32]);
+                     uint32_t *steps, uint32_t *statement, uint32_t left[32], uint32_t kept[8]);
 
 /* Tabulates a condition over the statements of a program: fills the table with the statements at
    which each part of the condition is true. The parts are the condition's operators and atoms, 1 to
    64, counted at each occurrence, in the order in which their text ends; of those that end together
-   the inner comes first. So the last part is the whole condition. Takes at most 256 KiB of stack,
-   most where brackets stand within one another.
+   the inner comes first. So the last part is the whole condition. `use(X)` holds where X stands in
+   the right side, is tested or is written; for X from i24 to i31, which the unit keeps from one pass
+   to the next, it holds at `write` too. Takes at most 256 KiB of stack, most where brackets stand
+   within one another.
 
    Returns 0, and sets
    table      words 4k to 4k+3 for part k, counted from 0: bit b of word w of those four is
@@ -68,13 +71,14 @@ uint8_t rewrites_tabulate(const uint8_t *program, size_t program_len, const uint
    list has zero to 256 lines, each ended by byte 10: `n: mark(rm, X, E)` or `n: mark(rpl, X, A)`.
    rm  fits where statement n is `X := E`.
        Condition: `!EX E[!def(X) U use(X)]`. Made: `skip`.
-   rpl fits where n uses X, and A is a variable if n is an `if` or a `write`.
+   rpl fits where n uses X, and A is a variable if n is an `if` or a `write`; at `write` it fits only
+       for the X that is written.
        Condition: `AY A[((!def(X) & trans(A)) & !entry) B stmt(X := A)]`.
        Made: A for every use of X in n.
    Each mark is judged on the given program. Accepted marks are all made together, refused ones
-   aren't. The new program has the same line count. Started alike, it runs alike: to the same value in
-   the same steps, or spent at the same statement. The values left then may differ. Takes at most
-   128 KiB of stack.
+   aren't. The new program has the same line count. Started alike, it runs alike: to the same value and
+   the same kept values in the same steps, or spent at the same statement. The values left then may
+   differ. Takes at most 128 KiB of stack.
 
    Returns 0, and sets
    verdicts    byte j for line j, counted from 0: 0 for a mark that is accepted, else the first that

@@ -108,7 +108,7 @@ pub fn marks_for(program: &[u8]) -> Vec<u8> {
         copy.unwrap_or(Operand::Variable(31))
     };
     let mark = |(at, statement): (usize, &Statement)| {
-        let used = (0..32).find(|&x| statement.uses(x));
+        let used = (0..32).find(|&x| statement.shows(x));
         let (variable, kind) = match (*statement, used) {
             (Statement::Assign(x, e), None) => (x, Kind::Remove(e)),
             (Statement::Assign(x, e), _) if at % 2 == 0 => (x, Kind::Remove(e)),
@@ -125,7 +125,7 @@ pub fn marks_for(program: &[u8]) -> Vec<u8> {
 pub fn different_marks_for(program: &[u8]) -> Vec<u8> {
     let program = Program::read(program).expect("the program is taken");
     let mark = |(at, statement): (usize, &Statement)| {
-        let variable = (0..32).find(|&x| statement.uses(x))?;
+        let variable = (0..32).find(|&x| statement.shows(x))?;
         let a = match statement {
             Statement::Assign(..) => Operand::Constant(at as u32),
             _ => Operand::Variable((at / 8) as u8),

@@ -7,7 +7,7 @@ use crate::output::{Output, Unwritten};
 use crate::start::{self, Start};
 use crate::status::Status;
 use clap::Args;
-use rewrites::{Outcome, Refusal, VARIABLES};
+use rewrites::{Outcome, Refusal, KEPT, VARIABLES};
 use serde::Serialize;
 use std::path::PathBuf;
 
@@ -43,14 +43,16 @@ struct Answer {
 #[derive(Serialize)]
 #[serde(tag = "outcome", rename_all = "lowercase")]
 enum Ending {
-    Ended { value: i32, steps: u32 },
+    Ended { value: i32, steps: u32, kept: [i32; KEPT] },
     Spent { statement: u32, left: [i32; VARIABLES] },
 }
 
 impl From<Outcome> for Ending {
     fn from(outcome: Outcome) -> Ending {
         match outcome {
-            Outcome::Ended { value, steps } => Ending::Ended { value, steps },
+            Outcome::Ended { value, steps, kept } => {
+                Ending::Ended { value, steps, kept: kept.map(|value| value as i32) }
+            }
             Outcome::Spent { statement, values } => {
                 Ending::Spent { statement, left: values.map(|value| value as i32) }
             }
@@ -62,7 +64,10 @@ impl Ending {
     /// What the runner prints.
     fn text(&self) -> String {
         match self {
-            Ending::Ended { value, steps } => format!("ended {value} steps {steps}\n"),
+            Ending::Ended { value, steps, kept } => {
+                let kept = kept.map(|value| value.to_string()).join(" ");
+                format!("ended {value} steps {steps} kept {kept}\n")
+            }
             Ending::Spent { statement, left } => {
                 let mut text = format!("spent at {statement}\n");
                 for (x, value) in left.iter().enumerate() {

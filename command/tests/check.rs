@@ -219,6 +219,24 @@ fn constants_below_zero() {
     }
 }
 
+/// Marks on variables that the unit keeps: the text, and what is said of those that are refused.
+#[test]
+fn marks_on_what_is_kept() {
+    let hold = example("hold");
+    let expected = fs::read(hold.join("expected")).expect("a file is read");
+    let output = run_in(&hold, &["check", "--text", "."]);
+    assert_eq!((status(&output), &output.stdout), (0, &expected));
+    let explained = printed(&run_in(&hold, &["check", "--explain", "."]));
+    for words in [
+        ".: marks 14, accepted 3, no such statement 1, named before 1, doesn't fit 2, condition false 7\n",
+        "  line 2: 3: mark(rm, i26, i0): condition false at 3\n    \
+         condition !EX E[!def(i26) U use(i26)]\n",
+        "  line 8: 14: mark(rpl, i26, i0): doesn't fit: statement 14 is `write i3`\n",
+    ] {
+        assert!(explained.contains(words), "{explained}");
+    }
+}
+
 #[test]
 fn the_longest_report() {
     let longest = "i31 := -2147483648 + -2147483648\n".repeat(254);

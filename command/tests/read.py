@@ -14,7 +14,7 @@ MARK = {"line", "mark", "statement", "verdict", "name", "words", "condition"}
 TABULATE = {"condition", "statements", "parts", "satisfied", "first", "table"}
 ROW = {"part", "text", "satisfied", "statements"}
 START = {"input", "budget", "values", "outcome"}
-ENDED = START | {"value", "steps"}
+ENDED = START | {"value", "steps", "kept"}
 SPENT = START | {"statement", "left"}
 
 
@@ -74,7 +74,9 @@ def run(thing):
     assert len(thing["values"]) == 32 and all(map(whole, thing["values"]))
     if thing["outcome"] == "ended":
         has(thing, REPORT | ENDED)
-        return "ended {value} steps {steps}\n".format(**thing)
+        assert len(thing["kept"]) == 8 and all(map(whole, thing["kept"]))
+        kept = " ".join(map(str, thing["kept"]))
+        return "ended {value} steps {steps} kept ".format(**thing) + kept + "\n"
     has(thing, REPORT | SPENT)
     assert thing["outcome"] == "spent" and len(thing["left"]) == 32
     lines = ["i%d = %d\n" % (x, value) for x, value in enumerate(thing["left"])]

@@ -14,6 +14,7 @@ use coverage::Tally;
 use oracle::check::LARGEST_FILE;
 use oracle::generate::{self, Random};
 use oracle::{desk, folder as random_folder};
+use rewrites::{Outcome, FIRST_KEPT, KEPT, VARIABLES};
 use shell::{example, folder, printed, run_in, said, status, told_again};
 
 const CASES: u64 = 1_000;
@@ -26,6 +27,7 @@ fn random(case: u64) -> Random {
 fn runs_are_as_by_the_oracle() {
     let classes = ["ended", "spent", "start", "2", "3", "4", "5", "15"];
     let mut met = Tally::new("runs", classes);
+    let mut kept = Tally::new("kept values", ["zeros", "others"]);
     let (mut json, mut texts) = (Vec::new(), Vec::new());
     for case in 0..option("COMMAND_CASES", CASES) {
         let random = &mut random(case);
@@ -55,12 +57,16 @@ fn runs_are_as_by_the_oracle() {
                 assert_eq!(printed(&output), expected, "case {case}");
                 assert_eq!((status(&output), said(&output).as_str()), (0, ""), "case {case}");
                 met.met(if expected.starts_with("ended") { "ended" } else { "spent" });
+                if let Some((_, values)) = expected.split_once(" kept ") {
+                    kept.met(if values == "0 0 0 0 0 0 0 0\n" { "zeros" } else { "others" });
+                }
                 texts.push(expected);
             }
         }
     }
     assert_eq!(told_again(&json), texts);
     met.report();
+    kept.report();
 }
 
 /// Options stand in place of the start's numbers, and of a start that isn't there.
@@ -110,8 +116,8 @@ fn options_replace_the_start() {
 fn runs_of_an_example() {
     let p = example("p");
     for (words, expected) in [
-        (&["run", "."][..], "ended 9 steps 12\n"),
-        (&["run", ".", "--input", "0"], "ended 7 steps 6\n"),
+        (&["run", "."][..], "ended 9 steps 12 kept 0 0 0 0 0 0 0 0\n"),
+        (&["run", ".", "--input", "0"], "ended 7 steps 6 kept 0 0 0 0 0 0 0 0\n"),
         (&["run", "--input=-1", "--budget", "11", ".", "--json"], "\"outcome\":\"spent\""),
         (&["run", ".", "--budget", "11"], "spent at 8\n"),
     ] {
@@ -119,18 +125,39 @@ fn runs_of_an_example() {
     }
 }
 
+/// A pass of the example that is held, and the next, which starts with what the first kept.
+#[test]
+fn what_one_pass_keeps_starts_the_next() {
+    let hold = example("hold");
+    let output = run_in(&hold, &["run", "."]);
+    assert_eq!(printed(&output), "ended 4 steps 12 kept 4 3 4 0 0 0 0 0\n");
+    let next = ["run", ".", "--input=2", "--set=i24=4", "--set=i25=3", "--set=i26=4"];
+    let output = run_in(&hold, &next);
+    // The gear is held, and a pass less is left.
+    assert_eq!(printed(&output), "ended 4 steps 10 kept 4 2 2 0 0 0 0 0\n");
+}
+
 /// Numbers below zero, in the program and in options.
 #[test]
 fn runs_below_zero() {
     let offset = example("offset");
     for (words, expected) in [
-        (&["run", "."][..], "ended -25 steps 12\n"),
-        (&["run", ".", "--input", "-5"], "ended -25 steps 12\n"),
-        (&["run", ".", "--input=-5", "--set=i2=-10"], "ended -25 steps 11\n"),
-        (&["run", ".", "--input", "90", "--set", "i2=-10"], "ended 50 steps 10\n"),
-        (&["run", ".", "--input", "90", "--set", "i2=-11"], "ended 35 steps 11\n"),
+        (&["run", "."][..], "ended -25 steps 12 kept 0 0 0 0 0 0 0 0\n"),
+        (&["run", ".", "--input", "-5"], "ended -25 steps 12 kept 0 0 0 0 0 0 0 0\n"),
+        (&["run", ".", "--input=-5", "--set=i2=-10"], "ended -25 steps 11 kept 0 0 0 0 0 0 0 0\n"),
+        (
+            &["run", ".", "--input", "90", "--set", "i2=-10"],
+            "ended 50 steps 10 kept 0 0 0 0 0 0 0 0\n",
+        ),
+        (
+            &["run", ".", "--input", "90", "--set", "i2=-11"],
+            "ended 35 steps 11 kept 0 0 0 0 0 0 0 0\n",
+        ),
         (&["run", ".", "--input=-2147483648", "--budget=5"], "i3 = 2147483608\n"),
-        (&["run", ".", "--json"], "\"outcome\":\"ended\",\"value\":-25,\"steps\":12"),
+        (
+            &["run", ".", "--json"],
+            "\"outcome\":\"ended\",\"value\":-25,\"steps\":12,\"kept\":[0,0,0,0,0,0,0,0]}\n",
+        ),
     ] {
         let output = run_in(&offset, words);
         assert!(printed(&output).contains(expected), "{words:?}: {}", printed(&output));
@@ -138,7 +165,43 @@ fn runs_below_zero() {
     }
     let base = folder("below", &[("given", b"read i0\ni1 := i0 - i13\nwrite i1\n")]);
     let output = run_in(&base, &["run", ".", "--set", "i13=-40", "--input", "-5"]);
-    assert_eq!(printed(&output), "ended 35 steps 3\n");
+    assert_eq!(printed(&output), "ended 35 steps 3 kept 0 0 0 0 0 0 0 0\n");
+}
+
+/// What the unit keeps: the values of the library's call, signed, in the text and in the JSON.
+#[test]
+fn runs_tell_what_is_kept() {
+    let given = b"read i0\ni24 := 5\ni31 := i0 - 1\nwrite i0\n";
+    let base = folder("kept", &[("given", given)]);
+    let mut values = [0; VARIABLES];
+    for (input, setting) in [(0, 7), (-2147483648, -2147483648), (1, 2147483647)] {
+        values[FIRST_KEPT + 1] = setting as u32;
+        let answer = rewrites::run(given, &values, input as u32, 4);
+        let kept = match answer {
+            Ok(Outcome::Ended { value, steps: 4, kept }) if value == input => kept,
+            other => panic!("{other:?}"),
+        };
+        let kept = kept.map(|value| (value as i32).to_string());
+        assert_eq!((kept.len(), &kept[0][..], &kept[1]), (KEPT, "5", &setting.to_string()));
+        let options = [format!("--input={input}"), format!("--set=i25={setting}")];
+        let words = |last: &str| {
+            let options = options.iter().map(String::as_str);
+            ["run", "."].into_iter().chain(options).chain([last]).map(str::to_string).collect()
+        };
+        let text: Vec<String> = words("--budget=4");
+        let output = run_in(&base, &text);
+        let expected = format!("ended {input} steps 4 kept {}\n", kept.join(" "));
+        assert_eq!((printed(&output), said(&output)), (expected.clone(), String::new()));
+        let json: Vec<String> = words("--json");
+        let output = run_in(&base, &json);
+        let list = format!("\"steps\":4,\"kept\":[{}]}}\n", kept.join(","));
+        assert!(printed(&output).ends_with(&list), "{}", printed(&output));
+        assert_eq!(told_again(&output.stdout), [expected]);
+        // Where the budget is spent, nothing is told as kept.
+        let text: Vec<String> = words("--budget=3");
+        let output = printed(&run_in(&base, &text));
+        assert!(output.starts_with("spent at 4\n") && !output.contains("kept"), "{output}");
+    }
 }
 
 /// Without a start the input must be given, and what the start would have is told.
@@ -174,7 +237,8 @@ fn refused_starts_in_words() {
                    expected a file of at most 65,535 bytes\n";
     assert_eq!((status(&output), said(&output).as_str()), (2, missing));
     let output = run_in(&base, &["run", ".", "--input", "3"]);
-    assert_eq!((status(&output), printed(&output).as_str()), (0, "ended 3 steps 2\n"));
+    let ended = "ended 3 steps 2 kept 0 0 0 0 0 0 0 0\n";
+    assert_eq!((status(&output), printed(&output).as_str()), (0, ended));
     let over = "--budget: the host program: budget over 1,000,000; expected at most 1,000,000, \
                 found `1000001`\n";
     for base in [base, example("p")] {

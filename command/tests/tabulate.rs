@@ -167,6 +167,27 @@ fn a_table_below_zero() {
     }
 }
 
+/// `use` of variables that the unit keeps holds at `write` too.
+#[test]
+fn a_table_of_what_is_kept() {
+    let expected = concat!(
+        " 1  def(i25): 2 of 14: 6 11\n",
+        " 2  !def(i25): 12 of 14: 1-5 7-10 12-14\n",
+        " 3  use(i25): 3 of 14: 4 6 14\n",
+        " 4  E[!def(i25) U use(i25)]: 12 of 14: 1-9 12-14\n",
+        "parts 4 satisfied 12 first 1\n",
+    );
+    let output = run_in(&example("hold"), &["tabulate", "."]);
+    assert_eq!((status(&output), printed(&output).as_str()), (0, expected));
+    for (condition, expected) in [
+        ("use(i31)", " 1  use(i31): 1 of 14: 14\nparts 1 satisfied 1 first 14\n"),
+        ("use(i23)", " 1  use(i23): 0 of 14\nparts 1 satisfied 0 first 0\n"),
+    ] {
+        let output = run_in(&example("hold"), &["tabulate", ".", "--condition", condition]);
+        assert_eq!((status(&output), printed(&output).as_str()), (0, expected));
+    }
+}
+
 /// Each refusal of a condition in words, from the file and from the option.
 #[test]
 fn refused_conditions_in_words() {

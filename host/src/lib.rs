@@ -10,7 +10,7 @@
 //! constant from -2147483648 to 2147483647, such as `-40`.
 //!
 //! ```
-//! use rewrites::{run, Outcome, Refusal};
+//! use rewrites::{run, Outcome, Refusal, KEPT};
 //!
 //! // The sum 1 + 2 + .. + i0.
 //! let program = b"read i0\n\
@@ -21,7 +21,8 @@
 //!     write i1\n";
 //! let values = [0; 32];
 //!
-//! assert_eq!(run(program, &values, 4, 100), Ok(Outcome::Ended { value: 10, steps: 15 }));
+//! let ended = Outcome::Ended { value: 10, steps: 15, kept: [0; KEPT] };
+//! assert_eq!(run(program, &values, 4, 100), Ok(ended));
 //!
 //! // Two steps read 4 into i0 and go to statement 3.
 //! let mut left = values;
@@ -75,6 +76,12 @@ pub mod raw;
 /// The variables of a program, `i0` to `i31`, each with one value.
 pub const VARIABLES: usize = 32;
 
+/// The first variable that the unit keeps from one pass to the next, `i24`.
+pub const FIRST_KEPT: usize = 24;
+
+/// The number of variables that it keeps, `i24` to `i31`.
+pub const KEPT: usize = 8;
+
 /// The largest budget, in steps.
 pub const MOST_STEPS: u32 = 1_000_000;
 
@@ -99,6 +106,8 @@ pub enum Outcome {
         value: i32,
         /// The steps taken, the one of `write` among them.
         steps: u32,
+        /// The values of `i24` to `i31` at the end, which the unit keeps for its next pass.
+        kept: [u32; KEPT],
     },
     /// The run took all steps of the budget without ending.
     Spent {
@@ -270,6 +279,9 @@ impl Error for Refusal {}
 /// Runs the program that the text spells, from the given values of `i0` to `i31` and one input
 /// value, for at most `budget` steps. Takes at most 64 KiB of stack.
 ///
+/// A run that ends tells what `write` wrote, and the values that the unit keeps for its next pass: those
+/// of the [`KEPT`] variables from [`FIRST_KEPT`] on.
+///
 /// # Errors
 ///
 /// [`Refusal::Budget`] for a budget over [`MOST_STEPS`], whatever the text holds; else, for the
@@ -277,17 +289,30 @@ impl Error for Refusal {}
 /// [`Refusal::Target`].
 ///
 /// ```
-/// use rewrites::{run, Outcome};
+/// use rewrites::{run, Outcome, FIRST_KEPT, KEPT};
 ///
 /// // Values keep their low 32 bits, and the written value is signed.
 /// let program = b"read i0\ni0 := i0 + 1\nwrite i0\n";
 /// let answer = run(program, &[0; 32], 2147483647, 3);
-/// assert_eq!(answer, Ok(Outcome::Ended { value: -2147483648, steps: 3 }));
+/// assert_eq!(answer, Ok(Outcome::Ended { value: -2147483648, steps: 3, kept: [0; KEPT] }));
 ///
 /// // A constant may be below zero.
 /// let program = b"read i0\ni1 := i0 - -40\nwrite i1\n";
 /// let answer = run(program, &[0; 32], 2, 3);
-/// assert_eq!(answer, Ok(Outcome::Ended { value: 42, steps: 3 }));
+/// assert_eq!(answer, Ok(Outcome::Ended { value: 42, steps: 3, kept: [0; KEPT] }));
+///
+/// // i24 counts the passes: what one keeps is handed to the next.
+/// let program = b"read i0\ni24 := i24 + 1\nwrite i0\n";
+/// let mut values = [0; 32];
+/// for pass in 1..=3 {
+///     match run(program, &values, 5, 3) {
+///         Ok(Outcome::Ended { value: 5, steps: 3, kept }) => {
+///             assert_eq!(kept, [pass, 0, 0, 0, 0, 0, 0, 0]);
+///             values[FIRST_KEPT..FIRST_KEPT + KEPT].copy_from_slice(&kept);
+///         }
+///         other => panic!("{:?}", other),
+///     }
+/// }
 /// ```
 pub fn run(
     program: &[u8],
@@ -300,6 +325,7 @@ pub fn run(
     let mut steps = 0;
     let mut statement = 0;
     let mut left = [0; VARIABLES];
+    let mut kept = [0; KEPT];
     // SAFETY: the pointers come from references, so none is null, and those that are written
     // through are the only ones to their places.
     let number = unsafe {
@@ -314,13 +340,14 @@ pub fn run(
             &mut steps,
             &mut statement,
             &mut left,
+            &mut kept,
         )
     };
     if number != 0 {
         return Err(Refusal::returned(number));
     }
     if ended == 1 {
-        Ok(Outcome::Ended { value, steps })
+        Ok(Outcome::Ended { value, steps, kept })
     } else {
         Ok(Outcome::Spent { statement, values: left })
     }
@@ -341,6 +368,9 @@ pub fn run(
 /// `true`, `false`, `entry`, `exit`, `node(n)`, `stmt(I)`, `def(X)`, `use(X)`, `trans(E)`. E means
 /// some path, A all paths. X, F, G, U and W look forward, and Y, R, M, S and B, in that order, are
 /// the same backward.
+///
+/// `use(X)` holds where X stands in the right side, is tested or is written; for X from `i24` to `i31`,
+/// which the unit keeps from one pass to the next, it holds at `write` too.
 ///
 /// # Errors
 ///
@@ -397,8 +427,9 @@ pub fn tabulate(program: &[u8], condition: &[u8], table: &mut [u64]) -> Result<T
 /// A list has zero to 256 lines, each ended by byte 10: `n: mark(rm, X, E)` or `n: mark(rpl, X, A)`.
 ///
 /// - `rm` fits where statement n is `X := E`. Condition: `!EX E[!def(X) U use(X)]`. Made: `skip`.
-/// - `rpl` fits where n uses X, and A is a variable if n is an `if` or a `write`. Condition:
-///   `AY A[((!def(X) & trans(A)) & !entry) B stmt(X := A)]`. Made: A for every use of X in n.
+/// - `rpl` fits where n uses X, and A is a variable if n is an `if` or a `write`; at `write` it fits
+///   only for the X that is written. Condition: `AY A[((!def(X) & trans(A)) & !entry) B stmt(X := A)]`.
+///   Made: A for every use of X in n.
 ///
 /// Each mark is judged on the given program. Line j's verdict fills byte j of the verdicts, counted
 /// from 0: [`Verdict`] names it. Accepted marks are all made together, refused ones aren't. The new
@@ -406,8 +437,8 @@ pub fn tabulate(program: &[u8], condition: &[u8], table: &mut [u64]) -> Result<T
 /// verdicts and of the text are kept.
 ///
 /// From every start, and under every budget that isn't refused, runs of the two programs answer the
-/// same value and the same steps, or 'spent' at the same statement. The values told with 'spent' may
-/// differ.
+/// same value, the same steps and the same kept values, or 'spent' at the same statement. The values
+/// told with 'spent' may differ.
 ///
 /// Takes at most 128 KiB of stack.
 ///

@@ -1,6 +1,6 @@
 //! The calls as `include/rewrites.h` declares them.
 
-use crate::VARIABLES;
+use crate::{KEPT, VARIABLES};
 
 extern "C" {
     /// See [`crate::run`] and the header.
@@ -20,6 +20,7 @@ extern "C" {
         steps: *mut u32,
         statement: *mut u32,
         left: *mut [u32; VARIABLES],
+        kept: *mut [u32; KEPT],
     ) -> u8;
 
     /// See [`crate::tabulate`] and the header.

@@ -158,6 +158,9 @@ fn atoms_of_p() {
         ("use(i0)", &[2 + 16 + 32 + 64]),
         ("use(i1)", &[8]),
         ("use(i3)", &[128]),
+        // The unit keeps i24 to i31, so `write` uses them.
+        ("use(i24)", &[128]),
+        ("use(i31)", &[128]),
         ("trans(7)", &[255]),
         ("trans(i0)", &[255 - 1 - 32]),
         ("trans(i1 + i2)", &[255 - 2 - 4]),
@@ -185,7 +188,9 @@ fn atoms_that_p_lacks_match_nothing() {
         "stmt(write i0)",
         "stmt(skip)",
         "def(i9)",
-        "use(i31)",
+        "def(i31)",
+        "use(i9)",
+        "use(i23)",
     ];
     for atom in nowhere {
         assert_words(P.as_bytes(), atom, &[0]);
@@ -530,6 +535,76 @@ fn a_straight_program_of_256_statements() {
     assert_eq!(answer("AY node(192)"), Ok(Tabulated { parts: 2, satisfied: 1, first: 193 }));
     assert_eq!(answer("stmt(skip)"), Ok(Tabulated { parts: 1, satisfied: 254, first: 2 }));
     assert_eq!(answer("EX entry"), Ok(Tabulated { parts: 2, satisfied: 0, first: 0 }));
+}
+
+// What the unit keeps
+
+#[test]
+fn use_of_i24_to_i31_holds_at_write() {
+    let program = text(&["read i0", "i24 := 5", "i1 := i0", "write i1"]);
+    assert_words(&program, "use(i24)", &[8]);
+    assert_words(&program, "use(i23)", &[0]);
+    // 4 uses i24, and 3 comes to it; 2 defines it.
+    assert_words(&program, "E[!def(i24) U use(i24)]", &[2, 13, 8, 12]);
+    assert_words(&program, "E[!def(i23) U use(i23)]", &[0, 15, 0, 0]);
+    for x in 0..32 {
+        // 3 uses i0, and 4 uses i1 and what is kept.
+        let word = match x {
+            0 => 4,
+            1 | 24..=31 => 8,
+            _ => 0,
+        };
+        assert_words(&program, &format!("use(i{})", x), &[word]);
+    }
+}
+
+#[test]
+fn other_statements_use_what_they_show() {
+    let program =
+        text(&["read i24", "skip", "if i24 goto 4 else 4", "i24 := i24 + i26", "write i24"]);
+    let cases: [(&str, &[u64]); 12] = [
+        ("use(i24)", &[4 + 8 + 16]),
+        ("use(i25)", &[16]),
+        ("use(i26)", &[8 + 16]),
+        ("use(i23)", &[0]),
+        ("def(i24)", &[1 + 8]),
+        ("def(i25)", &[0]),
+        ("trans(i24)", &[2 + 4 + 16]),
+        ("trans(i25 - i31)", &[31]),
+        ("stmt(write i24)", &[16]),
+        ("stmt(write i25)", &[0]),
+        // `write` steps to itself forward, and not backward.
+        ("EX use(i25)", &[16, 8 + 16]),
+        ("EY use(i25)", &[16, 0]),
+    ];
+    for (condition, words) in cases {
+        assert_words(&program, condition, words);
+    }
+}
+
+#[test]
+fn use_of_what_is_kept_holds_at_a_write_that_nothing_comes_to() {
+    let program = text(&["read i0", "if i0 goto 2 else 2", "write i0"]);
+    assert_words(&program, "EF use(i25)", &[4, 4]);
+    assert_words(&program, "E[!def(i25) U use(i25)]", &[0, 7, 4, 4]);
+}
+
+#[test]
+fn use_of_what_is_kept_holds_at_the_256th_statement() {
+    let program = text(&lines(256));
+    for x in [24, 27, 31] {
+        assert_rows(&program, &format!("use(i{})", x), &[[0, 0, 0, 1 << 63]]);
+        assert_rows(&program, &format!("EF use(i{})", x), &[[0, 0, 0, 1 << 63], [ALL; 4]]);
+    }
+    assert_rows(&program, "use(i23)", &[[0; 4]]);
+}
+
+#[test]
+fn conditions_of_marks_on_what_is_kept() {
+    let program = text(&["read i0", "i24 := 5", "i24 := 6", "write i0"]);
+    // 4 alone comes to a use with no definition before it, and 3 and 4 step to 4.
+    assert_words(&program, "!EX E[!def(i24) U use(i24)]", &[6, 9, 8, 8, 12, 3]);
+    assert_words(&program, "!EX E[!def(i23) U use(i23)]", &[0, 15, 0, 0, 0, 15]);
 }
 
 // Parts, lengths and spelling

@@ -60,6 +60,21 @@ fn class(output: &str) -> &'static str {
     refusals.into_iter().find(|&refusal| refusal == line).unwrap_or("result")
 }
 
+/// How a run or both runs of an output ended, if it tells that.
+fn ending(output: &str) -> Option<&'static str> {
+    let line = output.lines().find(|line| {
+        let line = line.strip_prefix("given ").unwrap_or(line);
+        line.starts_with("ended ") || line.starts_with("spent at ")
+    })?;
+    Some(match line.split_once(" kept ") {
+        Some((_, "0 0 0 0 0 0 0 0")) => "ended, kept zeros",
+        Some(_) => "ended, kept others",
+        None => "spent",
+    })
+}
+
+const ENDINGS: [&str; 3] = ["ended, kept zeros", "ended, kept others", "spent"];
+
 const OF_PROGRAMS: [&str; 5] = ["result", "refused 2", "refused 3", "refused 4", "refused 5"];
 const OF_STARTS: [&str; 2] = ["refused start", "refused 15"];
 
@@ -85,6 +100,7 @@ fn views_are_as_by_the_oracle() {
 fn runs_are_as_by_the_oracle() {
     let runner = built("run_program");
     let mut met = Tally::new("runs", OF_PROGRAMS.into_iter().chain(OF_STARTS));
+    let mut endings = Tally::new("endings of runs", ENDINGS);
     for (case, mut random) in cases("run") {
         let random = &mut random;
         let ((_, text), start, trace) =
@@ -94,8 +110,10 @@ fn runs_are_as_by_the_oracle() {
         let expected = of_whole_files(&files, desk::run(&text, &start, trace));
         same(case, &printed(&runner, "run", &files, words), &expected, &files);
         met.met(class(&expected));
+        ending(&expected).into_iter().for_each(|ending| endings.met(ending));
     }
     met.report();
+    endings.report();
 }
 
 #[test]
@@ -103,6 +121,7 @@ fn comparisons_are_as_by_the_oracle() {
     let comparer = built("compare_runs");
     let classes = OF_PROGRAMS.into_iter().chain(OF_STARTS).chain(["refused 9"]);
     let mut met = Tally::new("comparisons", classes);
+    let mut endings = Tally::new("endings of comparisons", ENDINGS);
     for (case, mut random) in cases("compare") {
         let random = &mut random;
         let ((given, text), start) = (folder::given(random), folder::start(random));
@@ -113,8 +132,10 @@ fn comparisons_are_as_by_the_oracle() {
         let expected = of_whole_files(&files, desk::compare(&text, &list, &start));
         same(case, &printed(&comparer, "compare", &files, &[]), &expected, &files);
         met.met(class(&expected));
+        ending(&expected).into_iter().for_each(|ending| endings.met(ending));
     }
     met.report();
+    endings.report();
 }
 
 // The longest statement fills its column
@@ -176,4 +197,29 @@ fn the_longest_statements_are_compared() {
         };
         assert!(expected.contains(&row));
     }
+}
+
+/// The least value nine times, after the most steps.
+#[test]
+fn the_longest_endings_are_printed() {
+    let (runner, comparer) = (built("run_program"), built("compare_runs"));
+    let least = "-2147483648\n".repeat(32);
+    let kept = format!("kept{}\n", " -2147483648".repeat(8));
+    // `read`, 249,999 rounds of 4 steps, then `if`, `skip` and `write`.
+    let given =
+        b"read i0\nif i0 goto 3 else 6\ni0 := i0 - 1\nskip\nif i1 goto 2 else 2\nskip\nwrite i31\n";
+    let start = format!("249999\n1000000\n{least}");
+    let files = [("given", &given[..]), ("start", start.as_bytes())];
+    let expected = format!("ended -2147483648 steps 1000000 {kept}");
+    assert_eq!(desk::run(given, start.as_bytes(), false), expected);
+    same(0, &printed(&runner, "longest_ending", &files, &[]), &expected, &files);
+    let given = b"read i0\nwrite i31\n";
+    let start = format!("0\n1000000\n{least}");
+    let files = [("given", &given[..]), ("marks", &b""[..]), ("start", start.as_bytes())];
+    let expected = desk::compare(given, b"", start.as_bytes());
+    let line = format!("ended -2147483648 steps 2 {kept}");
+    assert!(
+        expected.ends_with(&format!("given {line}rewritten {line}statements and outcome agree\n"))
+    );
+    same(1, &printed(&comparer, "longest_endings", &files, &[]), &expected, &files);
 }

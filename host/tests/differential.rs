@@ -14,10 +14,11 @@ use coverage::Tally;
 use lent::{Lent, Text};
 use oracle::condition::{self, Atom, Condition, Demand, Direction, Part, Quantifier};
 use oracle::generate::{self, Damage, Random, WrongSign};
-use oracle::machine::{self, Outcome, Values};
-use oracle::marks::{self, Kind};
-use oracle::program::{Expression, Operand, Operator, Program, Statement, LARGEST, LEAST};
-use rewrites::{raw, MOST_STEPS, TABLE_WORDS, TEXT_BYTES, VERDICT_BYTES};
+use oracle::machine::{self, kept_of, Outcome, Values};
+use oracle::marks::{self, Judge, Kind, Mark};
+use oracle::program::{is_kept, Expression, Operand, Operator, Program, Statement, LARGEST, LEAST};
+use rewrites::{raw, FIRST_KEPT, KEPT, MOST_STEPS, VARIABLES};
+use rewrites::{TABLE_WORDS, TEXT_BYTES, VERDICT_BYTES};
 
 const CASES: u64 = 100_000;
 const SEED: u64 = 1;
@@ -169,7 +170,8 @@ const VALUE: usize = 2;
 const STEPS: usize = 4;
 const STATEMENT: usize = 6;
 const LEFT: usize = 8;
-const RUN_WORDS: usize = LEFT + 32;
+const KEPT_ONES: usize = LEFT + VARIABLES + 1;
+const RUN_WORDS: usize = KEPT_ONES + KEPT;
 
 fn lend_run(
     program: &[u8],
@@ -194,6 +196,7 @@ fn lend_run(
             first.add(STEPS),
             first.add(STATEMENT),
             first.add(LEFT).cast(),
+            first.add(KEPT_ONES).cast(),
         )
     }
 }
@@ -202,20 +205,21 @@ fn lend_run(
 fn put_outcome(places: &mut Lent<u32>, outcome: Outcome) {
     let places = places.part();
     match outcome {
-        Outcome::Ended { value, steps } => {
+        Outcome::Ended { value, steps, kept } => {
             places[ENDED] = 1;
             places[VALUE] = value as u32;
             places[STEPS] = steps;
+            places[KEPT_ONES..KEPT_ONES + KEPT].copy_from_slice(&kept);
         }
         Outcome::Spent { statement, values } => {
             places[ENDED] = 0;
             places[STATEMENT] = statement;
-            places[LEFT..LEFT + 32].copy_from_slice(&values);
+            places[LEFT..LEFT + VARIABLES].copy_from_slice(&values);
         }
     }
 }
 
-/// Holds a run to the oracle's, and tells its answer.
+/// Holds a run from random values to the oracle's, and tells its answer.
 fn run_agrees(
     random: &mut Random,
     case: &str,
@@ -224,7 +228,19 @@ fn run_agrees(
     budget: u32,
 ) -> Result<Outcome, u8> {
     let values = generate::values(random);
-    let (mut program, kept) = (Text::new(random, text), values);
+    run_from_agrees(random, case, text, values, input, budget)
+}
+
+/// The same from these values.
+fn run_from_agrees(
+    random: &mut Random,
+    case: &str,
+    text: &[u8],
+    values: Values,
+    input: u32,
+    budget: u32,
+) -> Result<Outcome, u8> {
+    let (mut program, lent) = (Text::new(random, text), values);
     let mut places = Lent::new(random, RUN_WORDS, |bits| bits as u32);
     let mut expected = places.clone();
     let wanted = machine::run(text, values, input, budget);
@@ -239,7 +255,7 @@ fn run_agrees(
     assert_eq!(number, wanted.err().unwrap_or(0), "number of {}", shown());
     places.assert_same(&expected, "places", shown);
     program.assert_kept("program", shown);
-    assert_eq!(values, kept, "{}", shown());
+    assert_eq!(values, lent, "{}", shown());
     wanted
 }
 
@@ -280,6 +296,8 @@ fn runs_are_as_by_the_oracle() {
     let mut damages = damages("damages of programs run");
     let mut signs = Signs::new("wrong signs of programs run", 2);
     let mut constants = Constants::new("constants of programs run");
+    let kept_variables = FIRST_KEPT..FIRST_KEPT + KEPT;
+    let mut kept_set = Tally::new("kept variables that a run set", kept_variables);
     for (case, mut random) in cases("run") {
         let random = &mut random;
         let program = program(random, case);
@@ -297,17 +315,20 @@ fn runs_are_as_by_the_oracle() {
             0 => random.pick(&edges),
             _ => generate::budget(random),
         };
-        let input = generate::word(random);
-        let answer = run_agrees(random, &case.to_string(), &text, input, budget);
+        let (values_given, input) = (generate::values(random), generate::word(random));
+        let answer = run_from_agrees(random, &case.to_string(), &text, values_given, input, budget);
         budgets.met(budget);
         signs.met(sign, answer.err().unwrap_or(0));
         match answer {
             Err(number) => refusals.met(number),
             Ok(outcome) => {
                 match outcome {
-                    Outcome::Ended { value, .. } => {
+                    Outcome::Ended { value, kept, .. } => {
                         outcomes.met("ended");
                         values.met(value);
+                        let given = kept_of(&values_given);
+                        let set = (0..KEPT).filter(|&k| kept[k] != given[k]);
+                        set.for_each(|k| kept_set.met(FIRST_KEPT + k));
                     }
                     Outcome::Spent { .. } => outcomes.met("spent"),
                 }
@@ -327,6 +348,7 @@ fn runs_are_as_by_the_oracle() {
     damages.report();
     signs.met.report();
     constants.0.report();
+    kept_set.report();
 }
 
 // Tables
@@ -425,6 +447,20 @@ const PART_KINDS: [&str; 32] = [
     "EY", "AY", "ER", "AR", "EM", "AM", "ES", "AS", "EB", "AB",
 ];
 
+const USES_AT_WRITE: [&str; 4] =
+    ["written", "written and kept", "kept only", "neither written nor kept"];
+
+/// How a variable is used at a program's last statement.
+fn use_at_write(program: &Program, x: u8) -> &'static str {
+    let is_written = program.statements().last().map_or(false, |last| last.shows(x));
+    match (is_written, is_kept(x)) {
+        (true, false) => "written",
+        (true, true) => "written and kept",
+        (false, true) => "kept only",
+        (false, false) => "neither written nor kept",
+    }
+}
+
 /// A condition over a program, of 1 to 64 parts in most cases.
 fn condition_text(random: &mut Random, program: &Program) -> Vec<u8> {
     match random.below(40) {
@@ -464,6 +500,7 @@ fn tables_are_as_by_the_oracle() {
     let mut condition_signs = Signs::new("wrong signs of conditions", 7);
     let mut of_stmt = Constants::new("constants of stmt");
     let mut of_trans = Constants::new("constants of trans");
+    let mut uses = Tally::new("use at write", USES_AT_WRITE);
     for (case, mut random) in cases("tabulate") {
         let random = &mut random;
         let program = program(random, case);
@@ -507,6 +544,7 @@ fn tables_are_as_by_the_oracle() {
                     match part {
                         Part::Atom(Atom::Stmt(statement)) => of_stmt.met_in(statement),
                         Part::Atom(Atom::Trans(e)) => of_trans.met(e),
+                        Part::Atom(Atom::Use(x)) => uses.met(use_at_write(&program, *x)),
                         _ => {}
                     }
                 }
@@ -531,6 +569,7 @@ fn tables_are_as_by_the_oracle() {
     condition_signs.met.report();
     of_stmt.0.report();
     of_trans.0.report();
+    uses.report();
 }
 
 // Judgements
@@ -602,10 +641,10 @@ fn judgement_agrees(
     })
 }
 
-/// What a run tells that a rewriting must keep: its value and steps, or its statement.
+/// What a run tells that a rewriting must leave as it is: its nine values and its steps, or its statement.
 #[derive(Debug, PartialEq)]
 enum Stand {
-    Ended(u32, u32),
+    Ended { value: u32, steps: u32, kept: Vec<u32> },
     Before(u32),
 }
 
@@ -620,7 +659,11 @@ fn stand(
     assert_eq!(number, 0, "refused: {}", escaped(program));
     let places = places.part();
     match places[ENDED] {
-        1 => Stand::Ended(places[VALUE], places[STEPS]),
+        1 => Stand::Ended {
+            value: places[VALUE],
+            steps: places[STEPS],
+            kept: places[KEPT_ONES..KEPT_ONES + KEPT].to_vec(),
+        },
         _ => Stand::Before(places[STATEMENT]),
     }
 }
@@ -647,8 +690,11 @@ fn runs_stay(random: &mut Random, case: &str, given: &[u8], new: &[u8], runs: &m
                 escaped(new)
             );
             runs.met("budgets");
-            if let Stand::Ended(..) = one {
+            if let Stand::Ended { kept, .. } = one {
                 runs.met("ended");
+                if kept != kept_of(&values) {
+                    runs.met("kept other values");
+                }
                 break;
             }
             if budget == far {
@@ -682,6 +728,33 @@ const MARK_KINDS: [&str; 7] = [
     "rpl by a constant below zero in an assignment",
 ];
 
+#[rustfmt::skip]
+const MARKS_ON_KEPT: [&str; 7] = [
+    "rm accepted", "rm refused for what is kept alone", "rm refused for another use too",
+    "rpl of what is written accepted", "rpl of what is written refused 14",
+    "rpl of what is kept only refused 13", "rpl elsewhere accepted",
+];
+
+/// What became of a mark on a variable that the unit keeps, where it was judged by its fit or its condition.
+fn mark_on_kept(program: &Program, mark: &Mark, verdict: u8) -> Option<&'static str> {
+    let statement = program.statement(mark.number).filter(|_| is_kept(mark.variable))?;
+    let is_last = matches!(statement, Statement::Write(_));
+    match (mark.kind, verdict) {
+        (Kind::Remove(_), 0) => Some("rm accepted"),
+        (Kind::Remove(_), 14) if Judge::new(program).is_refused_for_kept_alone(mark) => {
+            Some("rm refused for what is kept alone")
+        }
+        (Kind::Remove(_), 14) => Some("rm refused for another use too"),
+        (Kind::Replace(_), 0) if is_last => Some("rpl of what is written accepted"),
+        (Kind::Replace(_), 14) if is_last => Some("rpl of what is written refused 14"),
+        (Kind::Replace(Operand::Variable(_)), 13) if is_last => {
+            Some("rpl of what is kept only refused 13")
+        }
+        (Kind::Replace(_), 0) => Some("rpl elsewhere accepted"),
+        _ => None,
+    }
+}
+
 /// Whether one of two right sides is a constant, and the other takes its negative from 0.
 fn is_written_otherwise(one: &Expression, other: &Expression) -> bool {
     match (*one, *other) {
@@ -709,7 +782,9 @@ fn judgements_are_as_by_the_oracle_and_keep_runs() {
     let mut text_rooms = rooms("bytes of new text", TEXT_BYTES);
     let mut of_programs = damages("damages of programs judged");
     let mut of_lists = damages("damages of marks");
-    let mut runs = Tally::new("runs of both programs", ["budgets", "ended", "spent"]);
+    let classes = ["budgets", "ended", "kept other values", "spent"];
+    let mut runs = Tally::new("runs of both programs", classes);
+    let mut on_kept = Tally::new("marks on what is kept", MARKS_ON_KEPT);
     let mut program_signs = Signs::new("wrong signs of programs judged", 2);
     let mut mark_signs = Signs::new("wrong signs of marks", 9);
     let mut of_rm = Constants::new("constants of rm");
@@ -771,6 +846,9 @@ fn judgements_are_as_by_the_oracle_and_keep_runs() {
                 counts.met(list.len());
                 for (mark, &verdict) in list.iter().zip(&judged.verdicts) {
                     verdicts.met(verdict);
+                    if let Some(class) = mark_on_kept(&program, mark, verdict) {
+                        on_kept.met(class);
+                    }
                     match mark.kind {
                         Kind::Remove(e) => {
                             of_rm.met(&e);
@@ -817,6 +895,7 @@ fn judgements_are_as_by_the_oracle_and_keep_runs() {
     mark_signs.met.report();
     of_rm.0.report();
     of_rpl.0.report();
+    on_kept.report();
     otherwise.report();
     too_small.report();
     enough.report();
@@ -865,6 +944,36 @@ fn every_operator_over_atoms_of_p_is_as_by_the_oracle() {
             }
         }
     }
+}
+
+/// Each variable is set and carried just before each is written.
+#[test]
+fn every_variable_at_every_write_is_as_by_the_oracle() {
+    let random = &mut Random::new(6);
+    let mut verdicts = Tally::new("verdicts before and at write", [0, 13, 14]);
+    let rooms = (VERDICT_BYTES, TEXT_BYTES);
+    for written in 0..VARIABLES {
+        for x in 0..VARIABLES {
+            let program = format!("read i0\ni{x} := i1\nwrite i{written}\n");
+            let (case, text) = (&program[..], program.as_bytes());
+            for condition in [
+                format!("use(i{x})"),
+                format!("!EX E[!def(i{x}) U use(i{x})]"),
+                format!("def(i{x})"),
+            ] {
+                let condition = condition.as_bytes();
+                assert!(table_agrees(random, case, text, condition, TABLE_WORDS).is_ok());
+            }
+            for budget in 0..4 {
+                assert!(run_agrees(random, case, text, 5, budget).is_ok());
+            }
+            let list = format!("2: mark(rm, i{x}, i1)\n3: mark(rpl, i{x}, i1)\n");
+            let judged = judgement_agrees(random, case, text, list.as_bytes(), rooms);
+            let judged = judged.expect("the list is taken");
+            judged.verdicts.iter().for_each(|&verdict| verdicts.met(verdict));
+        }
+    }
+    verdicts.report();
 }
 
 /// 254 lines of the longest statement between `read` and `write`.

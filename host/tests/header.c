@@ -18,26 +18,77 @@ static const char P[] =
 
 static int run_answers(void) {
     uint8_t (*const run)(const uint8_t *, size_t, const uint32_t *, uint32_t, uint32_t, uint32_t *,
-                         int32_t *, uint32_t *, uint32_t *, uint32_t *) = rewrites_run;
+                         int32_t *, uint32_t *, uint32_t *, uint32_t *, uint32_t *) = rewrites_run;
     const uint8_t *program = (const uint8_t *)P;
     const size_t length = strlen(P);
     const uint32_t values[32] = {0};
-    uint32_t ended = 11, steps = 12, statement = 13, left[32] = {14};
+    uint32_t ended = 11, steps = 12, statement = 13, left[32] = {14}, kept[8];
     int32_t value = -15;
+    size_t k;
 
-    CHECK(run(program, length, values, 2, 1000001, &ended, &value, &steps, &statement, left) == 15);
-    CHECK(run(program, length - 1, values, 2, 9, &ended, &value, &steps, &statement, left) == 2);
-    CHECK(run(program, 0, values, 2, 9, &ended, &value, &steps, &statement, left) == 3);
-    CHECK(run(NULL, 0, values, 2, 1000001, &ended, &value, &steps, &statement, left) == 15);
-    CHECK(run(NULL, 0, values, 2, 9, &ended, &value, &steps, &statement, left) == 3);
+    for (k = 0; k < 8; k++) kept[k] = 16;
+    CHECK(run(program, length, values, 2, 1000001, &ended, &value, &steps, &statement, left, kept) == 15);
+    CHECK(run(program, length - 1, values, 2, 9, &ended, &value, &steps, &statement, left, kept) == 2);
+    CHECK(run(program, 0, values, 2, 9, &ended, &value, &steps, &statement, left, kept) == 3);
+    CHECK(run(NULL, 0, values, 2, 1000001, &ended, &value, &steps, &statement, left, kept) == 15);
+    CHECK(run(NULL, 0, values, 2, 9, &ended, &value, &steps, &statement, left, kept) == 3);
     CHECK(ended == 11 && value == -15 && steps == 12 && statement == 13 && left[0] == 14);
+    for (k = 0; k < 8; k++) CHECK(kept[k] == 16);
 
-    CHECK(run(program, length, values, 2, 12, &ended, &value, &steps, &statement, left) == 0);
+    CHECK(run(program, length, values, 2, 12, &ended, &value, &steps, &statement, left, kept) == 0);
     CHECK(ended == 1 && value == 9 && steps == 12 && statement == 13 && left[0] == 14);
+    for (k = 0; k < 8; k++) CHECK(kept[k] == 0);
 
-    CHECK(run(program, length, values, 2, 11, &ended, &value, &steps, &statement, left) == 0);
+    for (k = 0; k < 8; k++) kept[k] = 16;
+    CHECK(run(program, length, values, 2, 11, &ended, &value, &steps, &statement, left, kept) == 0);
     CHECK(ended == 0 && value == 9 && steps == 12 && statement == 8);
     CHECK(left[0] == 0 && left[1] == 2 && left[2] == 7 && left[3] == 9 && left[31] == 0);
+    for (k = 0; k < 8; k++) CHECK(kept[k] == 16);
+    return 0;
+}
+
+/* What the unit keeps: i24 to i31, told where the run ended. */
+static int kept_answers(void) {
+    static const char given[] = "read i0\ni24 := 5\ni31 := i0 - 1\nwrite i0\n";
+    static const char bare[] = "read i24\nwrite i24\n";
+    static const char used[] = "use(i24)", unused[] = "use(i23)", list[] = "2: mark(rm, i24, 5)\n";
+    static uint8_t verdicts[256], text[8704];
+    const uint8_t *p = (const uint8_t *)given, *b = (const uint8_t *)bare;
+    uint32_t values[32] = {0}, ended, steps, statement, left[32], first, second, third;
+    uint32_t places[10]; /* kept, with a word on both sides of it */
+    uint64_t table[256] = {0};
+    int32_t value;
+    size_t k;
+
+    values[25] = 7;
+    for (k = 0; k < 10; k++) places[k] = 0xa5c3e187;
+    CHECK(rewrites_run(p, strlen(given), values, 0, 4, &ended, &value, &steps, &statement, left,
+                       places + 1) == 0);
+    CHECK(ended == 1 && value == 0 && steps == 4);
+    CHECK(places[1] == 5 && places[2] == 7 && places[8] == 0xffffffff);
+    for (k = 3; k < 8; k++) CHECK(places[k] == 0);
+    CHECK(places[0] == 0xa5c3e187 && places[9] == 0xa5c3e187);
+
+    /* The budget is spent one step before the end. */
+    for (k = 0; k < 10; k++) places[k] = 0xa5c3e187;
+    CHECK(rewrites_run(b, strlen(bare), values, 9, 1, &ended, &value, &steps, &statement, left,
+                       places + 1) == 0);
+    CHECK(ended == 0 && statement == 2 && left[24] == 9 && left[25] == 7);
+    for (k = 0; k < 10; k++) CHECK(places[k] == 0xa5c3e187);
+    CHECK(rewrites_run(b, strlen(bare), values, 9, 2, &ended, &value, &steps, &statement, left,
+                       places + 1) == 0);
+    CHECK(ended == 1 && value == 9 && steps == 2 && places[1] == 9 && places[2] == 7);
+
+    /* They are used at `write`, so an assignment before it stays. */
+    CHECK(rewrites_tabulate(p, strlen(given), (const uint8_t *)used, strlen(used), table, 256, &first,
+                            &second, &third) == 0);
+    CHECK(first == 1 && second == 1 && third == 4 && table[0] == 8);
+    CHECK(rewrites_tabulate(p, strlen(given), (const uint8_t *)unused, strlen(unused), table, 256,
+                            &first, &second, &third) == 0);
+    CHECK(first == 1 && second == 0 && third == 0 && table[0] == 0);
+    CHECK(rewrites_judge(p, strlen(given), (const uint8_t *)list, strlen(list), verdicts, 256, text,
+                         8704, &first, &second, &third) == 0);
+    CHECK(first == 1 && second == 0 && third == strlen(given) && verdicts[0] == 14);
     return 0;
 }
 
@@ -128,10 +179,11 @@ static int below_zero_answers(void) {
     const uint8_t *p = (const uint8_t *)given, *m = (const uint8_t *)list;
     const uint32_t values[32] = {0};
     uint64_t table[256] = {0};
-    uint32_t ended, steps, statement, left[32], first, second, third;
+    uint32_t ended, steps, statement, left[32], kept[8], first, second, third;
     int32_t value;
 
-    CHECK(rewrites_run(p, strlen(given), values, 2, 4, &ended, &value, &steps, &statement, left) == 0);
+    CHECK(rewrites_run(p, strlen(given), values, 2, 4, &ended, &value, &steps, &statement, left,
+                       kept) == 0);
     CHECK(ended == 1 && value == 42 && steps == 4);
 
     CHECK(rewrites_tabulate(p, strlen(given), (const uint8_t *)condition, strlen(condition), table, 256,
@@ -149,5 +201,6 @@ static int below_zero_answers(void) {
 }
 
 int main(void) {
-    return run_answers() || tabulate_answers() || judge_answers() || below_zero_answers();
+    return run_answers() || kept_answers() || tabulate_answers() || judge_answers() ||
+           below_zero_answers();
 }

@@ -7,7 +7,7 @@ mod common;
 use common::{given, lines, refused_programs, shown, text, P};
 use oracle::generate::{self, Random};
 use rewrites::{judge, raw, run, tabulate, Judged, Outcome, Refusal, Verdict};
-use rewrites::{PART_WORDS, TABLE_WORDS, TEXT_BYTES, VERDICT_BYTES};
+use rewrites::{FIRST_KEPT, KEPT, PART_WORDS, TABLE_WORDS, TEXT_BYTES, VERDICT_BYTES};
 
 // What is lent
 
@@ -136,7 +136,7 @@ fn p() -> Vec<&'static str> {
 
 // Runs side by side
 
-/// The same value and steps, or spent at the same statement.
+/// The same value, steps and kept values, or spent at the same statement.
 fn alike(given: Outcome, new: Outcome) -> bool {
     match (given, new) {
         (Outcome::Spent { statement: n, .. }, Outcome::Spent { statement: m, .. }) => n == m,
@@ -163,6 +163,23 @@ fn value<L: AsRef<str>>(program: &[L], input: u32) -> i32 {
         Ok(Outcome::Ended { value, .. }) => value,
         other => panic!("{:?}", other),
     }
+}
+
+/// What a run keeps.
+fn kept<L: AsRef<str>>(program: &[L], input: u32) -> [u32; KEPT] {
+    match run(&text(program), &given(), input, 1000) {
+        Ok(Outcome::Ended { kept, .. }) => kept,
+        other => panic!("{:?}", other),
+    }
+}
+
+/// What is kept of the given values where these are changed.
+fn given_kept(changes: &[(usize, u32)]) -> [u32; KEPT] {
+    let mut kept: [u32; KEPT] = std::array::from_fn(|k| given()[FIRST_KEPT + k]);
+    for &(x, v) in changes {
+        kept[x - FIRST_KEPT] = v;
+    }
+    kept
 }
 
 // What a wrong rule would do
@@ -1079,6 +1096,135 @@ fn rpl_with_e_for_a_takes_a_copy_on_one_path() {
     );
 }
 
+// What the unit keeps
+
+#[test]
+fn an_assignment_to_i24_to_i31_stays_before_the_end() {
+    for x in 2..32 {
+        let (line, mark) = (format!("i{} := 5", x), format!("2: mark(rm, i{}, 5)", x));
+        let program = ["read i0", &line, "i1 := i0", "write i1"];
+        let without = changed(&program, &[(2, "skip")]);
+        assert_eq!(value(&program, 3), value(&without, 3));
+        match x {
+            24..=31 => {
+                assert_judged(&program, &[(&mark, 14)], &[]);
+                // Without it another value would be kept.
+                assert_eq!(kept(&program, 3), given_kept(&[(x, 5)]));
+                assert_eq!(kept(&without, 3), given_kept(&[]));
+            }
+            _ => assert_judged(&program, &[(&mark, 0)], &[(2, "skip")]),
+        }
+    }
+}
+
+#[test]
+fn only_the_last_value_is_kept() {
+    let program = ["read i0", "i24 := 5", "i24 := 6", "write i0"];
+    assert_judged_in_any_order(
+        &program,
+        &[("2: mark(rm, i24, 5)", 0), ("3: mark(rm, i24, 6)", 14)],
+        &[(2, "skip")],
+    );
+    // Another of the eight doesn't set it again.
+    let program = ["read i0", "i24 := 5", "i25 := 6", "write i0"];
+    assert_judged_in_any_order(
+        &program,
+        &[("2: mark(rm, i24, 5)", 14), ("3: mark(rm, i25, 6)", 14)],
+        &[],
+    );
+}
+
+#[test]
+fn a_run_that_never_ends_keeps_nothing() {
+    // Both arms of 3 go to 3; where one goes to the end it counts, whatever i0 is.
+    let program = ["read i0", "i31 := 5", "if i0 goto 3 else 3", "write i0"];
+    assert_judged(&program, &[("2: mark(rm, i31, 5)", 0)], &[(2, "skip")]);
+    let program = changed(&program, &[(3, "if i0 goto 3 else 4")]);
+    assert_judged(&program, &[("2: mark(rm, i31, 5)", 14)], &[]);
+}
+
+#[test]
+fn rpl_at_write_takes_the_written_variable_and_it_is_still_kept() {
+    let program = ["read i0", "i24 := i0", "write i24"];
+    assert_judged_in_any_order(
+        &program,
+        &[("3: mark(rpl, i24, i0)", 0), ("2: mark(rm, i24, i0)", 14)],
+        &[(3, "write i0")],
+    );
+    // So it is when the new program is judged.
+    let new = changed(&program, &[(3, "write i0")]);
+    assert_judged(&new, &[("2: mark(rm, i24, i0)", 14)], &[]);
+    assert_eq!(kept(&new, 3), given_kept(&[(24, 3)]));
+}
+
+#[test]
+fn rpl_at_write_does_not_fit_what_is_kept_only() {
+    // i25 is used at 3, and its condition is true there.
+    let program = ["read i0", "i25 := i0", "write i24"];
+    assert!(holds(&program, "use(i25)", 3));
+    assert!(holds(&program, &published("3: mark(rpl, i25, i0)"), 3));
+    assert_judged(&program, &[("3: mark(rpl, i25, i0)", 13)], &[]);
+    for written in [0, 23, 24, 28, 31] {
+        let line = format!("write i{}", written);
+        let program = ["read i0", "i25 := i0", &line];
+        for x in (1..32).filter(|&x| x != 25) {
+            // No `X := i9` stands anywhere.
+            let mark = format!("3: mark(rpl, i{}, i9)", x);
+            assert_judged(&program, &[(&mark, if x == written { 14 } else { 13 })], &[]);
+        }
+    }
+    // Nor do other statements take what they don't show.
+    let program = ["read i0", "i25 := i0", "skip", "if i0 goto 5 else 5", "i1 := i0", "write i1"];
+    for n in 1..=6 {
+        assert_judged(&program, &[(&format!("{}: mark(rpl, i25, i0)", n), 13)], &[]);
+    }
+}
+
+#[test]
+fn both_arms_of_an_if_set_what_is_kept() {
+    let program = [
+        "read i0",
+        "i24 := 9",
+        "if i0 goto 6 else 4",
+        "i24 := i1",
+        "if i0 goto 7 else 7",
+        "i24 := i2",
+        "write i24",
+    ];
+    // 2 is set again on both arms. What one arm sets is kept, and no one copy comes to 7.
+    assert_judged_in_any_order(
+        &program,
+        &[
+            ("2: mark(rm, i24, 9)", 0),
+            ("4: mark(rm, i24, i1)", 14),
+            ("6: mark(rm, i24, i2)", 14),
+            ("7: mark(rpl, i24, i1)", 14),
+        ],
+        &[(2, "skip")],
+    );
+    assert_eq!(kept(&program, 0), given_kept(&[(24, 1001)]));
+    assert_eq!(kept(&program, 1), given_kept(&[(24, 1002)]));
+    // One arm leaves what 2 set.
+    let one = changed(&program, &[(6, "skip")]);
+    assert_judged(&one, &[("2: mark(rm, i24, 9)", 14)], &[]);
+    // Both arms make the same copy, which may be written in its place; it stays for what is kept.
+    let same = changed(&program, &[(6, "i24 := i1")]);
+    assert_judged(
+        &same,
+        &[
+            ("7: mark(rpl, i24, i1)", 0),
+            ("4: mark(rm, i24, i1)", 14),
+            ("6: mark(rm, i24, i1)", 14),
+            ("2: mark(rm, i24, 9)", 0),
+        ],
+        &[(2, "skip"), (7, "write i1")],
+    );
+    // The arms may differ in what is kept alone.
+    let beside = changed(&program, &[(7, "write i0")]);
+    let marks = [("4: mark(rm, i24, i1)", 14), ("6: mark(rm, i24, i2)", 14)];
+    assert_judged(&beside, &marks, &[]);
+}
+
 // Unreachable statements
 
 #[test]
@@ -1417,8 +1563,9 @@ fn p_and_its_rewriting_run_alike() {
         }
     }
     let outcome = |input, budget| run(&rewritten, &given(), input, budget);
-    assert_eq!(outcome(0, 6), Ok(Outcome::Ended { value: 7, steps: 6 }));
-    assert_eq!(outcome(2, 12), Ok(Outcome::Ended { value: 9, steps: 12 }));
+    let kept = given_kept(&[]);
+    assert_eq!(outcome(0, 6), Ok(Outcome::Ended { value: 7, steps: 6, kept }));
+    assert_eq!(outcome(2, 12), Ok(Outcome::Ended { value: 9, steps: 12, kept }));
     assert!(matches!(outcome(2, 11), Ok(Outcome::Spent { statement: 8, .. })));
 }
 

@@ -4,7 +4,7 @@
 mod common;
 
 use common::{given, lines, shown, text, P};
-use rewrites::{raw, run, Outcome, Refusal};
+use rewrites::{raw, run, Outcome, Refusal, FIRST_KEPT, KEPT};
 
 /// The given values with some of them replaced.
 fn given_but(changes: &[(usize, u32)]) -> [u32; 32] {
@@ -15,8 +15,19 @@ fn given_but(changes: &[(usize, u32)]) -> [u32; 32] {
     values
 }
 
+/// What is kept of values at the end of a run.
+fn kept(values: [u32; 32]) -> [u32; KEPT] {
+    std::array::from_fn(|k| values[FIRST_KEPT + k])
+}
+
+/// A run from the given values that ended and kept i24 to i31 as they were.
 fn ended(value: i32, steps: u32) -> Result<Outcome, Refusal> {
-    Ok(Outcome::Ended { value, steps })
+    ended_with(value, steps, &[])
+}
+
+/// The same where these values are other than the given ones.
+fn ended_with(value: i32, steps: u32, changes: &[(usize, u32)]) -> Result<Outcome, Refusal> {
+    Ok(Outcome::Ended { value, steps, kept: kept(given_but(changes)) })
 }
 
 fn spent(statement: u32, values: [u32; 32]) -> Result<Outcome, Refusal> {
@@ -249,7 +260,7 @@ fn the_longest_program_is_taken() {
     let program = text(&program);
     assert_eq!(program.len(), 8401);
     // -2147483648 twice is -2^32.
-    assert_eq!(run(&program, &given(), 5, 256), ended(0, 256));
+    assert_eq!(run(&program, &given(), 5, 256), ended_with(0, 256, &[(31, 0)]));
 }
 
 #[test]
@@ -260,7 +271,7 @@ fn the_longest_program_without_signs_is_taken() {
     let program = text(&program);
     assert_eq!(program.len(), 7893);
     // 2147483647 twice is 2^32 - 2.
-    assert_eq!(run(&program, &given(), 5, 256), ended(-2, 256));
+    assert_eq!(run(&program, &given(), 5, 256), ended_with(-2, 256, &[(31, MINUS_2)]));
 }
 
 // Spelling
@@ -996,7 +1007,7 @@ fn write_writes_its_own_variable() {
             let program = [format!("read i{}", x), format!("write i{}", y)];
             let expected = if x == y { 5 } else { 1000 + y };
             let answer = run(&text(&program), &given(), 5, 2);
-            assert_eq!(answer, ended(expected, 2), "{:?}", program);
+            assert_eq!(answer, ended_with(expected, 2, &[(x as usize, 5)]), "{:?}", program);
         }
     }
 }
@@ -1077,6 +1088,94 @@ fn statements_that_no_step_reaches_are_not_performed() {
     assert_eq!(run_lines(&program, 5, 9), ended(5, 3));
 }
 
+// What is kept
+
+#[test]
+fn an_ended_run_tells_i24_to_i31_in_order() {
+    let kept = [1024, 1025, 1026, 1027, 1028, 1029, 1030, 1031];
+    let answer = run_lines(&["read i0", "write i0"], 5, 2);
+    assert_eq!(answer, Ok(Outcome::Ended { value: 5, steps: 2, kept }));
+    assert_eq!((FIRST_KEPT, KEPT), (24, 8));
+}
+
+#[test]
+fn what_is_kept_is_what_the_run_left() {
+    let program = ["read i0", "i24 := 5", "i31 := i0 - 1", "write i0"];
+    let mut values = [0; 32];
+    values[25] = 7;
+    let kept = [5, 7, 0, 0, 0, 0, 0, MINUS_1];
+    for budget in [4, 5, 1_000_000] {
+        let answer = run(&text(&program), &values, 0, budget);
+        assert_eq!(answer, Ok(Outcome::Ended { value: 0, steps: 4, kept }));
+    }
+    let mut left = values;
+    left[24] = 5;
+    left[31] = MINUS_1;
+    assert_eq!(run(&text(&program), &values, 0, 3), spent(4, left));
+}
+
+#[test]
+fn each_kept_variable_is_told_in_its_place_and_no_other_is() {
+    for x in 0..32 {
+        // Set before the end, read, and set twice.
+        for program in [
+            [format!("read i{}", (x + 1) % 24), format!("i{} := -77", x), "write i23".to_string()],
+            [format!("read i{}", x), "skip".to_string(), "write i31".to_string()],
+            [format!("read i{}", x), format!("i{} := i{} * -1", x, x), "write i0".to_string()],
+        ] {
+            let mut values = given();
+            let input = 77;
+            values[program[0][6..].parse::<usize>().unwrap()] = input;
+            if program[1] != "skip" {
+                values[x] = -77_i32 as u32;
+            }
+            let written: usize = program[2][7..].parse().unwrap();
+            let expected =
+                Outcome::Ended { value: values[written] as i32, steps: 3, kept: kept(values) };
+            assert_eq!(run(&text(&program), &given(), input, 3), Ok(expected), "{:?}", program);
+        }
+    }
+}
+
+#[test]
+fn all_32_bits_are_kept() {
+    let program = text(&["read i24", "i31 := i24 + i25", "write i0"]);
+    for input in [1, 255, 256, 65535, 65536, 1 << 24, MOST, LEAST, LEAST + 1, MINUS_2, MINUS_1] {
+        let values = [input; 32];
+        let mut kept = [input; KEPT];
+        kept[7] = input.wrapping_add(input);
+        let expected = Outcome::Ended { value: input as i32, steps: 3, kept };
+        assert_eq!(run(&program, &values, input, 3), Ok(expected));
+    }
+}
+
+#[test]
+fn both_arms_of_an_if_set_what_is_kept() {
+    let program = [
+        "read i0",
+        "if i0 goto 5 else 3",
+        "i27 := 5",
+        "if i0 goto 6 else 6",
+        "i27 := 6",
+        "write i0",
+    ];
+    assert_eq!(run_lines(&program, 0, 9), ended_with(0, 5, &[(27, 5)]));
+    assert_eq!(run_lines(&program, 2, 9), ended_with(2, 4, &[(27, 6)]));
+}
+
+#[test]
+fn what_one_pass_keeps_starts_the_next() {
+    // i30 counts passes, and i24 sums up the inputs.
+    let program = text(&["read i0", "i30 := i30 + 1", "i24 := i24 + i0", "write i24"]);
+    let mut values = [0; 32];
+    for (pass, (input, sum)) in [(5, 5), (7, 12), (MINUS_1, 11)].into_iter().enumerate() {
+        let kept = [sum, 0, 0, 0, 0, 0, pass as u32 + 1, 0];
+        let answer = run(&program, &values, input, 4);
+        assert_eq!(answer, Ok(Outcome::Ended { value: sum as i32, steps: 4, kept }));
+        values[FIRST_KEPT..FIRST_KEPT + KEPT].copy_from_slice(&kept);
+    }
+}
+
 // What is lent
 
 /// The places lent to a raw call, with guards around the values.
@@ -1089,6 +1188,8 @@ struct Lent {
     statement: u32,
     before: [u32; 32],
     left: [u32; 32],
+    between: [u32; 32],
+    kept: [u32; KEPT],
     after: [u32; 32],
 }
 
@@ -1099,6 +1200,8 @@ const LENT: Lent = Lent {
     statement: 0xeeee_0004,
     before: [0xbbbb_bbbb; 32],
     left: [0xcccc_cccc; 32],
+    between: [0xaaaa_aaaa; 32],
+    kept: [0x9999_9999; KEPT],
     after: [0xdddd_dddd; 32],
 };
 
@@ -1120,6 +1223,7 @@ fn lend(text: &[u8], input: u32, budget: u32) -> (u8, Lent) {
             &mut lent.steps,
             &mut lent.statement,
             &mut lent.left,
+            &mut lent.kept,
         )
     };
     assert_eq!(program, text);
@@ -1146,8 +1250,8 @@ fn a_refused_call_changes_nothing_lent() {
 }
 
 #[test]
-fn an_ended_run_sets_value_and_steps_and_keeps_the_rest() {
-    let expected = Lent { ended: 1, value: 9, steps: 12, ..LENT };
+fn an_ended_run_sets_value_steps_and_kept_values_and_keeps_the_rest() {
+    let expected = Lent { ended: 1, value: 9, steps: 12, kept: kept(given()), ..LENT };
     assert_eq!(lend(P.as_bytes(), 2, 12), (0, expected.clone()));
     assert_eq!(lend(P.as_bytes(), 2, 1_000_000), (0, expected));
 }
@@ -1159,6 +1263,13 @@ fn a_spent_run_sets_statement_and_values_and_keeps_the_rest() {
     assert_eq!(lend(P.as_bytes(), 2, 11), (0, expected));
     let expected = Lent { ended: 0, statement: 1, left: given(), ..LENT };
     assert_eq!(lend(P.as_bytes(), 2, 0), (0, expected));
+    // One step before the end.
+    let left = given_but(&[(24, 9)]);
+    let expected = Lent { ended: 0, statement: 2, left, ..LENT };
+    assert_eq!(lend(b"read i24\nwrite i24\n", 9, 1), (0, expected));
+    let kept = kept(left);
+    let expected = Lent { ended: 1, value: 9, steps: 2, kept, ..LENT };
+    assert_eq!(lend(b"read i24\nwrite i24\n", 9, 2), (0, expected));
 }
 
 // Refusals

@@ -19,10 +19,10 @@ static uint8_t number;
 static void *nothing(void *unused) { return unused; }
 
 static void *run(void *unused) {
-    static uint32_t values[32], ended, steps, statement, left[32];
+    static uint32_t values[32], ended, steps, statement, left[32], kept[8];
     static int32_t value;
     number = rewrites_run(program, program_len, values, 0, 1000, &ended, &value, &steps, &statement,
-                          left);
+                          left, kept);
     return unused;
 }
 

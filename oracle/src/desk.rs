@@ -1,7 +1,7 @@
 //! What the desk's programs print: the viewer, the runner, and the comparison of two runs.
 
 use crate::condition::{Checker, Condition};
-use crate::machine::{self, Outcome, Run, State, Values, VALUES};
+use crate::machine::{self, Kept, Outcome, Run, State, Values, VALUES};
 use crate::marks::{self, TEXT_BYTES, VERDICT_BYTES};
 use crate::program::{Program, Statement};
 use crate::steps::Steps;
@@ -173,6 +173,12 @@ fn head(step: usize, at: u32, statement: &str) -> String {
     format!("{step:STEP_COLUMNS$}  {at:NUMBER_COLUMNS$}  {statement:STATEMENT_COLUMNS$}")
 }
 
+/// The line of a run that ended: the written value, the steps, and the values that the unit keeps.
+fn ended(value: i32, steps: u32, kept: &Kept) -> String {
+    let kept: String = kept.iter().map(|&value| format!(" {}", value as i32)).collect();
+    format!("ended {value} steps {steps} kept{kept}\n")
+}
+
 /// What the runner prints for a program and a start, with every step if `trace` says so.
 pub fn run(program: &[u8], start: &[u8], trace: bool) -> String {
     let start = match read_start(start) {
@@ -195,7 +201,7 @@ pub fn run(program: &[u8], start: &[u8], trace: bool) -> String {
         }
     }
     match outcome {
-        Outcome::Ended { value, steps } => text += &format!("ended {value} steps {steps}\n"),
+        Outcome::Ended { value, steps, kept } => text += &ended(value, steps, &kept),
         Outcome::Spent { statement, values } => {
             text += &format!("spent at {statement}\n");
             for (x, &value) in values.iter().enumerate() {
@@ -238,7 +244,9 @@ pub fn compare(program: &[u8], list: &[u8], start: &[u8]) -> String {
     let rewritten_ends = run(&new).expect("a rewritten program is taken");
     for (name, outcome) in [("given", given_ends), ("rewritten", rewritten_ends)] {
         text += &match outcome {
-            Outcome::Ended { value, steps } => format!("{name} ended {value} steps {steps}\n"),
+            Outcome::Ended { value, steps, kept } => {
+                format!("{name} {}", ended(value, steps, &kept))
+            }
             Outcome::Spent { statement, .. } => format!("{name} spent at {statement}\n"),
         };
     }

@@ -4,7 +4,8 @@ use crate::condition::LONGEST_TEXT;
 use crate::machine::{Values, LARGEST_BUDGET};
 use crate::marks::{Judge, Kind, Mark};
 use crate::program::{
-    Expression, Operand, Operator, Program, Statement, LARGEST, LEAST, MOST_LINES, VARIABLES,
+    is_kept, Expression, Operand, Operator, Program, Statement, FIRST_KEPT, KEPT, LARGEST, LEAST,
+    MOST_LINES, VARIABLES,
 };
 
 /// A source of random numbers (splitmix64).
@@ -104,10 +105,12 @@ struct Style {
 
 impl Style {
     fn new(random: &mut Random) -> Style {
-        let mut variables: Vec<u8> = (0..VARIABLES).collect();
-        if random.chance(70) {
-            variables.truncate(8);
-        }
+        let mut variables: Vec<u8> = match random.below(10) {
+            0..=3 => (0..8).collect(),
+            // Those that the unit keeps, and the last of the others.
+            4..=6 => (FIRST_KEPT - 4..FIRST_KEPT + KEPT as u8).collect(),
+            _ => (0..VARIABLES).collect(),
+        };
         random.shuffle(&mut variables);
         variables.truncate(random.between(1, 6));
         let constants = (0..random.between(1, 3)).map(|_| constant(random)).collect();
@@ -146,6 +149,16 @@ impl Style {
         Statement::Branch { tested: self.variable(random), then: then as u32, other: other as u32 }
     }
 
+    /// An `if` at statement `at` whose arms both set a kept variable and meet again behind them.
+    fn kept_on_both_arms(&self, random: &mut Random, at: usize, lines: &mut Vec<Statement>) {
+        let (tested, x) = (self.variable(random), kept(random));
+        let mut set = || Statement::Assign(x, Expression::Single(self.operand(random)));
+        let (one, other) = (set(), set());
+        let goto =
+            |n: usize, m: usize| Statement::Branch { tested, then: n as u32, other: m as u32 };
+        lines.extend([goto(at + 3, at + 1), one, goto(at + 4, at + 4), other]);
+    }
+
     /// Copies of variables and constants, then uses of what was copied.
     fn copies(&self, random: &mut Random, lines: &mut Vec<Statement>) {
         let copied: Vec<u8> = (0..random.between(1, 3)).map(|_| self.variable(random)).collect();
@@ -165,6 +178,11 @@ impl Style {
             lines.push(Statement::Assign(self.variable(random), right));
         }
     }
+}
+
+/// A variable that the unit keeps.
+fn kept(random: &mut Random) -> u8 {
+    FIRST_KEPT + random.below(KEPT) as u8
 }
 
 /// A constant's bits, often those of one at an end of its range or near 0. Of three one is below zero.
@@ -234,7 +252,7 @@ pub fn program(random: &mut Random, size: usize) -> Program {
             lines.push(style.branch(random, at, size));
             continue;
         }
-        match random.below(10) {
+        match random.below(11) {
             0 => lines.push(Statement::Skip),
             // A loop that counts down.
             1 if style.branches > 0 && at + 2 < size => {
@@ -267,6 +285,9 @@ pub fn program(random: &mut Random, size: usize) -> Program {
                     style.operand(random),
                 );
                 lines.push(Statement::Assign(style.variable(random), right));
+            }
+            5 if style.branches > 0 && at + 4 <= size => {
+                style.kept_on_both_arms(random, at, &mut lines);
             }
             _ => style.copies(random, &mut lines),
         }
@@ -420,7 +441,7 @@ fn fitting(random: &mut Random, program: &Program, number: u32) -> Vec<Mark> {
     if let Statement::Assign(x, e) = statement {
         marks.push(Mark { number, variable: x, kind: Kind::Remove(e) });
     }
-    for x in (0..VARIABLES).filter(|&x| statement.uses(x)) {
+    for x in (0..VARIABLES).filter(|&x| statement.shows(x)) {
         let copied = |at: usize| match statements[at] {
             Statement::Assign(y, Expression::Single(a)) if y == x => Some(a),
             _ => None,
@@ -442,13 +463,25 @@ fn fitting(random: &mut Random, program: &Program, number: u32) -> Vec<Mark> {
 /// conditions, and some of them again.
 fn fitting_by_any(random: &mut Random, program: &Program, number: u32) -> Option<Mark> {
     let statement = program.statement(number)?;
-    let used: Vec<u8> = (0..VARIABLES).filter(|&x| statement.uses(x)).collect();
+    let used: Vec<u8> = (0..VARIABLES).filter(|&x| statement.shows(x)).collect();
     let by = match statement {
         Statement::Assign(..) if random.chance(60) => Operand::Constant(constant(random)),
         _ => Operand::Variable(random.below(usize::from(VARIABLES)) as u8),
     };
     let kind = Kind::Replace(by);
     (!used.is_empty()).then(|| Mark { number, variable: random.pick(&used), kind })
+}
+
+/// A mark that fits an assignment to a kept variable and drops it.
+fn dropping_kept(random: &mut Random, program: &Program) -> Option<Mark> {
+    let drop = |(at, statement): (usize, &Statement)| match *statement {
+        Statement::Assign(variable, e) if is_kept(variable) => {
+            Some(Mark { number: at as u32 + 1, variable, kind: Kind::Remove(e) })
+        }
+        _ => None,
+    };
+    let marks: Vec<Mark> = program.statements().iter().enumerate().filter_map(drop).collect();
+    (!marks.is_empty()).then(|| random.pick(&marks))
 }
 
 /// Any mark at all for this statement number.
@@ -461,7 +494,8 @@ fn any_mark(random: &mut Random, program: &Program, number: u32) -> Mark {
 }
 
 /// A list of marks for a program. In most lists most are such that they are accepted by themselves, if there are
-/// such; the others fit only, name a statement again, name one that the program lacks, or are any.
+/// such; the others fit only, drop what is kept, name a statement again, name one that the program lacks, replace a
+/// kept variable at `write`, or are any.
 pub fn marks(random: &mut Random, program: &Program, count: usize) -> Vec<Mark> {
     let judge = Judge::new(program);
     let mut unnamed: Vec<u32> = (1..=program.count()).collect();
@@ -471,10 +505,10 @@ pub fn marks(random: &mut Random, program: &Program, count: usize) -> Vec<Mark> 
     while list.len() < count {
         let somewhere = 1 + random.below(program.count() as usize) as u32;
         let mark = match random.below(100) {
-            0..=69 if is_varied => {
+            0..=67 if is_varied => {
                 unnamed.pop().and_then(|number| fitting_by_any(random, program, number))
             }
-            0..=69 => loop {
+            0..=67 => loop {
                 let candidates = match unnamed.pop() {
                     Some(number) => fitting(random, program, number),
                     None => break None,
@@ -484,6 +518,7 @@ pub fn marks(random: &mut Random, program: &Program, count: usize) -> Vec<Mark> 
                     break good;
                 }
             },
+            68 | 69 => dropping_kept(random, program),
             70..=82 => fitting(random, program, somewhere).pop(),
             83..=88 if !list.is_empty() => {
                 let number = random.pick(&list).number;
@@ -501,6 +536,12 @@ pub fn marks(random: &mut Random, program: &Program, count: usize) -> Vec<Mark> 
                 }
                 _ => None,
             },
+            // It fits where that variable is written, and not where it is kept only.
+            97 => {
+                let by = Operand::Variable(variable_near(random, program));
+                let (number, variable) = (program.count(), kept(random));
+                Some(Mark { number, variable, kind: Kind::Replace(by) })
+            }
             _ => None,
         };
         list.push(mark.unwrap_or_else(|| any_mark(random, program, somewhere)));

@@ -1,6 +1,6 @@
 //! Runs by steps.
 
-use crate::program::{Expression, Operand, Operator, Program, Statement};
+use crate::program::{Expression, Operand, Operator, Program, Statement, FIRST_KEPT, KEPT};
 
 /// The number of variables.
 pub const VALUES: usize = 32;
@@ -8,13 +8,16 @@ pub const VALUES: usize = 32;
 /// The values of `i0` to `i31`.
 pub type Values = [u32; VALUES];
 
+/// The values of `i24` to `i31`.
+pub type Kept = [u32; KEPT];
+
 /// The largest budget that isn't refused.
 pub const LARGEST_BUDGET: u32 = 1_000_000;
 
 /// What a run under a budget answers.
 #[derive(Clone, Copy, Debug, PartialEq, Eq)]
 pub enum Outcome {
-    Ended { value: i32, steps: u32 },
+    Ended { value: i32, steps: u32, kept: Kept },
     Spent { statement: u32, values: Values },
 }
 
@@ -22,7 +25,7 @@ pub enum Outcome {
 #[derive(Clone, Copy, Debug, PartialEq, Eq)]
 pub enum State {
     Before { statement: u32, values: Values },
-    Ended { value: i32 },
+    Ended { value: i32, kept: Kept },
 }
 
 /// A run of a program without a budget.
@@ -31,6 +34,11 @@ pub struct Run<'a> {
     program: &'a Program,
     input: u32,
     state: State,
+}
+
+/// The values that the unit keeps for its next pass.
+pub fn kept_of(values: &Values) -> Kept {
+    std::array::from_fn(|k| values[usize::from(FIRST_KEPT) + k])
 }
 
 fn operand_value(operand: Operand, values: &Values) -> u32 {
@@ -83,7 +91,7 @@ impl<'a> Run<'a> {
             }
             Statement::Write(x) => {
                 let value = values[usize::from(x)] as i32;
-                self.state = State::Ended { value };
+                self.state = State::Ended { value, kept: kept_of(values) };
                 return;
             }
         }
@@ -97,7 +105,7 @@ pub fn run_program(program: &Program, values: Values, input: u32, budget: u32) -
     let mut steps = 0;
     loop {
         match *run.state() {
-            State::Ended { value } => return Outcome::Ended { value, steps },
+            State::Ended { value, kept } => return Outcome::Ended { value, steps, kept },
             State::Before { statement, values } if steps == budget => {
                 return Outcome::Spent { statement, values };
             }
@@ -116,11 +124,11 @@ pub fn run(program: &[u8], values: Values, input: u32, budget: u32) -> Result<Ou
     Ok(run_program(&Program::read(program)?, values, input, budget))
 }
 
-/// Whether two runs stand at the same place: before one statement, or ended with one value.
+/// Whether two runs stand at the same place: before one statement, or ended with one value and the same kept ones.
 pub fn same_place(one: &State, other: &State) -> bool {
     match (one, other) {
         (State::Before { statement: a, .. }, State::Before { statement: b, .. }) => a == b,
-        (State::Ended { value: a }, State::Ended { value: b }) => a == b,
+        (State::Ended { .. }, State::Ended { .. }) => one == other,
         _ => false,
     }
 }

@@ -61,7 +61,7 @@ impl Mark {
             Kind::Replace(a) => {
                 let wants_variable =
                     matches!(statement, Statement::Branch { .. } | Statement::Write(_));
-                statement.uses(self.variable)
+                statement.shows(self.variable)
                     && (matches!(a, Operand::Variable(_)) || !wants_variable)
             }
         }
@@ -154,6 +154,18 @@ impl<'a> Judge<'a> {
         } else {
             14
         }
+    }
+
+    /// Whether an `rm` that fits is refused only because the unit keeps its variable: nothing that a text shows as
+    /// used speaks against it.
+    pub fn is_refused_for_kept_alone(&self, mark: &Mark) -> bool {
+        let x = mark.variable;
+        let shown = format!("!EX E[!def(i{x}) U ((use(i{x}) & !exit) | stmt(write i{x}))]");
+        let shown = Condition::read(shown.as_bytes()).expect("a condition is well spelled");
+        let mut checker = Checker::new(self.program, &self.steps, &shown);
+        matches!(mark.kind, Kind::Remove(_))
+            && self.verdict(mark, false) == 14
+            && checker.whole_holds(mark.number as usize - 1)
     }
 
     /// The verdicts of a whole list, in its order.

@@ -14,8 +14,18 @@ pub const LEAST: u32 = i32::MIN as u32;
 /// The number of variables, `i0` to `i31`.
 pub const VARIABLES: u8 = 32;
 
+/// The first of the variables that the unit keeps from one pass to the next, and how many there are: `i24` to
+/// `i31`.
+pub const FIRST_KEPT: u8 = 24;
+pub const KEPT: usize = 8;
+
 /// The largest number of lines of a program.
 pub const MOST_LINES: usize = 256;
+
+/// Whether the unit keeps a variable from one pass to the next.
+pub fn is_kept(x: u8) -> bool {
+    x >= FIRST_KEPT && usize::from(x - FIRST_KEPT) < KEPT
+}
 
 #[derive(Clone, Copy, Debug, PartialEq, Eq, Hash)]
 pub enum Operand {
@@ -169,13 +179,19 @@ impl Statement {
         self.defined() == Some(x)
     }
 
-    pub fn uses(&self, x: u8) -> bool {
+    /// Whether the text shows a variable as used: in the right side, tested or written.
+    pub fn shows(&self, x: u8) -> bool {
         match self {
             Statement::Assign(_, right) => right.mentions(x),
             Statement::Branch { tested, .. } => *tested == x,
             Statement::Write(written) => *written == x,
             Statement::Read(_) | Statement::Skip => false,
         }
+    }
+
+    /// Whether a variable is used: shown so, or kept when the run ends.
+    pub fn uses(&self, x: u8) -> bool {
+        self.shows(x) || (matches!(self, Statement::Write(_)) && is_kept(x))
     }
 }
 

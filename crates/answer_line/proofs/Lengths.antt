@@ -1,11 +1,23 @@
 -- How long a line can be. Assumes nothing.
-use Prim.Native.Nat.{_≤_}
+use mathlib.Core.Path.{refl}
+use mathlib.Core.List.{List, _∷_}
+use Prim.Native.Nat.{ℕ, _≤_}
 use native.Mathlib.Omega.{arith}
+use lib.ListN.{getD}
+use Rattle.language.specs.Spelling.{spellConstant}
+use Rattle.language.specs.Kept.{kept-count}
+use Rattle.language.proofs.Lengths.{constant-most}
+use Rattle.statement_writer.proofs.Series.{Parts}
 use Rattle.machine.specs.declared.Answer.{Answer}
 use Rattle.machine.specs.declared.Answer.the-variants.{Ended, Spent}
-use Rattle.answer_line.specs.AnswerLine.{answer-room, lineRoom}
+use Rattle.answer_line.specs.AnswerLine.{spacedValues, spaced-room, answer-room, lineRoom}
 
 -- each line has room where the longest has
 pub line-most : (a : Answer) → lineRoom a ≤ answer-room
 line-most (Ended v k) = omega arith
 line-most (Spent n) = omega arith
+
+-- a value after a space, for each that is kept
+pub spaced-parts : (ks : List ℕ) → Parts (λ n. spacedValues n ks) (λ n. 32 ∷ spellConstant (getD ks n 0)) kept-count spaced-room
+unfolding spacedValues
+spaced-parts ks = record { none = refl; more = λ n. refl; short = λ n h. omega (arith, constant-most (getD ks n 0)) }

@@ -3,8 +3,9 @@ use mathlib.Core.Path.{_≡_, refl, sym, ap, _∙_, subst}
 use mathlib.Core.Bool.{Bool, true, false, _&&_, _||_, or-false}
 use mathlib.Core.List.{List, []}
 use mathlib.Core.Logic.{_↔_, _⊎_, inl, inr, ⊎-elim}
-use Prim.Native.Nat.{ℕ, _+_, _*_, _≤_, _<_}
+use Prim.Native.Nat.{ℕ, zero, suc, _+_, _*_, _≤_, _<_}
 use native.Mathlib.Decide.{ℕ-discrete}
+use native.Mathlib.Numerals.{add-one}
 use native.Mathlib.Omega.{arith}
 use lib.Dec.{eqb}
 use lib.ListN.{length, getD, set, length-set}
@@ -12,6 +13,7 @@ use lib.Seq.{getD-set-same, getD-set-other}
 use borrow.Author.Count.{below-more}
 use borrow.Author.Tests.{eq-eqb, ne-eqb, eqb-true}
 use Rattle.language.specs.Spelling.{variables, Valid}
+use Rattle.language.specs.Kept.{first-kept, kept-count, Kept as KeptVariable}
 use Rattle.language.specs.declared.Operand.{Operand}
 use Rattle.language.specs.declared.Operand.the-variants.{Variable, Constant}
 use Rattle.language.specs.declared.Expression.{Expression}
@@ -30,7 +32,7 @@ use Rattle.labelling.specs.Labels.{Labelled}
 use Rattle.labelling.proofs.Labels.{label-skip, label-join}
 use Rattle.truth.specs.Truth.{InOperand, In, Defines, Uses}
 use Rattle.codes.specs.Codes.{statementCode, code-words, codeWords}
-use Rattle.atoms.specs.Facts.{definedRow, usedRow, fact-rows, fact-words, placed, FactsBelow, notedOperand, notedExpression, noted, Marked}
+use Rattle.atoms.specs.Facts.{definedRow, usedRow, fact-rows, fact-words, placed, FactsBelow, notedOperand, notedExpression, notedKept, noted, Marked}
 use Rattle.atoms.proofs.Rows.{label-same}
 
 -- ---- one place in some rows
@@ -84,6 +86,15 @@ marked-both {a} {b} {c} {f} {g} {s} m n = record {
   bits = λ r j l. n .bits r j l ∙ ap (λ (x : Bool). x || (g r && eqb s j)) (m .bits r j l) ∙ or-spread (placed a r j) (f r) (g r) (eqb s j);
 }
 
+-- of the kept variables none yet, and one more
+pub marked-unkept : (rows : List ℕ) (s : ℕ) → Marked rows rows (notedKept 0) s
+unfolding notedKept
+marked-unkept rows s = marked-none rows s
+
+pub marked-kept : {a b c : List ℕ} {s : ℕ} (k : ℕ) → Marked a b (notedKept k) s → Marked b c (eqb (usedRow (first-kept + k))) s → Marked a c (notedKept (k + 1)) s
+unfolding notedKept
+marked-kept k m n = rw add-one (marked-both m n)
+
 -- ---- which rows a statement's place stands in
 
 operand-low : (a : Operand) (x : ℕ) → notedOperand a (definedRow x) ≡ false
@@ -93,6 +104,11 @@ operand-low (Constant n) x = refl
 expression-low : (e : Expression) (x : ℕ) → notedExpression e (definedRow x) ≡ false
 expression-low (Single a) x = operand-low a x
 expression-low (Binary a o b) x = rw (operand-low a x) (operand-low b x)
+
+kept-low : (n x : ℕ) → notedKept n (definedRow x) ≡ false
+unfolding notedKept
+kept-low zero x = refl
+kept-low (suc n) x = rw (kept-low n x) (ne-eqb (usedRow (first-kept + n)) (definedRow x) (omega arith))
 
 -- rows of the same kind are of the same variable
 defined-iff : (y x : ℕ) → (eqb (definedRow y) (definedRow x) ≡ true) ↔ (x ≡ y)
@@ -106,7 +122,7 @@ none-iff r q n = (λ e. n (eqb-true r q e), λ d. absurd d)
 
 noted-defined : (i : Statement) (x : ℕ) → (noted i (definedRow x) ≡ true) ↔ Defines i x
 noted-defined (Read y) x = defined-iff y x
-noted-defined (Write y) x = none-iff (usedRow y) (definedRow x) (omega arith)
+noted-defined (Write y) x = rw (kept-low kept-count x, or-false (eqb (usedRow y) (definedRow x))) (none-iff (usedRow y) (definedRow x) (omega arith))
 noted-defined (Assign y e) x = rw (expression-low e x, or-false (eqb (definedRow y) (definedRow x))) (defined-iff y x)
 noted-defined (Branch y n m) x = none-iff (usedRow y) (definedRow x) (omega arith)
 noted-defined Skip x = (λ e. clash e refl, λ d. absurd d)
@@ -124,12 +140,43 @@ expression-used (Binary a o b) x =
       λ h. ⊎-elim (λ i. or-left p q (operand-used a x .1 i)) (λ i. or-right p q (operand-used b x .1 i)) h,
     )
 
+-- one kept variable more
+kept-more :
+    (n x : ℕ) → (notedKept n (usedRow x) ≡ true) ↔ ((first-kept ≤ x) × (x < first-kept + n))
+    → ((notedKept n (usedRow x) || eqb (usedRow (first-kept + n)) (usedRow x)) ≡ true) ↔ ((first-kept ≤ x) × (x < first-kept + suc n))
+kept-more n x f = (to, λ h. from h (ℕ-discrete x (first-kept + n)))
+  where
+    to : (notedKept n (usedRow x) || eqb (usedRow (first-kept + n)) (usedRow x)) ≡ true → (first-kept ≤ x) × (x < first-kept + suc n)
+    to e =
+        ⊎-elim
+        (λ h. let k = f .0 h in (k .0, omega (arith, k .1)))
+        (λ h. let d = used-iff (first-kept + n) x .0 h in (omega (arith, d), omega (arith, d)))
+        (or-case (notedKept n (usedRow x)) (eqb (usedRow (first-kept + n)) (usedRow x)) e)
+
+    from : (first-kept ≤ x) × (x < first-kept + suc n) → Dec (x ≡ first-kept + n) → (notedKept n (usedRow x) || eqb (usedRow (first-kept + n)) (usedRow x)) ≡ true
+    from h (yes d) = or-right (notedKept n (usedRow x)) _ (used-iff (first-kept + n) x .1 d)
+    from h (no d) = or-left (notedKept n (usedRow x)) _ (f .1 (h .0, omega (arith, h .1)))
+
+kept-used : (n x : ℕ) → (notedKept n (usedRow x) ≡ true) ↔ ((first-kept ≤ x) × (x < first-kept + n))
+unfolding notedKept
+kept-used zero x = (λ e. clash e refl, λ h. absurd (omega (arith, h .0, h .1)))
+kept-used (suc n) x = kept-more n x (kept-used n x)
+
+-- what shows no use of a kept variable at all
+plainly : {X Y : Type 0} {x : ℕ} → X ↔ Y → X ↔ (Y ⊎ (⊥ × KeptVariable x))
+plainly f = (λ e. inl (f .0 e), λ h. ⊎-elim (f .1) (λ k. absurd (k .0)) h)
+
 noted-used : (i : Statement) (x : ℕ) → (noted i (usedRow x) ≡ true) ↔ Uses i x
-noted-used (Read y) x = none-iff (definedRow y) (usedRow x) (omega arith)
-noted-used (Write y) x = used-iff y x
-noted-used (Assign y e) x = rw (ne-eqb (definedRow y) (usedRow x) (omega arith)) (expression-used e x)
-noted-used (Branch y n m) x = used-iff y x
-noted-used Skip x = (λ e. clash e refl, λ d. absurd d)
+noted-used (Read y) x = plainly (none-iff (definedRow y) (usedRow x) (omega arith))
+noted-used (Write y) x =
+    let p = eqb (usedRow y) (usedRow x) in
+    let q = notedKept kept-count (usedRow x) in (
+      λ e. ⊎-elim (λ h. inl (used-iff y x .0 h)) (λ h. inr (tt, kept-used kept-count x .0 h)) (or-case p q e),
+      λ h. ⊎-elim (λ i. or-left p q (used-iff y x .1 i)) (λ i. or-right p q (kept-used kept-count x .1 (i .1))) h,
+    )
+noted-used (Assign y e) x = plainly (rw (ne-eqb (definedRow y) (usedRow x) (omega arith)) (expression-used e x))
+noted-used (Branch y n m) x = plainly (used-iff y x)
+noted-used Skip x = plainly (λ e. clash e refl, λ d. absurd d)
 
 -- ---- statement by statement
 

@@ -3,10 +3,11 @@
 use mathlib.Core.Path.{_≡_}
 use mathlib.Core.Bool.{Bool, true, false, _&&_, _||_}
 use mathlib.Core.List.{List, []}
-use Prim.Native.Nat.{ℕ, _+_, _*_, _<_}
+use Prim.Native.Nat.{ℕ, zero, suc, _+_, _*_, _<_}
 use lib.Dec.{eqb}
 use lib.ListN.{length, getD}
 use Rattle.language.specs.Spelling.{variables}
+use Rattle.language.specs.Kept.{first-kept, kept-count}
 use Rattle.language.specs.declared.Operand.{Operand}
 use Rattle.language.specs.declared.Operand.the-variants.{Variable, Constant}
 use Rattle.language.specs.declared.Expression.{Expression}
@@ -66,9 +67,14 @@ abbrev pub notedExpression : Expression → ℕ → Bool
 notedExpression (Single a) r = notedOperand a r
 notedExpression (Binary a o b) r = notedOperand a r || notedOperand b r
 
+-- the using rows of the first n kept variables
+unfoldable pub notedKept : ℕ → ℕ → Bool
+notedKept zero r = false
+notedKept (suc n) r = notedKept n r || eqb (usedRow (first-kept + n)) r
+
 abbrev pub noted : Statement → ℕ → Bool
 noted (Read y) r = eqb (definedRow y) r
-noted (Write y) r = eqb (usedRow y) r
+noted (Write y) r = eqb (usedRow y) r || notedKept kept-count r
 noted (Assign y e) r = eqb (definedRow y) r || notedExpression e r
 noted (Branch y n m) r = eqb (usedRow y) r
 noted Skip r = false

@@ -6,6 +6,7 @@ ghost use Prim.Native.Nat.{ℕ, _+_, _≤_, _<_};
 ghost use lib.Dec.{eqb};
 ghost use lib.ListN.{length};
 ghost use Rattle.language.specs.Spelling.{ValidOperand, ValidExpression, Valid};
+ghost use Rattle.language.specs.Kept.{kept-count};
 ghost use Rattle.language.specs.declared.Statement.{Statement as StatementOf};
 ghost use Rattle.program.specs.Program.{at, most, row-words, WellFormed};
 ghost use Rattle.program.specs.Reading.{statements, Held};
@@ -15,10 +16,12 @@ ghost use Rattle.labelling.specs.Labels.{Labelled};
 ghost use Rattle.condition.specs.Condition.{ValidAtom};
 ghost use Rattle.truth.specs.Truth.{InOperand, In, Defines, Holds};
 ghost use Rattle.codes.specs.Codes.{code-words};
-ghost use Rattle.atoms.specs.Facts.{rowNumber, fact-rows, fact-words, placed, FactsBelow, FactsOf, Sized, notedOperand, notedExpression, noted, Marked};
+ghost use Rattle.atoms.specs.Facts.{rowNumber, fact-rows, fact-words, placed, FactsBelow, FactsOf, Sized, notedOperand, notedExpression, notedKept, noted, Marked};
 use codes::CODE_WORDS;
 use condition::Atom;
 use language::Expression;
+use language::FIRST_KEPT;
+use language::KEPT;
 use language::Operand;
 use language::Statement;
 use program::MOST;
@@ -97,6 +100,19 @@ fn note_expression(e: Expression, s: usize, rows: &mut [u64])
     }
 }
 
+// The kept variables are used at place s.
+fn note_kept(s: usize, rows: &mut [u64])
+    requires { ⌜ (s < most) × (length (now rows) ≡ fact-words) ⌝ }
+    ensures { λ _. ⌜ Marked (now (rows .entry)) (now (rows .exit)) (notedKept kept-count) s ⌝ }
+{
+    let mut k: usize = 0;
+    while k < KEPT {
+        let x = FIRST_KEPT + k;
+        mark(row_number(x as u8, true), s, rows);
+        k += 1;
+    }
+}
+
 // The variables that the statement at place s defines and uses.
 fn note(i: Statement, s: usize, rows: &mut [u64])
     requires { ⌜ Valid i × (s < most) × (length (now rows) ≡ fact-words) ⌝ }
@@ -104,7 +120,10 @@ fn note(i: Statement, s: usize, rows: &mut [u64])
 {
     match i {
         Statement::Read(x) => mark(row_number(x, false), s, rows),
-        Statement::Write(x) => mark(row_number(x, true), s, rows),
+        Statement::Write(x) => {
+            mark(row_number(x, true), s, rows);
+            note_kept(s, rows);
+        }
         Statement::Assign(x, e) => {
             mark(row_number(x, false), s, rows);
             note_expression(e, s, rows);

@@ -2,9 +2,11 @@
 use mathlib.Core.Path.{_≡_, refl, subst}
 use mathlib.Core.Bool.{Bool, true, false, not, _&&_, _||_}
 use mathlib.Core.Logic.{_⊎_, inl}
-use Prim.Native.Nat.{ℕ, _+_}
-use lib.Dec.{eqb}
-use borrow.Author.Tests.{eqb-true, eq-eqb}
+use Prim.Native.Nat.{ℕ, _+_, _≤_, _<_}
+use native.Mathlib.Omega.{arith}
+use lib.Dec.{eqb, leb, ltb}
+use borrow.Author.Tests.{eqb-true, eq-eqb, leb-true, leb-false, ltb-true, ltb-false}
+use Rattle.language.specs.Kept.{first-kept, kept-count, Kept}
 use Rattle.language.specs.declared.Operand.{Operand}
 use Rattle.language.specs.declared.Operand.the-variants.{Variable, Constant}
 use Rattle.language.specs.declared.Expression.{Expression}
@@ -16,7 +18,7 @@ use Rattle.base.proofs.Decides.{decides, decides-eqb, decides-either}
 use Rattle.base.proofs.Bools.{clash, and-left, and-right, and-both}
 use Rattle.condition.specs.declared.Atom.{Atom}
 use Rattle.condition.specs.declared.Atom.the-variants.{True, False, Entry, Exit, Node, Stmt, Def, Use, Trans}
-use Rattle.truth.specs.Truth.{InOperand, In, Defines, Uses, HoldsAt}
+use Rattle.truth.specs.Truth.{InOperand, In, Defines, Shows, Writes, Uses, HoldsAt}
 use Rattle.codes.specs.Codes.{statementCode}
 use Rattle.codes.proofs.Codes.{code-unique}
 use Rattle.codes.proofs.Truths.{decides-none}
@@ -37,6 +39,17 @@ pub decides-or : (X Y : Type 0) (a b : Bool) → Decides a X → Decides b Y →
 decides-or X Y true b d e = inl d
 decides-or X Y false b d e = decides-either Y b d e
 
+pub decides-and : (X Y : Type 0) (a b : Bool) → Decides a X → Decides b Y → Decides (a && b) (X × Y)
+decides-and X Y true true d e = (d, e)
+decides-and X Y true false d e = λ h. e (h .1)
+decides-and X Y false b d e = λ h. d (h .0)
+
+pub decides-leb : (a b : ℕ) → Decides (leb a b) (a ≤ b)
+decides-leb a b = decides (leb a b) (leb-true a b) (λ e h. omega (arith, leb-false a b e))
+
+decides-ltb : (a b : ℕ) → Decides (ltb a b) (a < b)
+decides-ltb a b = decides (ltb a b) (ltb-true a b) (λ e h. omega (arith, ltb-false a b e))
+
 expression-decides : (x : ℕ) (e : Expression) → Decides (in-expression x e) (In x e)
 expression-decides x (Single a) = operand-decides x a
 expression-decides x (Binary a o b) = decides-or (InOperand x a) (InOperand x b) (in-operand x a) (in-operand x b) (operand-decides x a) (operand-decides x b)
@@ -55,19 +68,49 @@ defines-decides (Assign y e) x = decides-eqb x y
 defines-decides (Branch y n m) x = λ h. h
 defines-decides Skip x = λ h. h
 
+abbrev pub shows : Statement → ℕ → Bool
+shows (Read y) x = false
+shows (Write y) x = eqb x y
+shows (Assign y e) x = in-expression x e
+shows (Branch y n m) x = eqb x y
+shows Skip x = false
+
+pub shows-decides : (i : Statement) (x : ℕ) → Decides (shows i x) (Shows i x)
+shows-decides (Read y) x = λ h. h
+shows-decides (Write y) x = decides-eqb x y
+shows-decides (Assign y e) x = expression-decides x e
+shows-decides (Branch y n m) x = decides-eqb x y
+shows-decides Skip x = λ h. h
+
+abbrev writes : Statement → Bool
+writes (Read y) = false
+writes (Write y) = true
+writes (Assign y e) = false
+writes (Branch y n m) = false
+writes Skip = false
+
+writes-decides : (i : Statement) → Decides (writes i) (Writes i)
+writes-decides (Read y) = λ h. h
+writes-decides (Write y) = tt
+writes-decides (Assign y e) = λ h. h
+writes-decides (Branch y n m) = λ h. h
+writes-decides Skip = λ h. h
+
+abbrev kept : ℕ → Bool
+kept x = leb first-kept x && ltb x (first-kept + kept-count)
+
+kept-decides : (x : ℕ) → Decides (kept x) (Kept x)
+kept-decides x =
+    decides-and (first-kept ≤ x) (x < first-kept + kept-count) (leb first-kept x) (ltb x (first-kept + kept-count))
+    (decides-leb first-kept x) (decides-ltb x (first-kept + kept-count))
+
 abbrev uses : Statement → ℕ → Bool
-uses (Read y) x = false
-uses (Write y) x = eqb x y
-uses (Assign y e) x = in-expression x e
-uses (Branch y n m) x = eqb x y
-uses Skip x = false
+uses i x = shows i x || (writes i && kept x)
 
 uses-decides : (i : Statement) (x : ℕ) → Decides (uses i x) (Uses i x)
-uses-decides (Read y) x = λ h. h
-uses-decides (Write y) x = decides-eqb x y
-uses-decides (Assign y e) x = expression-decides x e
-uses-decides (Branch y n m) x = decides-eqb x y
-uses-decides Skip x = λ h. h
+uses-decides i x =
+    decides-or (Shows i x) (Writes i × Kept x) (shows i x) (writes i && kept x) (shows-decides i x)
+    (decides-and (Writes i) (Kept x) (writes i) (kept x) (writes-decides i) (kept-decides x))
 
 -- no variable of the expression is defined
 abbrev keeps : Statement → Expression → Bool

@@ -8,6 +8,7 @@ use Prim.Native.Nat.{ℕ, zero, suc}
 use native.Mathlib.Omega.{arith}
 use lib.ListN.{length, drop}
 use Rattle.language.specs.Spelling.{variables}
+use Rattle.language.specs.Kept.{keptOf}
 use Rattle.tokens.specs.Parsing.{found}
 use Rattle.machine.specs.Machine.{after}
 use Rattle.base.specs.Bytes.{bytes}
@@ -32,14 +33,14 @@ from-four X f (a ∷ b ∷ c ∷ d ∷ r) e = f a b c d r
 abbrev Computes : Case → Type 0
 Computes (table t xs) = right P-program (P-taken .program) (bytes t) xs ≡ true
 Computes (ends input value zero) = ⊥
-Computes (ends input value (suc k)) = FromFour λ vs. Ending (after P-program vs input k) (after P-program vs input (suc k)) value
+Computes (ends input value (suc k)) = FromFour λ vs. Ending (after P-program vs input k) (after P-program vs input (suc k)) value (keptOf vs)
 Computes (spent input budget n us) = FromFour λ vs. Standing (after P-program vs input budget) n (us ++ drop (length us) vs)
 Computes (check ms out) = printed P-program (P-taken .program) (lines ms) ≡ found (lines out) []
 
 case-is : (c : Case) → Computes c → Is c
 case-is (table t xs) h = (P-program, P-taken, right-tabulates P-program (P-taken .program) (bytes t) xs h)
 case-is (ends input value zero) h = absurd h
-case-is (ends input value (suc k)) h = (P-program, P-taken, from-four _ (λ a b c d r. ending-answers P-program _ input k value (h a b c d r)))
+case-is (ends input value (suc k)) h = (P-program, P-taken, from-four _ (λ a b c d r. ending-answers P-program _ input k value _ (h a b c d r)))
 case-is (spent input budget n us) h = (P-program, P-taken, from-four _ (λ a b c d r. standing-answers P-program _ input budget n _ (h a b c d r)))
 case-is (check ms out) h = printed-report P-text P-program P-taken (lines ms) (lines out) h
 
@@ -51,4 +52,4 @@ pub cases-hold : Each Is cases
 unfolding lines P-program right after printed
 cases-hold =
     each-is cases
-    (refl, (refl, (refl, (refl, (refl, (refl, (refl, (refl, (λ a b c d r. refl, (λ a b c d r. refl, (λ a b c d r. (refl, refl), (refl, tt))))))))))))
+    (refl, (refl, (refl, (refl, (refl, (refl, (refl, (refl, (λ a b c d r. (refl, refl), (λ a b c d r. (refl, refl), (λ a b c d r. (refl, refl), (refl, tt))))))))))))

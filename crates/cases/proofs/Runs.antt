@@ -5,16 +5,17 @@ use Prim.Native.Nat.{ℕ, suc, _+_, _≤_}
 use lib.IntN.{ℤ}
 use mir.Syntax.{w32}
 use mir.Val.{toZ}
+use Rattle.language.specs.Kept.{keptOf}
 use Rattle.language.specs.declared.Statement.{Statement}
 use Rattle.machine.specs.declared.Answer.the-variants.{Ended, Spent}
 use Rattle.machine.specs.Machine.{written, State, before, ended, after}
 use Rattle.machine.specs.Answer.{Answers}
 
--- the step from p to q ends the run with the value
-abbrev pub Ending : State → State → ℤ → Type 0
-Ending (before s us) (ended (written v)) value = value ≡ toZ w32 v
-Ending (before s us) (before t vs) value = ⊥
-Ending (ended v) q value = ⊥
+-- the step from p to q ends the run with the value and the kept ones
+abbrev pub Ending : State → State → ℤ → List ℕ → Type 0
+Ending (before s us) (ended (written v hs)) value ks = (value ≡ toZ w32 v) × (hs ≡ ks)
+Ending (before s us) (before t vs) value ks = ⊥
+Ending (ended v) q value ks = ⊥
 
 -- the run stands before statement n with the values ws
 abbrev pub Standing : State → ℕ → List ℕ → Type 0
@@ -22,20 +23,21 @@ Standing (before s us) n ws = (n ≡ s + 1) × (us ≡ ws)
 Standing (ended v) n ws = ⊥
 
 module _ (P : List Statement) (vs : List ℕ) (input : ℕ) where
-  pub ending-answers : (k : ℕ) (value : ℤ) → Ending (after P vs input k) (after P vs input (suc k)) value
-      → (budget : ℕ) → suc k ≤ budget → Answers P vs input budget (Ended value (suc k)) vs
-  ending-answers k value = go (after P vs input k) (after P vs input (suc k)) refl refl
+  pub ending-answers : (k : ℕ) (value : ℤ) (ks : List ℕ) → Ending (after P vs input k) (after P vs input (suc k)) value ks
+      → (budget : ℕ) → suc k ≤ budget → Answers P vs input budget (Ended value (suc k)) vs ks
+  ending-answers k value ks = go (after P vs input k) (after P vs input (suc k)) refl refl
     where
-      go : (p q : State) → after P vs input k ≡ p → after P vs input (suc k) ≡ q → Ending p q value
-          → (budget : ℕ) → suc k ≤ budget → Answers P vs input budget (Ended value (suc k)) vs
-      go (before s us) (ended (written v)) e f h budget enough =
-          (v, record { last = s; left = us; steps = k; counted = refl; stands = e; over = f }, enough, h, refl)
+      go : (p q : State) → after P vs input k ≡ p → after P vs input (suc k) ≡ q → Ending p q value ks
+          → (budget : ℕ) → suc k ≤ budget → Answers P vs input budget (Ended value (suc k)) vs ks
+      go (before s us) (ended (written v hs)) e f h budget enough =
+          let over = f ∙ ap (λ (l : List ℕ). ended (written v l)) (h .1) in
+          (v, record { last = s; left = us; steps = k; counted = refl; stands = e; over = over }, enough, h .0, refl)
       go (before s us) (before t ws) e f h budget enough = absurd h
       go (ended v) q e f h budget enough = absurd h
 
-  pub standing-answers : (budget n : ℕ) (ws : List ℕ) → Standing (after P vs input budget) n ws → Answers P vs input budget (Spent n) ws
+  pub standing-answers : (budget n : ℕ) (ws : List ℕ) → Standing (after P vs input budget) n ws → Answers P vs input budget (Spent n) ws (keptOf vs)
   standing-answers budget n ws = go (after P vs input budget) refl
     where
-      go : (p : State) → after P vs input budget ≡ p → Standing p n ws → Answers P vs input budget (Spent n) ws
-      go (before s us) e h = (s, h .0, e ∙ ap (before s) (h .1))
+      go : (p : State) → after P vs input budget ≡ p → Standing p n ws → Answers P vs input budget (Spent n) ws (keptOf vs)
+      go (before s us) e h = (s, h .0, e ∙ ap (before s) (h .1), refl)
       go (ended v) e h = absurd h

@@ -7,7 +7,6 @@ use native.Mathlib.Nat.{not-suc-le-zero, le-of-suc-le-suc}
 use native.Mathlib.Omega.{arith}
 use lib.Dec.{eqb, leb}
 use lib.ListN.{length, getD, take}
-use borrow.Author.Tests.{leb-true, leb-false}
 use Rattle.language.specs.declared.Operand.{Operand}
 use Rattle.language.specs.declared.Operand.the-variants.{Variable, Constant}
 use Rattle.language.specs.declared.Statement.{Statement}
@@ -17,7 +16,7 @@ use Rattle.base.specs.Decides.{Decides}
 use Rattle.base.proofs.Decides.{decides, decides-eqb}
 use Rattle.base.proofs.Bools.{clash}
 use Rattle.ctl.proofs.Least.{test}
-use Rattle.condition.specs.declared.Atom.the-variants.{Stmt, Use}
+use Rattle.condition.specs.declared.Atom.the-variants.{Stmt}
 use Rattle.truth.specs.Truth.{Sat}
 use Rattle.marks.specs.declared.Mark.{Mark}
 use Rattle.marks.specs.declared.Mark.the-variants.{Rm, Rpl}
@@ -27,18 +26,10 @@ use Rattle.rewriting.specs.Verdicts.{number, Inside, Named, place, Judged}
 use Rattle.rewriting.specs.Verdicts as rewriting
 use Rattle.rewriting.specs.declared.Verdict.{Verdict}
 use Rattle.rewriting.specs.declared.Verdict.the-variants.{Accepted, Missing, Repeated, Unfit, Unmet}
-use Rattle.cases.proofs.Atoms.{decides-or, holds, holds-decides}
+use Rattle.cases.proofs.Atoms.{decides-or, decides-and, decides-leb, shows, shows-decides, holds, holds-decides}
 use Rattle.cases.proofs.Label.{label, labelled}
 
 -- ---- the tests, in their order
-
-decides-and : (X Y : Type 0) (a b : Bool) → Decides a X → Decides b Y → Decides (a && b) (X × Y)
-decides-and X Y true true d e = (d, e)
-decides-and X Y true false d e = λ h. e (h .1)
-decides-and X Y false b d e = λ h. d (h .0)
-
-decides-leb : (a b : ℕ) → Decides (leb a b) (a ≤ b)
-decides-leb a b = decides (leb a b) (leb-true a b) (λ e h. omega (arith, leb-false a b e))
 
 abbrev inside : ℕ → ℕ → Bool
 inside N n = leb 1 n && leb n N
@@ -86,17 +77,17 @@ verdictBy true false true false = Unmet
 verdictBy true false true true = Accepted
 
 module _ (P : List Statement) where
-  -- a mark fits the statement at place s: by the atoms `stmt(X := E)` and `use(X)`
+  -- a mark fits the statement at place s: by the atom `stmt(X := E)`, and by what the text shows
   unfoldable fits : Mark → ℕ → Bool
   unfolding holds
   fits (Rm n x e) s = holds (length P) (at P s) s (Stmt (Assign x e))
-  fits (Rpl n x a) s = holds (length P) (at P s) s (Use x) && takes (at P s) a
+  fits (Rpl n x a) s = shows (at P s) x && takes (at P s) a
 
   fits-decides : (m : Mark) (s : ℕ) → Decides (fits m s) (Fits m (at P s))
   unfolding fits
   fits-decides (Rm n x e) s = holds-decides (length P) (at P s) s (Stmt (Assign x e))
   fits-decides (Rpl n x a) s =
-      decides-and _ _ (holds (length P) (at P s) s (Use x)) (takes (at P s) a) (holds-decides (length P) (at P s) s (Use x)) (takes-decides (at P s) a)
+      decides-and _ _ (shows (at P s) x) (takes (at P s) a) (shows-decides (at P s) x) (takes-decides (at P s) a)
 
   judged-by : (earlier : List Mark) (m : Mark) (i n f c : Bool) → Decides i (Inside (length P) (names m)) → Decides n (Named earlier (names m))
       → Decides f (Fits m (at P (place m))) → (Inside (length P) (names m) → Decides c (Sat P (published m) (place m)))

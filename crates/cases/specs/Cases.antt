@@ -9,6 +9,7 @@ use Rattle.base.specs.Bytes.{bytes}
 use lib.IntN.{ℤ, pos}
 use lib.ListN.{length, getD, drop}
 use Rattle.language.specs.Spelling.{variables}
+use Rattle.language.specs.Kept.{keptOf}
 use Rattle.language.specs.declared.Statement.{Statement}
 use Rattle.program.specs.Program as program
 use Rattle.machine.specs.declared.Answer.the-variants.{Ended, Spent}
@@ -106,13 +107,14 @@ pub record Tabulates (P : List Statement) (t ws : List ℕ) : Type 0 where
 abbrev pub OnP : (List Statement → Type 0) → Type 0
 OnP X = (P : List Statement) × program.Taken P-text P × X P
 
--- what a case claims; of a run, for all starting values, and where it ends, under every budget that is enough
+-- what a case claims; of a run, for all starting values, the eight kept ones of which P leaves as they are, and where it ends, under every
+-- budget that is enough
 abbrev pub Is : Case → Type 0
 Is (table t ws) = OnP λ P. Tabulates P (bytes t) ws
 Is (ends input value steps) =
-    OnP λ P. (vs : List ℕ) → length vs ≡ variables → (budget : ℕ) → steps ≤ budget → Answers P vs input budget (Ended value steps) vs
+    OnP λ P. (vs : List ℕ) → length vs ≡ variables → (budget : ℕ) → steps ≤ budget → Answers P vs input budget (Ended value steps) vs (keptOf vs)
 Is (spent input budget n us) =
-    OnP λ P. (vs : List ℕ) → length vs ≡ variables → Answers P vs input budget (Spent n) (us ++ drop (length us) vs)
+    OnP λ P. (vs : List ℕ) → length vs ≡ variables → Answers P vs input budget (Spent n) (us ++ drop (length us) vs) (keptOf vs)
 Is (check ms out) = PrintsReport P-text (lines ms) (lines out)
 
 -- X is true of each member of the list

@@ -1,6 +1,7 @@
 -- What is printed after the steps: the outcome of each run, and that statements and outcome agree. By demand 3 nothing else is printed.
+use mathlib.Core.Path.{_≡_}
 use mathlib.Core.List.{List, [], _∷_, _++_}
-use Prim.Native.Nat.{ℕ, _≤_}
+use Prim.Native.Nat.{ℕ, _+_, _≤_}
 use lib.ListN.{length}
 use Rattle.statement_writer.specs.Writing.{Put}
 use Rattle.machine.specs.declared.Answer.{Answer}
@@ -9,31 +10,34 @@ use Rattle.run.specs.Run.{RunFinished, RunAnswers}
 use Rattle.run.specs.declared.RunAnswer.{RunAnswer}
 use Rattle.demand.specs.Demand.{RunsAlike}
 use Rattle.base.specs.Bytes.{bytes}
-use Rattle.answer_line.specs.AnswerLine.{answerLine}
+use Rattle.answer_line.specs.AnswerLine.{answerLine, answer-room}
 
 abbrev pub agree-line : List ℕ
 agree-line = bytes "statements and outcome agree" ++ 10 ∷ []
 
-unfoldable pub closingText : Answer → Answer → List ℕ
-closingText a b = bytes "given " ++ (answerLine a ++ (bytes "rewritten " ++ (answerLine b ++ agree-line)))
+-- both keep ks
+unfoldable pub closingText : Answer → Answer → List ℕ → List ℕ
+closingText a b ks = bytes "given " ++ (answerLine a ks ++ (bytes "rewritten " ++ (answerLine b ks ++ agree-line)))
 
--- room for two lines as long as `ended -2147483648 steps 4294967295`, and for their words
+-- room for the two lines, and for their words
 abbrev pub closing-room : ℕ
-closing-room = 128
+closing-room = 6 + (answer-room + (10 + (answer-room + 29)))
 
--- demand 3 for this start: the two texts' runs answer alike
+-- demand 3 for this start: the two texts' runs answer alike, and keep the same
 abbrev pub RunAlike : List ℕ → List ℕ → List ℕ → ℕ → ℕ → Type 0
 RunAlike t w vs input budget =
-    (a b : RunAnswer) (us ws : List ℕ) → RunAnswers t vs input budget a us → RunAnswers w vs input budget b ws → RunsAlike a b
+    (a b : RunAnswer) (us ws ks hs : List ℕ)
+    → RunAnswers t vs input budget a us ks → RunAnswers w vs input budget b ws hs → RunsAlike a b × (ks ≡ hs)
 
--- the answers of both runs, which are alike, are told at the front of the lent bytes o; all others are kept
+-- the answers of both runs, which are alike and keep the same, are told at the front of the lent bytes o; all others are kept
 pub record Closes (t w vs : List ℕ) (input budget : ℕ) (o q : List ℕ) (n : ℕ) : Type 0 where
   pub given : Answer
   pub rewritten : Answer
   pub us : List ℕ
   pub ws : List ℕ
-  pub one : RunFinished t vs input budget given us
-  pub two : RunFinished w vs input budget rewritten ws
+  pub ks : List ℕ
+  pub one : RunFinished t vs input budget given us ks
+  pub two : RunFinished w vs input budget rewritten ws ks
   pub alike : Alike given rewritten
-  pub fits : length (closingText given rewritten) ≤ length o
-  pub put : Put o 0 (closingText given rewritten) q n
+  pub fits : length (closingText given rewritten ks) ≤ length o
+  pub put : Put o 0 (closingText given rewritten ks) q n

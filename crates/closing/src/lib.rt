@@ -20,8 +20,10 @@ pub fn write(
 {
     let one = run::run(program, values, input, budget);
     let given = one.answer;
+    let kept = one.kept;
     let two = run::run(new, values, input, budget);
     let rewritten = two.answer;
+    let others = two.kept;
     let RunAnswer::Finished(a) = given else {
         return 0;
     };
@@ -29,8 +31,8 @@ pub fn write(
         return 0;
     };
     let k1 = statement_writer::word(out, 0, b"given ");
-    let k2 = answer_line::write(out, k1, a);
+    let k2 = answer_line::write(out, k1, a, &kept);
     let k3 = statement_writer::word(out, k2, b"rewritten ");
-    let k4 = answer_line::write(out, k3, b);
+    let k4 = answer_line::write(out, k3, b, &others);
     statement_writer::word(out, k4, b"statements and outcome agree\n")
 }

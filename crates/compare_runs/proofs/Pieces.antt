@@ -6,7 +6,7 @@ use Prim.Native.Nat.{ℕ, _≤_, _<_}
 use native.Mathlib.Omega.{arith}
 use lib.ListN.{length, take}
 use Rattle.judge.specs.Judge.{text-bytes}
-use Rattle.trace.proofs.Series.{put-length}
+use Rattle.statement_writer.proofs.Puts.{put-length}
 use Rattle.files.specs.Files.{chunk-room}
 use Rattle.side_by_side.specs.SideBySide.{atStage, HandedAt, Handed, aheadAt, ahead, Prints, Next}
 use Rattle.side_by_side.specs.declared.Stage.{Stage}

@@ -14,7 +14,7 @@ use Rattle.program.specs.Program.{most, Targets}
 use Rattle.desk.specs.Columns.{statement-columns, padded}
 use Rattle.trace.specs.Trace.{stepHead}
 use Rattle.trace.proofs.Room.{text-most, head-most}
-use Rattle.trace.proofs.Series.{Parts, parts-most}
+use Rattle.statement_writer.proofs.Series.{Parts, parts-most}
 use Rattle.comparison.specs.Lines.{pairText, difference, differences, pairLine}
 use Rattle.comparison.specs.Stepping.{pair-room, line-room}
 
@@ -33,7 +33,7 @@ difference-most x vs ws h = go (eqb (getD vs x 0) (getD ws x 0))
     go true = omega arith
     go false = pair-most x (getD vs x 0) (getD ws x 0) h
 
-pub differences-parts : (vs ws : List ℕ) → Parts (λ n. differences n vs ws) (λ n. difference n vs ws) pair-room
+pub differences-parts : (vs ws : List ℕ) → Parts (λ n. differences n vs ws) (λ n. difference n vs ws) variables pair-room
 unfolding differences
 differences-parts vs ws = record { none = refl; more = λ n. refl; short = λ n h. difference-most n vs ws h }
 

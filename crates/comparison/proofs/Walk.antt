@@ -10,7 +10,7 @@ use lib.ListN.{length, take}
 use Rattle.language.specs.Spelling.{variables}
 use Rattle.statement_writer.specs.Writing.{Put}
 use Rattle.language.specs.declared.Statement.{Statement}
-use Rattle.statement_writer.proofs.Puts.{put-then, put-front}
+use Rattle.statement_writer.proofs.Puts.{put-then, put-front, put-length}
 use Rattle.program.specs.Program.{WellFormed}
 use Rattle.program.specs.Reading.{statements}
 use Rattle.program.specs.declared.Program.{Program}
@@ -23,7 +23,6 @@ use Rattle.machine.proofs.Runs.{Stands, step-after, step-inside}
 use Rattle.lockstep.specs.Lockstep.{Together}
 use Rattle.lockstep.proofs.Answers.{ended-beside}
 use Rattle.trace.specs.Trace.{valuesIn}
-use Rattle.trace.proofs.Series.{put-length}
 use Rattle.trace.proofs.Walk.{goes-inside}
 use Rattle.comparison.specs.Lines.{pairLine, bothLine, bothLines}
 use Rattle.comparison.specs.Stepping.{line-room, InStep, BothStand, Compared, Stepped}

@@ -1,7 +1,8 @@
 -- Demand 3, one theorem. Given a program text and a marks text that are taken, whatever the list holds, the verdict bytes that document 01
 -- defines, and the program with just the accepted marks made: a byte is 0 exactly where none of 11 to 14 applies, and that program is
 -- itself taken. Whatever the starting values and the input are, after every number of steps its run and the given program's stand before
--- the same statement or have ended with the same value, and under every budget that isn't refused both answer alike. Assumes nothing.
+-- the same statement or have ended with the same value and the same kept ones, and under every budget that isn't refused both answer alike.
+-- Assumes nothing.
 use mathlib.Core.Path.{_≡_, refl, subst}
 use mathlib.Core.List.{List}
 use Prim.Native.Nat.{ℕ, _≤_}
@@ -29,10 +30,12 @@ use Rattle.run.specs.declared.RunAnswer.the-variants.{Refused, Finished}
 
 module _ {t : List ℕ} {P : List Statement} (taken : Taken t P) (start : List ℕ) (input budget : ℕ) (allowed : budget ≤ most-steps) where
   -- a text that is taken gets none of 2 to 5, and an allowed budget not 15; the program that answers is the one that the text is taken as
-  called-answers : (r : RunAnswer) (ws : List ℕ) → RunAnswers t start input budget r ws → (a : Answer) × (r ≡ Finished a) × Answers P start input budget a ws
-  called-answers (Refused n) ws r = absurd (never-refused t budget (r .0) allowed taken)
-  called-answers (Finished a) ws f =
-      (a, refl, subst (λ (Q : List Statement). Answers Q start input budget a ws) (taken-unique (f .taken) taken) (f .answers))
+  called-answers :
+      (r : RunAnswer) (ws ks : List ℕ) → RunAnswers t start input budget r ws ks
+      → (a : Answer) × (r ≡ Finished a) × Answers P start input budget a ws ks
+  called-answers (Refused n) ws ks r = absurd (never-refused t budget (r .0) allowed taken)
+  called-answers (Finished a) ws ks f =
+      (a, refl, subst (λ (Q : List Statement). Answers Q start input budget a ws ks) (taken-unique (f .taken) taken) (f .answers))
 
 pub demand-3 :
     {t u : List ℕ} {P : List Statement} {ms : List Mark} → Taken t P → marks.Taken u ms
@@ -57,9 +60,9 @@ demand-3 {t} {u} {P} {ms} given listed vs judged Q r = record {
     taken = record { lines = refl; program = changed-wellformed (given .program) changed }
 
     alike :
-        (start : List ℕ) → length start ≡ variables → (input budget : ℕ) → budget ≤ most-steps → (a b : RunAnswer) (ws us : List ℕ)
-        → RunAnswers t start input budget a ws → RunAnswers (text Q) start input budget b us → RunsAlike a b
-    alike start l input budget allowed a b ws us p q =
-        let x = called-answers given start input budget allowed a ws p in
-        let y = called-answers taken start input budget allowed b us q in
-        rw (x .1, y .1) (answers-alike (given .program) changed start l input budget (x .0) (y .0) ws us (x .2) (y .2))
+        (start : List ℕ) → length start ≡ variables → (input budget : ℕ) → budget ≤ most-steps → (a b : RunAnswer) (ws us ks hs : List ℕ)
+        → RunAnswers t start input budget a ws ks → RunAnswers (text Q) start input budget b us hs → RunsAlike a b × (ks ≡ hs)
+    alike start l input budget allowed a b ws us ks hs p q =
+        let x = called-answers given start input budget allowed a ws ks p in
+        let y = called-answers taken start input budget allowed b us hs q in
+        rw (x .1, y .1) (answers-alike (given .program) changed start l input budget (x .0) (y .0) ws us ks hs (x .2) (y .2))

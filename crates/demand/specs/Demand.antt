@@ -41,6 +41,7 @@ pub record Demand3 (t u vs w : List ℕ) : Type 0 where
   pub taken : Taken w Q
   -- "After k steps, for every k from 0 on and beyond any budget, a run either stands before one statement or has ended with its value"
   pub together : (start : List ℕ) → length start ≡ variables → (input k : ℕ) → Together (after P start input k) (after Q start input k)
-  -- "Under every budget that isn't refused, the two runs answer the same value and the same steps, or 'spent' at the same statement"
-  pub alike : (start : List ℕ) → length start ≡ variables → (input budget : ℕ) → budget ≤ most-steps → (a b : RunAnswer) (ws us : List ℕ)
-      → RunAnswers t start input budget a ws → RunAnswers w start input budget b us → RunsAlike a b
+  -- "Under every budget that isn't refused, the two runs answer the same value and the same steps, or 'spent' at the same statement";
+  -- document 02: "given and rewritten programs must match in all nine"
+  pub alike : (start : List ℕ) → length start ≡ variables → (input budget : ℕ) → budget ≤ most-steps → (a b : RunAnswer) (ws us ks hs : List ℕ)
+      → RunAnswers t start input budget a ws ks → RunAnswers w start input budget b us hs → RunsAlike a b × (ks ≡ hs)

@@ -3,18 +3,13 @@ use mathlib.Core.Path.{_≡_, refl, sym, ap, ap₂, _∙_}
 use mathlib.Core.List.{List}
 use mathlib.Core.Bool.{Bool, false, _||_, _&&_, or-comm, or-false}
 use Prim.Native.Nat.{ℕ, zero, suc, _+_, _-_, _≤_, _<_}
-use native.Mathlib.Numerals.{add-one}
 use native.Mathlib.Decide.{decLt, ℕ-discrete}
 use native.Mathlib.Omega.{arith}
-use lib.ListN.{length, getD, set, take, length-set}
-use lib.Seq.{getD-set-same, getD-set-other, take-suc, take-suc-set}
+use lib.ListN.{length, getD, set, length-set}
+use lib.Seq.{getD-set-same, getD-set-other}
 use lib.Dec.{eqb}
 use borrow.Author.Tests.{eq-eqb, ne-eqb}
 use Rattle.graph.specs.Lists.{leads, listed, step, Lists, Blank}
-
--- one entry more of a copy
-pub copy-more : (xs ys : List ℕ) (i : ℕ) → take i ys ≡ take i xs → i < length ys → i < length xs → take (i + 1) (set ys i (getD xs i 0)) ≡ take (i + 1) xs
-copy-more xs ys i e h l = rw (add-one, take-suc-set ys i (getD xs i 0) h, take-suc xs i 0 l, e)
 
 -- ---- along the links
 

@@ -1,3 +1,4 @@
 pub mod Digits
 pub mod Constants
 pub mod Lengths
+pub mod Kept

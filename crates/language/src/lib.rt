@@ -2,6 +2,11 @@
 
 // Variables are i0 to i31.
 pub const VARIABLES: u32 = 32;
+// Variables i24 to i31 are kept from one pass to the next.
+pub const FIRST_KEPT: usize = 24;
+
+pub const KEPT: usize = 8;
+
 // The largest statement number, and the largest constant.
 pub const LARGEST: u64 = 2147483647;
 // A number of 32 bits has at most this many digits, a constant's text this many bytes, and a variable's this many.

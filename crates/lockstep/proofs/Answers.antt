@@ -1,4 +1,4 @@
--- Under every budget the given and the changed program answer alike: what one run answers, the run beside it answers too, and of one run
+-- Under every budget the given and the changed program answer alike, and keep the same: what one run answers, the run beside it answers too, and of one run
 -- two answers are the same. Assumes nothing.
 use mathlib.Core.Path.{_≡_, refl, sym, _∙_, ap, subst}
 use mathlib.Core.List.{List}
@@ -45,15 +45,16 @@ module _ (P Q : List Statement) (vs : List ℕ) (input : ℕ) (beside : (k : ℕ
         over = ended-beside (after P vs input k) (after Q vs input k) v (beside k) (e .over);
       }
 
-  answers-beside : (budget : ℕ) (a : Answer) (ws : List ℕ) → Answers P vs input budget a ws → (us : List ℕ) × Answers Q vs input budget a us
-  answers-beside budget (Ended x k) ws (v, e, l, is, kept) = (vs, (v, ends-beside k _ e, l, is, refl))
-  answers-beside budget (Spent n) ws (s, is, stands) =
+  answers-beside : (budget : ℕ) (a : Answer) (ws ks : List ℕ) → Answers P vs input budget a ws ks → (us : List ℕ) × Answers Q vs input budget a us ks
+  answers-beside budget (Ended x k) ws ks (v, e, l, is, same) = (vs, (v, ends-beside k _ e, l, is, refl))
+  answers-beside budget (Spent n) ws ks (s, is, stands, same) =
       let there = stands-beside (after P vs input budget) (after Q vs input budget) s ws (beside budget) stands in
-      (there .0, (s, is, there .1))
+      (there .0, (s, is, there .1, same))
 
 pub answers-alike :
     {P Q : List Statement} → WellFormed P → Changed P Q → (vs : List ℕ) → length vs ≡ variables → (input budget : ℕ)
-    (a b : Answer) (ws us : List ℕ) → Answers P vs input budget a ws → Answers Q vs input budget b us → Alike a b
-answers-alike {P} {Q} w changed vs l input budget a b ws us p q =
-    let there = answers-beside P Q vs input (together w changed vs l input) budget a ws p in
-    subst (Alike a) (answer-unique Q vs input budget a b (there .0) us (there .1) q .0) (alike-self a)
+    (a b : Answer) (ws us ks hs : List ℕ) → Answers P vs input budget a ws ks → Answers Q vs input budget b us hs → Alike a b × (ks ≡ hs)
+answers-alike {P} {Q} w changed vs l input budget a b ws us ks hs p q =
+    let there = answers-beside P Q vs input (together w changed vs l input) budget a ws ks p in
+    let one = answer-unique Q vs input budget a b (there .0) us ks hs (there .1) q in
+    (subst (Alike a) (one .0) (alike-self a), one .2)

@@ -10,14 +10,17 @@ use lib.ListN.{length, getD, set}
 use lib.Seq.{getD-set-same}
 use borrow.Author.Tests.{eqb-true}
 use Rattle.base.proofs.Bools.{split}
+use Rattle.language.specs.Spelling.{variables}
+use Rattle.language.specs.Kept.{keptOf}
 use Rattle.language.specs.declared.Operand.{Operand}
 use Rattle.language.specs.declared.Operand.the-variants.{Variable, Constant}
 use Rattle.language.specs.declared.Expression.{Expression}
 use Rattle.language.specs.declared.Expression.the-variants.{Single, Binary}
 use Rattle.language.specs.declared.Statement.{Statement}
 use Rattle.language.specs.declared.Statement.the-variants.{Read, Write, Assign, Branch, Skip}
+use Rattle.language.proofs.Kept.{kept-agree}
 use Rattle.machine.specs.Machine.{apply, operandValue, value}
-use Rattle.truth.specs.Truth.{InOperand, In, Shows}
+use Rattle.truth.specs.Truth.{InOperand, In, Uses}
 use Rattle.lockstep.specs.Rules.{IsVariable, Takes, replaceOperand, replaceIn, replaceVariable, replace}
 use Rattle.base.specs.Pick.{pick}
 
@@ -33,7 +36,7 @@ operand-self (Constant n) x vs e = absurd e
 -- j does with ws what i does with vs: the same kind of statement, to the same variable, on equal values
 pub data Like (vs ws : List ℕ) : Statement → Statement → Type 0 where
   reads : {x : ℕ} → Like vs ws (Read x) (Read x)
-  writes : {x y : ℕ} → getD vs x 0 ≡ getD ws y 0 → Like vs ws (Write x) (Write y)
+  writes : {x y : ℕ} → getD vs x 0 ≡ getD ws y 0 → keptOf vs ≡ keptOf ws → Like vs ws (Write x) (Write y)
   assigns : {x : ℕ} {e f : Expression} → value vs e ≡ value ws f → Like vs ws (Assign x e) (Assign x f)
   branches : {x y n m : ℕ} → getD vs x 0 ≡ getD ws y 0 → Like vs ws (Branch x n m) (Branch y n m)
   skips : Like vs ws Skip Skip
@@ -53,12 +56,17 @@ module _ (vs ws : List ℕ) where
   value-agrees (Single a) h = operand-agrees a h
   value-agrees (Binary a o b) h = ap₂ (apply o) (operand-agrees a (λ y u. h y (inl u))) (operand-agrees b (λ y u. h y (inr u)))
 
-  pub kept-like : (i : Statement) → ((y : ℕ) → Shows i y → Same vs ws y) → Like vs ws i i
-  kept-like (Read x) h = reads
-  kept-like (Write x) h = writes (h x refl)
-  kept-like (Assign x e) h = assigns (value-agrees e h)
-  kept-like (Branch x n m) h = branches (h x refl)
-  kept-like Skip h = skips
+  module _ (long : length vs ≡ variables) (long′ : length ws ≡ variables) where
+    -- a `write` uses the kept variables too
+    kept-same : (x : ℕ) → ((y : ℕ) → Uses (Write x) y → Same vs ws y) → keptOf vs ≡ keptOf ws
+    kept-same x h = kept-agree vs ws long long′ (λ y k. h y (inr (tt, k)))
+
+    pub same-like : (i : Statement) → ((y : ℕ) → Uses i y → Same vs ws y) → Like vs ws i i
+    same-like (Read x) h = reads
+    same-like (Write x) h = writes (h x (inl refl)) (kept-same x h)
+    same-like (Assign x e) h = assigns (value-agrees e (λ y u. h y (inl u)))
+    same-like (Branch x n m) h = branches (h x (inl refl))
+    same-like Skip h = skips
 
   -- ---- the operand a for the variable x, where x has in vs what a has in ws
 
@@ -92,10 +100,10 @@ module _ (vs ws : List ℕ) where
       other e = rw e h
 
   pub replaced-like :
-      (x : ℕ) (a : Operand) → getD vs x 0 ≡ operandValue ws a
-      → (i : Statement) → Takes i a → ((y : ℕ) → Shows i y → Same vs ws y) → Like vs ws i (replace x a i)
-  replaced-like x a same (Read y) v h = reads
-  replaced-like x a same (Write y) v h = writes (variable-like x a same v y (h y refl))
-  replaced-like x a same (Assign y e) v h = assigns (expression-like x a same e h)
-  replaced-like x a same (Branch y n m) v h = branches (variable-like x a same v y (h y refl))
-  replaced-like x a same Skip v h = skips
+      length vs ≡ variables → length ws ≡ variables → (x : ℕ) (a : Operand) → getD vs x 0 ≡ operandValue ws a
+      → (i : Statement) → Takes i a → ((y : ℕ) → Uses i y → Same vs ws y) → Like vs ws i (replace x a i)
+  replaced-like l l′ x a same (Read y) v h = reads
+  replaced-like l l′ x a same (Write y) v h = writes (variable-like x a same v y (h y (inl refl))) (kept-same l l′ y h)
+  replaced-like l l′ x a same (Assign y e) v h = assigns (expression-like x a same e (λ z u. h z (inl u)))
+  replaced-like l l′ x a same (Branch y n m) v h = branches (variable-like x a same v y (h y (inl refl)))
+  replaced-like l l′ x a same Skip v h = skips

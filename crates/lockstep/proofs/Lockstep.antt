@@ -1,7 +1,7 @@
 -- The given and the changed program run in lockstep: after every number of steps both runs stand before the same statement, and agree on
 -- every variable that the given program may still use before defining it; or both have ended alike. By induction on the number of steps,
 -- with the invariant `Held`. Assumes nothing.
-use mathlib.Core.Path.{_≡_, refl, sym, _∙_, ap, subst}
+use mathlib.Core.Path.{_≡_, refl, sym, _∙_, ap, ap₂, subst}
 use mathlib.Core.Bool.{Bool, true, false}
 use mathlib.Core.Logic.{_⊎_, inl, inr}
 use mathlib.Core.List.{List}
@@ -29,7 +29,7 @@ use Rattle.marks.specs.declared.Mark.the-variants.{Rm, Rpl}
 use Rattle.lockstep.specs.Rules.{live, unneeded, copiedBefore, replace}
 use Rattle.lockstep.specs.Lockstep.{Change, Changed, Agree, Side, Together}
 use Rattle.lockstep.proofs.Decisions.{operand-decided, defines-decided}
-use Rattle.lockstep.proofs.Likeness.{stored-here, operand-self, operand-agrees, Like, reads, writes, assigns, branches, skips, kept-like, replaced-like}
+use Rattle.lockstep.proofs.Likeness.{stored-here, operand-self, operand-agrees, Like, reads, writes, assigns, branches, skips, same-like, replaced-like}
 use Rattle.lockstep.proofs.Conditions.{forward-step, live-use, live-step, unneeded-dead, Copies, Between, copied-cases, first-uncopied}
 
 -- both arms of an `if` are where a run may go
@@ -124,7 +124,7 @@ module _ (P : List Statement) (w : WellFormed P) where
             changed = operand-agrees ws′ ws a (λ y u. frame′ y (kept y u))
 
             used : (y : ℕ) → InOperand y a → Uses (at P s) y
-            used y u = subst (λ (j : Statement). Uses j y) (sym e) u
+            used y u = subst (λ (j : Statement). Uses j y) (sym e) (inl u)
 
             both : operandValue vs a ≡ operandValue ws a
             both = operand-agrees vs ws a (λ y u. held .agree y (live-use P w y s (held .inside) (used y u)))
@@ -167,7 +167,7 @@ module _ (P : List Statement) (w : WellFormed P) where
               (λ y d l. stored-here vs x input y (rw (held .whole) below) d ∙ sym (stored-here ws x input y (rw (held .whole′) below) d))
               (λ y a q. cc),
         )
-    like-on i j is (writes same) = ap written same
+    like-on i j is (writes same kept) = ap₂ written same kept
     like-on i j is (assigns {x} {e} {f} same) =
         let below : x < variables = valid (Assign x e) is .0 in (
           refl,
@@ -201,22 +201,22 @@ module _ (P : List Statement) (w : WellFormed P) where
               (λ y a q. copy-stores vs x e y a (rw (held .whole) below) q),
         )
 
-    shown : (y : ℕ) → Shows (at P s) y → getD vs y 0 ≡ getD ws y 0
-    shown y u = held .agree y (live-use P w y s (held .inside) u)
+    used-same : (y : ℕ) → Uses (at P s) y → getD vs y 0 ≡ getD ws y 0
+    used-same y u = held .agree y (live-use P w y s (held .inside) u)
 
     -- the given x is the changed run's a, where x is used and a copy of a in x is sure to have been made
     copied-same : (x : ℕ) (a : Operand) → Shows (at P s) x → Sat P (copiedBefore x a) s → getD vs x 0 ≡ operandValue ws a
     copied-same x a u c = by (operand-decided x a)
       where
         by : Dec (InOperand x a) → getD vs x 0 ≡ operandValue ws a
-        by (yes o) = shown x u ∙ sym (operand-self a x ws o)
+        by (yes o) = used-same x (inl u) ∙ sym (operand-self a x ws o)
         by (no o) = held .copies x a o c .1
 
     change-on : (j : Statement) → Change P s j → Side Held (perform (at P s) input s vs) (perform j input s ws)
-    change-on j (inl e) = rw e (like-on (at P s) (at P s) refl (kept-like vs ws (at P s) shown))
+    change-on j (inl e) = rw e (like-on (at P s) (at P s) refl (same-like vs ws (held .whole) (held .whole′) (at P s) used-same))
     change-on j (inr (Rm n x e, v, fit, c, made)) = rw (made, fit) (removed-on x e fit c)
     change-on j (inr (Rpl n x a, v, (u, takes), c, made)) =
-        rw made (like-on (at P s) (replace x a (at P s)) refl (replaced-like vs ws x a (copied-same x a u c) (at P s) takes shown))
+        rw made (like-on (at P s) (replace x a (at P s)) refl (replaced-like vs ws (held .whole) (held .whole′) x a (copied-same x a u c) (at P s) takes used-same))
 
   module _ (Q : List Statement) (changed : Changed P Q) (input : ℕ) where
     step-on : (a b : State) → Side Held a b → Side Held (stepFrom P input a) (stepFrom Q input b)

@@ -47,16 +47,16 @@ module _ (P : List Statement) (vs : List ℕ) (input : ℕ) where
   end-not-spent k v budget s ws a h b = omega (arith, stands-before-end budget k s v ws b (a .over))
 
   pub answer-unique :
-      (budget : ℕ) (a b : Answer) (ws us : List ℕ)
-      → Answers P vs input budget a ws → Answers P vs input budget b us → (a ≡ b) × (ws ≡ us)
-  answer-unique budget (Ended x k) (Ended y j) ws us p q =
+      (budget : ℕ) (a b : Answer) (ws us ks hs : List ℕ)
+      → Answers P vs input budget a ws ks → Answers P vs input budget b us hs → (a ≡ b) × (ws ≡ us) × (ks ≡ hs)
+  answer-unique budget (Ended x k) (Ended y j) ws us ks hs p q =
       let e = end-unique k j _ _ (p .1) (q .1) in
       let same : p .0 ≡ q .0 = cc in
-      (ap₂ Ended (p .3 ∙ ap (toZ w32) same ∙ sym (q .3)) (e .0), p .4 ∙ sym (q .4))
-  answer-unique budget (Ended x k) (Spent m) ws us p q = absurd (end-not-spent k _ budget (q .0) us (p .1) (p .2) (q .2))
-  answer-unique budget (Spent n) (Ended y j) ws us p q = absurd (end-not-spent j _ budget (p .0) ws (q .1) (q .2) (p .2))
-  answer-unique budget (Spent n) (Spent m) ws us p q =
+      (ap₂ Ended (p .3 ∙ ap (toZ w32) same ∙ sym (q .3)) (e .0), p .4 ∙ sym (q .4), cc)
+  answer-unique budget (Ended x k) (Spent m) ws us ks hs p q = absurd (end-not-spent k _ budget (q .0) us (p .1) (p .2) (q .2))
+  answer-unique budget (Spent n) (Ended y j) ws us ks hs p q = absurd (end-not-spent j _ budget (p .0) ws (q .1) (q .2) (p .2))
+  answer-unique budget (Spent n) (Spent m) ws us ks hs p q =
       let e : before (p .0) ws ≡ before (q .0) us = sym (p .2) ∙ q .2 in
       let s : p .0 ≡ q .0 = cc in
       let f : n ≡ m = omega (arith, p .1, q .1) in
-      (ap Spent f, cc)
+      (ap Spent f, cc, p .3 ∙ sym (q .3))

@@ -5,6 +5,7 @@ use Prim.Native.Nat.{ℕ, suc, _+_, _≤_}
 use lib.IntN.{ℤ}
 use mir.Syntax.{w32}
 use mir.Val.{toZ}
+use Rattle.language.specs.Kept.{keptOf}
 use Rattle.language.specs.declared.Statement.{Statement}
 use Rattle.machine.specs.Machine.{Final, written, State, before, ended, after}
 use Rattle.machine.specs.declared.Next.{Next}
@@ -15,7 +16,7 @@ use Rattle.machine.specs.declared.Answer.the-variants.{Ended, Spent}
 -- the state that `step` answers, with the values that it leaves
 abbrev pub stateOf : Next → List ℕ → State
 stateOf (Goto s) vs = before s vs
-stateOf (Finish v) vs = ended (written v)
+stateOf (Finish v) vs = ended (written v (keptOf vs))
 
 -- the run's last step is number k: before it the run stands before a statement, after it the run has ended as v says
 pub record Ends (P : List Statement) (vs : List ℕ) (input k : ℕ) (v : Final) : Type 0 where
@@ -27,8 +28,9 @@ pub record Ends (P : List Statement) (vs : List ℕ) (input k : ℕ) (v : Final)
   pub over : after P vs input k ≡ ended v
 
 -- "answers the value, signed, and the steps taken if it ends within them; otherwise it answers 'spent', with the statement and 32
--- values after that many steps". The values beside any other answer are the starting ones
-abbrev pub Answers : List Statement → List ℕ → ℕ → ℕ → Answer → List ℕ → Type 0
-Answers P vs input budget (Ended value steps) ws =
-    (v : ℕ) × Ends P vs input steps (written v) × (steps ≤ budget) × (value ≡ toZ w32 v) × (ws ≡ vs)
-Answers P vs input budget (Spent n) ws = (s : ℕ) × (n ≡ s + 1) × (after P vs input budget ≡ before s ws)
+-- values after that many steps". ws are the values beside the answer: those, or else the starting ones. ks are the kept ones beside it:
+-- those at the end where the run ended, else those of the start
+abbrev pub Answers : List Statement → List ℕ → ℕ → ℕ → Answer → List ℕ → List ℕ → Type 0
+Answers P vs input budget (Ended value steps) ws ks =
+    (v : ℕ) × Ends P vs input steps (written v ks) × (steps ≤ budget) × (value ≡ toZ w32 v) × (ws ≡ vs)
+Answers P vs input budget (Spent n) ws ks = (s : ℕ) × (n ≡ s + 1) × (after P vs input budget ≡ before s ws) × (ks ≡ keptOf vs)

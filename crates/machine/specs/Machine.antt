@@ -8,6 +8,7 @@ use lib.Signed.{ltZ}
 use mir.Syntax.{w32}
 use mir.Val.{toZ}
 use Rattle.base.specs.Pick.{pick}
+use Rattle.language.specs.Kept.{keptOf}
 use Rattle.language.specs.declared.Operand.{Operand}
 use Rattle.language.specs.declared.Operand.the-variants.{Variable, Constant}
 use Rattle.language.specs.declared.Operator.{Operator}
@@ -38,9 +39,10 @@ abbrev pub value : List ℕ → Expression → ℕ
 value vs (Single a) = operandValue vs a
 value vs (Binary a o b) = apply o (operandValue vs a) (operandValue vs b)
 
--- how a run ends: a value is written
+-- how a run ends: a value is written, and the values of the kept variables stay. Document 02: "A run's outcome is the written value with the
+-- eight kept ones"
 pub data Final : Type 0 where
-  written : ℕ → Final
+  written : ℕ → List ℕ → Final
 
 -- "a run either stands before one statement or has ended with its value": the statement's place, with the values; or how it ended
 pub data State : Type 0 where
@@ -50,7 +52,7 @@ pub data State : Type 0 where
 -- "`read X` stores the input. `if` goes to n where X isn't 0, else to m. `write X` ends the run with X's value. All others go to the next line."
 abbrev pub perform : Statement → ℕ → ℕ → List ℕ → State
 perform (Read x) input s vs = before (s + 1) (set vs x input)
-perform (Write x) input s vs = ended (written (getD vs x 0))
+perform (Write x) input s vs = ended (written (getD vs x 0) (keptOf vs))
 perform (Assign x e) input s vs = before (s + 1) (set vs x (value vs e))
 perform (Branch x n m) input s vs = before (pick (eqb (getD vs x 0) 0) m n - 1) vs
 perform Skip input s vs = before (s + 1) vs

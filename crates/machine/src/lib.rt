@@ -1,15 +1,19 @@
 // Runs: values of 32 bits, one step, and a run under a budget.
 ghost use mathlib.Core.Path.{_≡_};
 ghost use Prim.Native.Nat.{_*_, _%_, _^_, _<_, _+_};
+ghost use lib.ListN.{length};
 ghost use mir.Syntax.{w32};
 ghost use mir.Val.{toZ};
 ghost use lib.Signed.{ltZ};
 ghost use Rattle.language.specs.Spelling.{ValidOperand, ValidExpression, Valid};
 ghost use Rattle.program.specs.Program.{most, Targets, WellFormed};
 ghost use Rattle.program.specs.Reading.{statements};
+ghost use Rattle.language.specs.Kept.{kept-count, keptOf};
 ghost use Rattle.machine.specs.Machine.{apply, operandValue, value, perform};
 ghost use Rattle.machine.specs.Answer.{stateOf, Answers};
 use language::Expression;
+use language::FIRST_KEPT;
+use language::KEPT;
 use language::Operand;
 use language::Operator;
 use language::Statement;
@@ -30,10 +34,12 @@ pub enum Answer {
     Spent(u32),
 }
 
-// The values are those after the last step where the answer is `Spent`, else the starting ones.
+// The values are those after the last step where the answer is `Spent`, else the starting ones. The kept ones are those at the end where the
+// run ended, else those of the start.
 pub struct Outcome {
     pub answer: Answer,
     pub values: [u32; VALUES],
+    pub kept: [u32; KEPT],
 }
 
 // The low 32 bits of the product.
@@ -134,9 +140,28 @@ pub fn step(s: Statement, at: u32, input: u32, values: &mut [u32; VALUES]) -> Ne
     }
 }
 
+fn no_kept() -> [u32; KEPT]
+    ensures { λ r. ⌜ length r ≡ kept-count ⌝ }
+{
+    [0; KEPT]
+}
+
+// The values of the kept variables.
+pub fn kept_of(values: [u32; VALUES]) -> [u32; KEPT]
+    ensures { λ r. ⌜ r ≡ keptOf values ⌝ }
+{
+    let mut kept = no_kept();
+    let mut k: usize = 0;
+    while k < KEPT {
+        kept[k] = values[FIRST_KEPT + k];
+        k += 1;
+    }
+    kept
+}
+
 pub fn run(program: Program, start: [u32; VALUES], input: u32, budget: u32) -> Outcome
     requires { ⌜ WellFormed (statements program) ⌝ }
-    ensures { λ r. ⌜ Answers (statements program) start input budget (r .answer) (r .values) ⌝ }
+    ensures { λ r. ⌜ Answers (statements program) start input budget (r .answer) (r .values) (r .kept) ⌝ }
 {
     let mut values = start;
     let mut at: u32 = 0;
@@ -155,6 +180,7 @@ pub fn run(program: Program, start: [u32; VALUES], input: u32, budget: u32) -> O
                 return Outcome {
                     answer: Answer::Ended(signed(v), steps),
                     values: start,
+                    kept: kept_of(values),
                 };
             }
         }
@@ -162,5 +188,6 @@ pub fn run(program: Program, start: [u32; VALUES], input: u32, budget: u32) -> O
     Outcome {
         answer: Answer::Spent(at + 1),
         values: values,
+        kept: kept_of(start),
     }
 }

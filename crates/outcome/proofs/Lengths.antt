@@ -4,18 +4,19 @@ use mathlib.Core.List.{List, [], _∷_, _++_}
 use Prim.Native.Nat.{ℕ, _^_, _≤_, _<_}
 use native.Mathlib.Omega.{arith}
 use lib.ListN.{length, getD, length-append}
+use Rattle.language.specs.Spelling.{variables}
 use Rattle.desk.specs.Refusals.{refusalText}
 use Rattle.desk.proofs.Rooms.{refusal-most}
 use Rattle.trace.specs.Trace.{valueText}
 use Rattle.trace.proofs.Room.{value-most}
-use Rattle.trace.proofs.Series.{Parts}
+use Rattle.statement_writer.proofs.Series.{Parts}
 use Rattle.outcome.specs.Outcome.{valueLines, value-line-room, outcome-room}
 
 -- a line for each variable
 abbrev pub valueLine : List ℕ → ℕ → List ℕ
 valueLine vs n = valueText n (getD vs n 0) ++ 10 ∷ []
 
-pub lines-parts : (vs : List ℕ) → Parts (λ n. valueLines n vs) (valueLine vs) value-line-room
+pub lines-parts : (vs : List ℕ) → Parts (λ n. valueLines n vs) (valueLine vs) variables value-line-room
 unfolding valueLines
 lines-parts vs =
     record {

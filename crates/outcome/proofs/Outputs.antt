@@ -5,6 +5,7 @@ use mathlib.Core.List.{List}
 use Prim.Native.Nat.{ℕ, _≤_}
 use native.Mathlib.Omega.{arith}
 use lib.ListN.{length}
+use Rattle.language.specs.Kept.{keptOf}
 use Rattle.statement_writer.specs.Writing.{Put}
 use Rattle.statement_writer.proofs.Puts.{put-within}
 use Rattle.blame.specs.Blame.{Blamed}
@@ -22,18 +23,18 @@ use Rattle.outcome.specs.declared.Told.{Told}
 use Rattle.outcome.specs.declared.Told.the-variants.{Written, Refused, NoRoom}
 
 -- an answer that is told
-module _ {t : List ℕ} (vs : List ℕ) (input : ℕ) {budget : ℕ} {r : RunAnswer} {o q : List ℕ} {n : ℕ} (left : List ℕ) (h : RunAnswers t vs input budget r left) where
+module _ {t : List ℕ} (vs : List ℕ) (input : ℕ) {budget : ℕ} {r : RunAnswer} {o q : List ℕ} {n : ℕ} (left kept : List ℕ) (h : RunAnswers t vs input budget r left kept) where
   pub refusal-printed : (k line : ℕ) → r ≡ run.Refused k → Blamed t k line
       → length (refusalText k line) ≤ length o → Put o 0 (refusalText k line) q n → RunPrints t vs input budget o q (Refused n)
   refusal-printed k line is about fits put =
-      let f : RunRefused t budget k × (left ≡ vs) = rw is at h in
+      let f : RunRefused t budget k × (left ≡ vs) × (kept ≡ keptOf vs) = rw is at h in
       record { w = refusalText k line; told = record { n = k; line = line; refused = f .0; blamed = about; tells = refl }; fits = fits; put = put }
 
-  pub answer-printed : (a : Answer) → r ≡ run.Finished a → Put o 0 (answerText a left) q n → n ≤ length o → RunPrints t vs input budget o q (Written n)
+  pub answer-printed : (a : Answer) → r ≡ run.Finished a → Put o 0 (answerText a left kept) q n → n ≤ length o → RunPrints t vs input budget o q (Written n)
   answer-printed a is put fits =
       record {
-        w = answerText a left;
-        told = record { answer = a; left = left; finished = rw is at h; tells = refl };
+        w = answerText a left kept;
+        told = record { answer = a; left = left; kept = kept; finished = rw is at h; tells = refl };
         fits = omega (arith, put .after);
         put = put;
       }

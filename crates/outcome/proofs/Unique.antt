@@ -44,9 +44,9 @@ result-runs r = record { start = r .start; allowed = r .run .finished .allowed; 
 result-run : {t vs : List ℕ} {input budget : ℕ} {w x : List ℕ} → RunResult t vs input budget w → RunResult t vs input budget x → w ≡ x
 result-run {vs = vs} {input = input} {budget = budget} a b =
     let p = taken-unique (b .finished .taken) (a .finished .taken) in
-    let other : Answers (a .finished .P) vs input budget (b .answer) (b .left) = rw (← p) (b .finished .answers) in
-    let u = machine.answer-unique (a .finished .P) vs input budget (a .answer) (b .answer) (a .left) (b .left) (a .finished .answers) other in
-    a .tells ∙ ap₂ answerText (u .0) (u .1) ∙ sym (b .tells)
+    let other : Answers (a .finished .P) vs input budget (b .answer) (b .left) (b .kept) = rw (← p) (b .finished .answers) in
+    let u = machine.answer-unique (a .finished .P) vs input budget (a .answer) (b .answer) (a .left) (b .left) (a .kept) (b .kept) (a .finished .answers) other in
+    a .tells ∙ rw (u .0, u .1, u .2) (sym (b .tells))
 
 pub result-unique : {t u w x : List ℕ} → Result t u w → Result t u x → w ≡ x
 result-unique {t = t} {x = x} a b =

@@ -33,16 +33,17 @@ unfoldable pub answerValues : Answer → List ℕ → List ℕ
 answerValues (Ended v k) ws = []
 answerValues (Spent n) ws = valueLines variables ws
 
--- how a run that isn't refused went, with the values ws beside the answer
-unfoldable pub answerText : Answer → List ℕ → List ℕ
-answerText a ws = answerLine a ++ answerValues a ws
+-- how a run that isn't refused went, with the values ws and the kept ones ks beside the answer
+unfoldable pub answerText : Answer → List ℕ → List ℕ → List ℕ
+answerText a ws ks = answerLine a ks ++ answerValues a ws
 
 -- the run of the program text t answers so, and w tells it
 pub record RunResult (t vs : List ℕ) (input budget : ℕ) (w : List ℕ) : Type 0 where
   pub answer : Answer
   pub left : List ℕ
-  pub finished : RunFinished t vs input budget answer left
-  pub tells : w ≡ answerText answer left
+  pub kept : List ℕ
+  pub finished : RunFinished t vs input budget answer left kept
+  pub tells : w ≡ answerText answer left kept
 
 -- the run is refused, and w is the refusal in words
 pub record RunRefusal (t : List ℕ) (budget : ℕ) (w : List ℕ) : Type 0 where

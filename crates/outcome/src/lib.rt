@@ -5,6 +5,7 @@ ghost use Rattle.language.specs.Spelling.{variables};
 ghost use Rattle.statement_writer.specs.Writing.{Put};
 ghost use Rattle.outcome.specs.Outcome.{valueLines, answerText, value-line-room, outcome-room, Prints, RunPrints};
 use answer_line::SPENT_ROOM;
+use language::KEPT;
 use machine::Answer;
 use machine::VALUES;
 use run::RunAnswer;
@@ -38,11 +39,11 @@ fn value_lines(out: &mut [u8], at: usize, values: &[u32; VALUES]) -> usize
 }
 
 // What a run answers, at the front of the lent bytes: its line, and with `spent` the values.
-fn answer_text(out: &mut [u8], a: Answer, values: &[u32; VALUES]) -> usize
+fn answer_text(out: &mut [u8], a: Answer, values: &[u32; VALUES], kept: &[u32; KEPT]) -> usize
     requires { ⌜ outcome-room ≤ length (now out) ⌝ }
-    ensures { λ r. ⌜ Put (now (out .entry)) 0 (answerText a (now (values .entry))) (now (out .exit)) r × (r ≤ outcome-room) ⌝ }
+    ensures { λ r. ⌜ Put (now (out .entry)) 0 (answerText a (now (values .entry)) (now (kept .entry))) (now (out .exit)) r × (r ≤ outcome-room) ⌝ }
 {
-    let k = answer_line::write(out, 0, a);
+    let k = answer_line::write(out, 0, a, kept);
     match a {
         Answer::Ended(_, _) => k,
         Answer::Spent(_) => value_lines(out, k, values),
@@ -62,13 +63,14 @@ fn run_outcome(
 {
     let ran = run::run(program, values, input, budget);
     let left = ran.values;
+    let kept = ran.kept;
     let answer = ran.answer;
     match answer {
         RunAnswer::Refused(n) => {
             let line = blame::line_of_number(program, n);
             Told::Refused(desk::refusals::refusal(out, 0, n, line))
         }
-        RunAnswer::Finished(a) => Told::Written(answer_text(out, a, &left)),
+        RunAnswer::Finished(a) => Told::Written(answer_text(out, a, &left, &kept)),
     }
 }
 

@@ -22,23 +22,25 @@ pub record RunPlaces : Type 0 where
   pub steps : ℕ
   pub statement : ℕ
   pub left : List ℕ
+  pub kept : List ℕ
 
--- what a run's answer sets, with the values ws beside it; the rest is kept
-abbrev pub placed : Answer → List ℕ → RunPlaces → RunPlaces
-placed (Ended v k) ws o = record { ended = 1; value = v; steps = k; statement = o .statement; left = o .left }
-placed (Spent n) ws o = record { ended = 0; value = o .value; steps = o .steps; statement = n; left = ws }
+-- what a run's answer sets, with the values ws and the kept ones ks beside it; the rest stays
+abbrev pub placed : Answer → List ℕ → List ℕ → RunPlaces → RunPlaces
+placed (Ended v k) ws ks o = record { ended = 1; value = v; steps = k; statement = o .statement; left = o .left; kept = ks }
+placed (Spent n) ws ks o = record { ended = 0; value = o .value; steps = o .steps; statement = n; left = ws; kept = o .kept }
 
 -- 0 is a result, any other number the refusal, which keeps all
-abbrev pub RunReturned : RunAnswer → List ℕ → ℕ → RunPlaces → RunPlaces → Type 0
-RunReturned (Refused n) ws r o q = (r ≡ n) × (q ≡ o)
-RunReturned (Finished a) ws r o q = (r ≡ 0) × (q ≡ placed a ws o)
+abbrev pub RunReturned : RunAnswer → List ℕ → List ℕ → ℕ → RunPlaces → RunPlaces → Type 0
+RunReturned (Refused n) ws ks r o q = (r ≡ n) × (q ≡ o)
+RunReturned (Finished a) ws ks r o q = (r ≡ 0) × (q ≡ placed a ws ks o)
 
 -- the number and the places are those of the one answer of `run`
 pub record RunExported (t vs : List ℕ) (input budget r : ℕ) (o q : RunPlaces) : Type 0 where
   pub answer : RunAnswer
   pub values : List ℕ
-  pub answers : RunAnswers t vs input budget answer values
-  pub returned : RunReturned answer values r o q
+  pub eight : List ℕ
+  pub answers : RunAnswers t vs input budget answer values eight
+  pub returned : RunReturned answer values eight r o q
 
 -- the places lent to `rewrites_tabulate` beside the table
 pub record TabulatePlaces : Type 0 where

@@ -1,6 +1,7 @@
 // The calls for C and Rust hosts: include/rewrites.h declares them.
 ghost use Rattle.rewrites.specs.Exports.{RunExported, TabulateExported, JudgeExported};
 use judge::JudgeAnswer;
+use language::KEPT;
 use machine::Answer;
 use machine::VALUES;
 use run::RunAnswer;
@@ -17,12 +18,14 @@ pub extern "C" fn rewrites_run(
     steps: &mut u32,
     statement: &mut u32,
     left: &mut [u32; VALUES],
+    kept: &mut [u32; KEPT],
 ) -> u8
-    ensures { λ r. ⌜ RunExported (now (program .entry)) (now (values .entry)) input budget r (record { ended = now (ended .entry); value = now (value .entry); steps = now (steps .entry); statement = now (statement .entry); left = now (left .entry) }) (record { ended = now (ended .exit); value = now (value .exit); steps = now (steps .exit); statement = now (statement .exit); left = now (left .exit) }) ⌝ }
+    ensures { λ r. ⌜ RunExported (now (program .entry)) (now (values .entry)) input budget r (record { ended = now (ended .entry); value = now (value .entry); steps = now (steps .entry); statement = now (statement .entry); left = now (left .entry); kept = now (kept .entry) }) (record { ended = now (ended .exit); value = now (value .exit); steps = now (steps .exit); statement = now (statement .exit); left = now (left .exit); kept = now (kept .exit) }) ⌝ }
 {
     let start = *values;
     let ran = run::run(program, start, input, budget);
     let after = ran.values;
+    let eight = ran.kept;
     let answer = ran.answer;
     match answer {
         RunAnswer::Refused(number) => number,
@@ -32,6 +35,7 @@ pub extern "C" fn rewrites_run(
                     *ended = 1;
                     *value = v;
                     *steps = k;
+                    *kept = eight;
                     0
                 }
                 Answer::Spent(n) => {

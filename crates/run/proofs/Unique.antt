@@ -1,4 +1,4 @@
--- A call of `run` has one answer, and one list of values beside it. Assumes nothing.
+-- A call of `run` has one answer, and one list of values and of kept ones beside it. Assumes nothing.
 use mathlib.Core.Path.{_≡_, sym, ap, _∙_, subst}
 use mathlib.Core.Logic.{inl, inr}
 use mathlib.Core.List.{List}
@@ -30,14 +30,19 @@ module _ (t : List ℕ) (budget : ℕ) where
   never-refused (inr r) allowed taken = taken-refused t taken (r .1) (r .2)
 
 module _ (t vs : List ℕ) (input budget : ℕ) where
-  run-finished : (a b : Answer) (ws us : List ℕ) → RunFinished t vs input budget a ws → RunFinished t vs input budget b us → (a ≡ b) × (ws ≡ us)
-  run-finished a b ws us f g =
-      answer-unique (f .P) vs input budget a b ws us (f .answers)
-      (subst (λ (Q : List Statement). Answers Q vs input budget b us) (taken-unique (g .taken) (f .taken)) (g .answers))
+  run-finished :
+      (a b : Answer) (ws us ks hs : List ℕ)
+      → RunFinished t vs input budget a ws ks → RunFinished t vs input budget b us hs → (a ≡ b) × (ws ≡ us) × (ks ≡ hs)
+  run-finished a b ws us ks hs f g =
+      answer-unique (f .P) vs input budget a b ws us ks hs (f .answers)
+      (subst (λ (Q : List Statement). Answers Q vs input budget b us hs) (taken-unique (g .taken) (f .taken)) (g .answers))
 
-  -- a call of `run` has one answer, and one list of values beside it
-  pub run-unique : (a b : RunAnswer) (ws us : List ℕ) → RunAnswers t vs input budget a ws → RunAnswers t vs input budget b us → (a ≡ b) × (ws ≡ us)
-  run-unique (run.Refused n) (run.Refused m) ws us p q = (ap run.Refused (number-unique t budget (p .0) (q .0)), p .1 ∙ sym (q .1))
-  run-unique (run.Refused n) (run.Finished b) ws us p q = absurd (never-refused t budget (p .0) (q .allowed) (q .taken))
-  run-unique (run.Finished a) (run.Refused m) ws us p q = absurd (never-refused t budget (q .0) (p .allowed) (p .taken))
-  run-unique (run.Finished a) (run.Finished b) ws us p q = let e = run-finished a b ws us p q in (ap run.Finished (e .0), e .1)
+  -- a call of `run` has one answer, and one list of values and of kept ones beside it
+  pub run-unique :
+      (a b : RunAnswer) (ws us ks hs : List ℕ)
+      → RunAnswers t vs input budget a ws ks → RunAnswers t vs input budget b us hs → (a ≡ b) × (ws ≡ us) × (ks ≡ hs)
+  run-unique (run.Refused n) (run.Refused m) ws us ks hs p q =
+      (ap run.Refused (number-unique t budget (p .0) (q .0)), p .1 ∙ sym (q .1), p .2 ∙ sym (q .2))
+  run-unique (run.Refused n) (run.Finished b) ws us ks hs p q = absurd (never-refused t budget (p .0) (q .allowed) (q .taken))
+  run-unique (run.Finished a) (run.Refused m) ws us ks hs p q = absurd (never-refused t budget (q .0) (p .allowed) (p .taken))
+  run-unique (run.Finished a) (run.Finished b) ws us ks hs p q = let e = run-finished a b ws us ks hs p q in (ap run.Finished (e .0), e .1, e .2)

@@ -3,6 +3,7 @@ use mathlib.Core.Path.{_≡_}
 use mathlib.Core.Logic.{_⊎_}
 use mathlib.Core.List.{List}
 use Prim.Native.Nat.{ℕ, _≤_, _<_}
+use Rattle.language.specs.Kept.{keptOf}
 use Rattle.language.specs.declared.Statement.{Statement}
 use Rattle.program.specs.declared.Refusal.{Refusal}
 use Rattle.program.specs.Program.{Taken}
@@ -26,14 +27,14 @@ RunRefused t budget n =
     ((most-steps < budget) × (n ≡ budget-number))
     ⊎ ((budget ≤ most-steps) × (r : Refusal) × program.Refused t r × (n ≡ program.number r))
 
--- none applies: the text is taken as a program, whose run answers a, with the values ws beside it
-pub record RunFinished (t vs : List ℕ) (input budget : ℕ) (a : Answer) (ws : List ℕ) : Type 0 where
+-- none applies: the text is taken as a program, whose run answers a, with the values ws and the kept ones ks beside it
+pub record RunFinished (t vs : List ℕ) (input budget : ℕ) (a : Answer) (ws ks : List ℕ) : Type 0 where
   pub P : List Statement
   pub allowed : budget ≤ most-steps
   pub taken : Taken t P
-  pub answers : Answers P vs input budget a ws
+  pub answers : Answers P vs input budget a ws ks
 
--- the answer and the 32 values beside it, which are the starting ones where the call is refused
-abbrev pub RunAnswers : List ℕ → List ℕ → ℕ → ℕ → RunAnswer → List ℕ → Type 0
-RunAnswers t vs input budget (Refused n) ws = RunRefused t budget n × (ws ≡ vs)
-RunAnswers t vs input budget (Finished a) ws = RunFinished t vs input budget a ws
+-- the answer, the 32 values and the kept ones beside it, which are the starting ones where the call is refused
+abbrev pub RunAnswers : List ℕ → List ℕ → ℕ → ℕ → RunAnswer → List ℕ → List ℕ → Type 0
+RunAnswers t vs input budget (Refused n) ws ks = RunRefused t budget n × (ws ≡ vs) × (ks ≡ keptOf vs)
+RunAnswers t vs input budget (Finished a) ws ks = RunFinished t vs input budget a ws ks

@@ -55,7 +55,7 @@ module _ (t m u : List ℕ) (p : Position) {input budget : ℕ} {values : List �
   -- both outcomes, of the new text that was run side by side
   compares : {o q : List ℕ} {lent left : Lent} {count accepted bytes n : ℕ} {b : List ℕ} → AllTold t m u b
       → JudgeFinished t m lent left count accepted bytes → (c : Closes t (take bytes (left .new)) values input budget o q n)
-      → Comparison t m u (b ++ closingText (c .given) (c .rewritten))
+      → Comparison t m u (b ++ closingText (c .given) (c .rewritten) (c .ks))
   compares a f c =
       let s = start-unique (a .runs .start) start in
       let x = demand-text (a .runs .demand) (f .demand) in
@@ -66,17 +66,18 @@ module _ (t m u : List ℕ) (p : Position) {input budget : ℕ} {values : List �
         rewritten = c .rewritten;
         us = c .us;
         ws = c .ws;
+        ks = c .ks;
         one = rw (s .0, s .1, s .2) (c .one);
         two = rw (x, s .0, s .1, s .2) (c .two);
         alike = c .alike;
-        text = ap (λ (k : List ℕ). k ++ closingText (c .given) (c .rewritten)) (a .text);
+        text = ap (λ (k : List ℕ). k ++ closingText (c .given) (c .rewritten) (c .ks)) (a .text);
       }
 
   pub closes : {o q : List ℕ} {lent left : Lent} {count accepted bytes n : ℕ} {z : Piece} → z ≡ record { bytes = n; next = atStage Ended } → JudgeFinished t m lent left count accepted bytes
       → Closes t (take bytes (left .new)) values input budget o q n → Prints t m u p (lent .new) (left .new) o q z
   closes {lent = lent} {left = left} {n = n} is f c =
       rw is
-      (printed t m u p (lent .new) (left .new) (record { bytes = n; next = atStage Ended }) (closingText (c .given) (c .rewritten))
+      (printed t m u p (lent .new) (left .new) (record { bytes = n; next = atStage Ended }) (closingText (c .given) (c .rewritten) (c .ks))
       (piece-put (c .put) (c .fits)) (put-front (c .put) (c .fits)) (judged-kept f) (rw here (omega arith))
       (λ b h. let g : HandedAt t m u Closing p (lent .new) b = handed-at t m u p (lent .new) b here h in ((refl, compares (g .1) f c), rw here (omega arith))))
 

@@ -6,9 +6,8 @@ use Prim.Native.Nat.{ℕ, _≤_, _<_}
 use native.Mathlib.Omega.{arith}
 use lib.ListN.{length, take, length-take}
 use Rattle.statement_writer.specs.Writing.{Put}
-use Rattle.statement_writer.proofs.Puts.{put-front}
+use Rattle.statement_writer.proofs.Puts.{put-front, put-length}
 use Rattle.judge.specs.Judge.{text-bytes}
-use Rattle.trace.proofs.Series.{put-length}
 use Rattle.side_by_side.specs.SideBySide.{atStage, HandedAt, Handed, aheadAt, ahead, stays, Stays, Kept, Prints, side-by-side-room, Next}
 use Rattle.side_by_side.specs.declared.Stage.{Stage}
 use Rattle.side_by_side.specs.declared.Stage.the-variants.{Begin}

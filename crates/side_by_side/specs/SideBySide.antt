@@ -45,7 +45,8 @@ linesText r n =
     countsLine (length (r .demand .ms)) (acceptedCount (r .demand .ms) (r .verdicts))
     ++ bothLines (r .demand .P) (r .demand .Q) (r .values) (r .input) 0 n
 
--- b is all that is printed where nothing is refused: the counts, the lines of all steps within the budget, and both outcomes, which agree
+-- b is all that is printed where nothing is refused: the counts, the lines of all steps within the budget, and both outcomes, which agree and
+-- keep the same
 pub record Comparison (t m u b : List ℕ) : Type 0 where
   pub x : List ℕ
   pub runs : Runs t m u x
@@ -53,10 +54,11 @@ pub record Comparison (t m u b : List ℕ) : Type 0 where
   pub rewritten : Answer
   pub us : List ℕ
   pub ws : List ℕ
-  pub one : RunFinished t (runs .values) (runs .input) (runs .budget) given us
-  pub two : RunFinished x (runs .values) (runs .input) (runs .budget) rewritten ws
+  pub ks : List ℕ
+  pub one : RunFinished t (runs .values) (runs .input) (runs .budget) given us ks
+  pub two : RunFinished x (runs .values) (runs .input) (runs .budget) rewritten ws ks
   pub alike : Alike given rewritten
-  pub text : b ≡ linesText runs (runs .budget) ++ closingText given rewritten
+  pub text : b ≡ linesText runs (runs .budget) ++ closingText given rewritten ks
 
 -- b tells the refusal of the budget, the program or the marks
 pub record CallRefused (t m : List ℕ) (budget : ℕ) (b : List ℕ) : Type 0 where

@@ -29,9 +29,12 @@ module _ {o q p u v : List ℕ} {at k r : ℕ} where
   }
 
 module _ {o q u : List ℕ} {at k : ℕ} where
+  pub put-length : Put o at u q k → length q ≡ length o
+  put-length a = ap length (a .text) ∙ length-sets o at u
+
   -- there is room for the second
   pub room : (v : List ℕ) → Put o at u q k → at + length (u ++ v) ≤ length o → k + length v ≤ length q
-  room v a h = omega (arith, a .after, ap length (a .text) ∙ length-sets o at u, length-append u v, h)
+  room v a h = omega (arith, a .after, put-length a, length-append u v, h)
 
 pub front : (u v : List ℕ) (at n : ℕ) → at + length (u ++ v) ≤ n → at + length u ≤ n
 front u v at n h = omega (arith, length-append u v, h)
@@ -46,7 +49,7 @@ put-front {o = o} {w = w} {q = q} {k = k} p h =
     rw (e, n) (take-append-seam w (drop (length w) o))
 
 pub put-within : {o w q : List ℕ} {k : ℕ} → Put o 0 w q k → length w ≤ length o → k ≤ length q
-put-within {o = o} {w = w} p h = omega (arith, p .after, ap length (p .text) ∙ length-sets o 0 w)
+put-within p h = omega (arith, p .after, put-length p)
 
 -- one byte more of a word
 pub sets-more : (w o : List ℕ) (at i : ℕ) → i < length w → set (sets o at (take i w)) (at + i) (getD w i 0) ≡ sets o at (take (i + 1) w)

@@ -1,14 +1,12 @@
 -- What is left of filling one part. Assumes nothing.
 use mathlib.Core.Path.{_≡_}
 use mathlib.Core.List.{List}
-use Prim.Native.Nat.{ℕ, _+_, _*_, _≤_, _<_}
+use Prim.Native.Nat.{ℕ, _+_, _*_, _≤_}
 use native.Mathlib.Omega.{arith}
-use lib.ListN.{length, getD, set, take, drop, length-drop}
-use lib.Seq.{getD-drop}
+use lib.ListN.{length}
 use Rattle.tokens.specs.Parsing.{Parsed, found, misspelled}
 use Rattle.bits.specs.Row.{member}
 use Rattle.bits.proofs.Tables.{replaced, replaced-row, replaced-kept}
-use Rattle.graph.proofs.Lists.{copy-more as entry-copied}
 use Rattle.labelling.specs.Labels.{Labelled}
 use Rattle.table.specs.Table.{Written}
 
@@ -23,8 +21,3 @@ found-not e f = let z : _≡_ {A = ℕ} 0 1 = cc in omega arith
 pub part-written : (w : ℕ) (t : List ℕ) (k : ℕ) (fits : w * k + w ≤ length t) (ys : List ℕ) (n : ℕ) (X : ℕ → Type 0) → length ys ≡ w → Labelled n (member ys) X
     → Written w t (replaced w t k fits ys) k n X
 part-written w t k fits ys n X l lab = record { kept = replaced-kept w t k fits ys l; labelled = rw (replaced-row w t k fits ys l) lab }
-
--- one word more of a copy
-pub copy-more : (xs ys : List ℕ) (a i : ℕ) → take i ys ≡ take i (drop a xs) → i < length ys → a + i < length xs
-    → take (i + 1) (set ys i (getD xs (a + i) 0)) ≡ take (i + 1) (drop a xs)
-copy-more xs ys a i e h l = rw (← getD-drop a xs i 0) (entry-copied (drop a xs) ys i e h (rw (length-drop a xs) (omega arith)))

@@ -1,4 +1,3 @@
-pub mod Series
 pub mod Room
 pub mod Walk
 pub mod Lines

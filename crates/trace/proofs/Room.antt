@@ -16,7 +16,7 @@ use Rattle.program.proofs.Lengths.{statement-short}
 use Rattle.desk.proofs.Lengths.{wide-length, padded-length}
 use Rattle.trace.specs.Trace.{valueText, change, changes, step-columns, stepHead, lineText}
 use Rattle.trace.specs.Stepping.{head-room, value-room, change-room, line-room}
-use Rattle.trace.proofs.Series.{Parts, parts-most}
+use Rattle.statement_writer.proofs.Series.{Parts, parts-most}
 
 pub value-length : (x v : ℕ) → length (valueText x v) ≡ length (spellVariable x) + (3 + length (spellConstant v))
 unfolding valueText
@@ -33,7 +33,7 @@ change-most x vs us h = go (eqb (getD vs x 0) (getD us x 0))
     go true = omega arith
     go false = omega (arith, value-most x (getD us x 0) h)
 
-pub changes-parts : (vs us : List ℕ) → Parts (λ n. changes n vs us) (λ n. change n vs us) change-room
+pub changes-parts : (vs us : List ℕ) → Parts (λ n. changes n vs us) (λ n. change n vs us) variables change-room
 unfolding changes
 changes-parts vs us = record { none = refl; more = λ n. refl; short = λ n h. change-most n vs us h }
 

@@ -9,7 +9,7 @@ use native.Mathlib.Numerals.{add-one}
 use lib.ListN.{length}
 use Rattle.statement_writer.specs.Writing.{Put}
 use Rattle.language.specs.declared.Statement.{Statement}
-use Rattle.statement_writer.proofs.Puts.{put-then}
+use Rattle.statement_writer.proofs.Puts.{put-then, put-length}
 use Rattle.program.specs.Program.{at, WellFormed}
 use Rattle.program.specs.Reading.{statements}
 use Rattle.program.specs.declared.Program.{Program}
@@ -22,7 +22,6 @@ use Rattle.machine.proofs.Runs.{Stands, perform-inside, step-after, step-inside
 use Rattle.trace.specs.Trace.{lineText, valuesIn, stepLine, stepLines}
 use Rattle.trace.specs.Stepping.{line-room, Goes, Traced}
 use Rattle.trace.specs.declared.Progress.{Progress}
-use Rattle.trace.proofs.Series.{put-length}
 
 -- w is the lines of the steps after the first k, up to step j, and the run stands before place s
 pub record SoFar (P : List Statement) (start : List ℕ) (input k j s : ℕ) (vs w : List ℕ) : Type 0 where

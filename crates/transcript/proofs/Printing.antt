@@ -8,7 +8,7 @@ use native.Mathlib.Omega.{arith}
 use lib.Dec.{ltb}
 use lib.ListN.{length}
 use borrow.Author.Tests.{ltb-true, ltb-false}
-use Rattle.statement_writer.proofs.Puts.{put-within}
+use Rattle.statement_writer.proofs.Puts.{put-within, put-length}
 use Rattle.language.specs.declared.Statement.{Statement}
 use Rattle.program.specs.Reading.{Held, statements}
 use Rattle.program.specs.declared.Program.{Program}
@@ -19,7 +19,6 @@ use Rattle.trace.specs.Trace.{stepLines}
 use Rattle.trace.specs.Stepping.{Left, Traced}
 use Rattle.trace.specs.declared.Progress.{Progress}
 use Rattle.trace.proofs.Lines.{lines-then, lines-whole}
-use Rattle.trace.proofs.Series.{put-length}
 use Rattle.outcome.specs.Outcome.{Runs, Result, Refusal}
 use Rattle.transcript.specs.Transcript.{traceLines, Lines, HandedAt, Handed, isOver, atStage, pieces, left, transcript-room, Moves, Rest, Hands}
 use Rattle.transcript.specs.Pieces.{RunRead, stageAfter, ToldAt, Tells}

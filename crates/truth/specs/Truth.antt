@@ -4,6 +4,7 @@ use mathlib.Core.Logic.{_⊎_}
 use mathlib.Core.List.{List}
 use Prim.Native.Nat.{ℕ, _+_}
 use lib.ListN.{length}
+use Rattle.language.specs.Kept.{Kept}
 use Rattle.language.specs.declared.Operand.{Operand}
 use Rattle.language.specs.declared.Operand.the-variants.{Variable, Constant}
 use Rattle.language.specs.declared.Expression.{Expression}
@@ -43,9 +44,17 @@ Shows (Assign y e) x = In x e
 Shows (Branch y n m) x = x ≡ y
 Shows Skip x = ⊥
 
--- "`use(X)`"
+-- the statement is a `write`
+abbrev pub Writes : Statement → Type 0
+Writes (Read y) = ⊥
+Writes (Write y) = Unit
+Writes (Assign y e) = ⊥
+Writes (Branch y n m) = ⊥
+Writes Skip = ⊥
+
+-- "`use(X)`"; document 02: "`use` of each of the eight also holds at `write`"
 abbrev pub Uses : Statement → ℕ → Type 0
-Uses i x = Shows i x
+Uses i x = Shows i x ⊎ (Writes i × Kept x)
 
 -- "`entry` (statement 1), `exit` (statement N), `node(n)`, `stmt(I)` (the statement is I) .., `trans(E)` (no variable of E is defined
 -- here)": at place s of N, where the statement i stands

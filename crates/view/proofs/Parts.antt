@@ -13,7 +13,8 @@ use Rattle.condition_reader.proofs.Spelling.{condition-unique}
 use Rattle.table.specs.Table.{partAt}
 use Rattle.view.specs.View.{upTo, partLine, partLines}
 use Rattle.view.specs.Writing.{PartsFit}
-use Rattle.view.proofs.Texts.{put-length, upto-none, upto-room, upto-more, upto-all}
+use Rattle.statement_writer.proofs.Puts.{put-length}
+use Rattle.view.proofs.Texts.{upto-none, upto-room, upto-more, upto-all}
 
 abbrev lineOf : Condition → ℕ → List ℕ
 lineOf c k = partLine k (spellCondition (partAt c k))

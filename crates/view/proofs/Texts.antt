@@ -7,17 +7,13 @@ use native.Mathlib.Omega.{arith}
 use native.Mathlib.Numerals.{add-one}
 use lib.Dec.{ltb}
 use lib.ListN.{length, length-append}
-use lib.Seq.{length-sets}
 use borrow.Author.Tests.{ltb-true, ltb-false}
 use Rattle.language.specs.Spelling.{digits, spell}
 use Rattle.statement_writer.specs.Writing.{Put}
 use Rattle.language.specs.declared.Statement.{Statement}
-use Rattle.statement_writer.proofs.Puts.{put-then}
+use Rattle.statement_writer.proofs.Puts.{put-then, put-length}
 use Rattle.desk.specs.Columns.{number-columns, statement-columns, spaces, wide, padded}
 use Rattle.view.specs.View.{upTo, part-columns, partLine, columns, headRow, margin, row, mark, lastLine}
-
-pub put-length : {o w q : List ℕ} {at k : ℕ} → Put o at w q k → length q ≡ length o
-put-length {o = o} {w = w} {at = at} p = ap length (p .text) ∙ length-sets o at w
 
 pub upto-none : (o : List ℕ) (at : ℕ) (f : ℕ → List ℕ) → Put o at (upTo 0 f) o at
 unfolding upTo

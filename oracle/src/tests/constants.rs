@@ -1,6 +1,6 @@
 //! Constants below zero: the cases of the change request, in programs, conditions and marks.
 
-use super::{judged, lines, whole, words};
+use super::{judged, lines, whole, words, ZEROS};
 use crate::check::check;
 use crate::condition::{self, Condition};
 use crate::desk;
@@ -184,7 +184,7 @@ fn ends(program: &str, input: u32) -> (i32, u32) {
     let plain = machine::run(text.as_bytes(), [0; 32], input, 100);
     assert_eq!(tuned::run(text.as_bytes(), &[0; 32], input, 100), plain);
     match plain {
-        Ok(Outcome::Ended { value, steps }) => (value, steps),
+        Ok(Outcome::Ended { value, steps, kept: ZEROS }) => (value, steps),
         other => panic!("{other:?}"),
     }
 }
@@ -309,7 +309,7 @@ fn columns_of_the_desk() {
         "      1    1  read i0                           i0 = -5\n\
          \x20     2    2  i10 := -2147483648 + -2147483648\n\
          \x20     3    3  write i10                       \n\
-         ended 0 steps 3\n"
+         ended 0 steps 3 kept 0 0 0 0 0 0 0 0\n"
     );
     assert_eq!(
         desk::compare(text.as_bytes(), b"2: mark(rm, i10, -2147483648)\n", b"-5\n2\n"),
@@ -340,7 +340,7 @@ fn bits_and_their_spelling() {
         assert_eq!(program.statements()[1], Statement::Assign(0, constant(bits)));
         assert_eq!(
             tuned::run(text.as_bytes(), &[0; 32], 0, 3),
-            Ok(Outcome::Ended { value: bits as i32, steps: 3 })
+            Ok(Outcome::Ended { value: bits as i32, steps: 3, kept: ZEROS })
         );
     }
 }

@@ -1,6 +1,6 @@
 //! The cases of the defining document.
 
-use super::{condition_refusal, judged, lines, refusal, skips, whole, words, P};
+use super::{condition_refusal, judged, lines, refusal, skips, whole, words, P, ZEROS};
 use crate::check::check;
 use crate::condition::tabulate;
 use crate::machine::{run, Outcome};
@@ -36,9 +36,10 @@ fn answers_of_tables_of_p() {
 #[test]
 fn runs_of_p() {
     let p = P.as_bytes();
-    assert_eq!(run(p, [0; 32], 0, 1_000_000), Ok(Outcome::Ended { value: 7, steps: 6 }));
-    assert_eq!(run(p, [0; 32], 2, 1_000_000), Ok(Outcome::Ended { value: 9, steps: 12 }));
-    assert_eq!(run(p, [0; 32], 2, 12), Ok(Outcome::Ended { value: 9, steps: 12 }));
+    let ended = |value, steps| Ok(Outcome::Ended { value, steps, kept: ZEROS });
+    assert_eq!(run(p, [0; 32], 0, 1_000_000), ended(7, 6));
+    assert_eq!(run(p, [0; 32], 2, 1_000_000), ended(9, 12));
+    assert_eq!(run(p, [0; 32], 2, 12), ended(9, 12));
     match run(p, [0; 32], 2, 11) {
         Ok(Outcome::Spent { statement, values }) => {
             assert_eq!(statement, 8);
@@ -78,7 +79,7 @@ fn arithmetic() {
         values[2] = i2;
         let text = format!("read i0\ni0 := {right}\nwrite i0\n");
         match run(text.as_bytes(), values, 5, 3) {
-            Ok(Outcome::Ended { value, steps: 3 }) => value,
+            Ok(Outcome::Ended { value, steps: 3, kept: ZEROS }) => value,
             other => panic!("{other:?}"),
         }
     };

@@ -4,7 +4,7 @@ use super::naive;
 use crate::check::{check, LARGEST_FILE};
 use crate::condition::{tabulate, Atom, Checker, Condition, Demand, Direction, Part, Quantifier};
 use crate::generate::{self, Random};
-use crate::machine::{first_difference, run, run_program, Outcome, Run, State};
+use crate::machine::{first_difference, kept_of, run, run_program, Outcome, Run, State};
 use crate::marks::{self, judge, Judge, Kind};
 use crate::program::{Expression, Operand, Operator, Program, Statement};
 use crate::steps::Steps;
@@ -180,6 +180,7 @@ fn atoms_agree_with_the_text() {
             };
             for x in 0..32 {
                 let name = format!("i{x}");
+                let is_kept_here = words[0] == "write" && x >= 24;
                 assert_eq!(
                     Atom::Def(x).holds(&program, at),
                     defined.contains(&name.as_str()),
@@ -187,9 +188,10 @@ fn atoms_agree_with_the_text() {
                 );
                 assert_eq!(
                     Atom::Use(x).holds(&program, at),
-                    used.contains(&name.as_str()),
+                    used.contains(&name.as_str()) || is_kept_here,
                     "{line}"
                 );
+                assert_eq!(statement.shows(x), used.contains(&name.as_str()), "{line}");
                 let pair = Expression::Pair(
                     Operand::Constant(x.into()),
                     Operator::Plus,
@@ -382,14 +384,22 @@ fn runs_are_their_steps() {
         let (values, input) = (generate::values(random), generate::word(random));
         let budget = random.below(80) as u32;
         let mut walk = Run::start(&program, values, input);
-        let mut taken = 0;
-        while taken < budget && matches!(walk.state(), State::Before { .. }) {
+        let (mut taken, mut before) = (0, values);
+        while let State::Before { values, .. } = *walk.state() {
+            if taken == budget {
+                break;
+            }
+            before = values;
             walk.step();
             taken += 1;
         }
         let wanted = match *walk.state() {
             State::Before { statement, values } => Outcome::Spent { statement, values },
-            State::Ended { value } => Outcome::Ended { value, steps: taken },
+            State::Ended { value, kept } => {
+                // The last step changes no value.
+                assert_eq!(kept, kept_of(&before));
+                Outcome::Ended { value, steps: taken, kept }
+            }
         };
         assert_eq!(run(&program.text(), values, input, budget), Ok(wanted));
         ended += usize::from(matches!(wanted, Outcome::Ended { .. }));

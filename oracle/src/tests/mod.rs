@@ -3,17 +3,22 @@
 mod constants;
 mod document;
 mod generated;
+mod kept;
 mod naive;
 mod open_points;
 mod tuned;
 
 use crate::condition;
+use crate::machine::Kept;
 use crate::marks;
-use crate::program::Program;
+use crate::program::{Program, KEPT};
 
 /// The document's program P.
 const P: &str = "read i0\ni1 := i0\ni2 := 7\ni3 := i1 + i2\nif i0 goto 6 else 8\ni0 := i0 - 1\n\
                  if i0 goto 4 else 8\nwrite i3\n";
+
+/// What is kept where no statement and no start sets it.
+const ZEROS: Kept = [0; KEPT];
 
 /// The text of the statements that are named between slashes.
 fn lines(statements: &str) -> String {

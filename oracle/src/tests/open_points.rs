@@ -457,7 +457,8 @@ fn budgets() {
         values
     };
     assert_eq!(run(p, values, 9, 1), Ok(Outcome::Spent { statement: 2, values: after_one }));
-    assert_eq!(run(p, values, 0, 6), Ok(Outcome::Ended { value: 7, steps: 6 }));
+    let kept = [0, 0, 0, 0, 0, 0, 0, u32::MAX];
+    assert_eq!(run(p, values, 0, 6), Ok(Outcome::Ended { value: 7, steps: 6, kept }));
     assert!(matches!(run(p, values, 0, 5), Ok(Outcome::Spent { statement: 8, .. })));
     assert_eq!(run(b"rubbish", values, 0, 1_000_001), Err(15));
     assert_eq!(run(b"rubbish", values, 0, u32::MAX), Err(15));

@@ -1,7 +1,7 @@
 //! Runs of a program that is made into small instructions first.
 
 use super::read::Program;
-use crate::machine::{Outcome, Values, LARGEST_BUDGET};
+use crate::machine::{kept_of, Outcome, Values, LARGEST_BUDGET, VALUES};
 use crate::program::{Expression, Operand, Operator, Statement, MOST_LINES};
 
 #[derive(Clone, Copy)]
@@ -50,8 +50,8 @@ impl Machine {
     fn new(program: &Program, values: &Values) -> Machine {
         let skip = Instruction { code: Code::Skip, x: 0, a: 0, b: 0 };
         let mut machine =
-            Machine { instructions: [skip; MOST_LINES], values: [0; PLACES], used: 32 };
-        machine.values[..32].copy_from_slice(values);
+            Machine { instructions: [skip; MOST_LINES], values: [0; PLACES], used: VALUES as u16 };
+        machine.values[..VALUES].copy_from_slice(values);
         for (at, statement) in program.statements().iter().enumerate() {
             machine.instructions[at] = match *statement {
                 Statement::Read(x) => Instruction { code: Code::Read, x, ..skip },
@@ -86,6 +86,13 @@ impl Machine {
         self.values[usize::from(place) % PLACES]
     }
 
+    /// The values of the variables.
+    fn variables(&self) -> Values {
+        let mut values = [0; VALUES];
+        values.copy_from_slice(&self.values[..VALUES]);
+        values
+    }
+
     fn run(&mut self, input: u32, budget: u32) -> Outcome {
         let mut at = 0;
         for steps in 1..=budget {
@@ -107,15 +114,14 @@ impl Machine {
                     continue;
                 }
                 Code::Write => {
-                    return Outcome::Ended { value: self.values[usize::from(x)] as i32, steps }
+                    let value = self.values[usize::from(x)] as i32;
+                    return Outcome::Ended { value, steps, kept: kept_of(&self.variables()) };
                 }
             };
             self.values[usize::from(x)] = value;
             at += 1;
         }
-        let mut values = [0; 32];
-        values.copy_from_slice(&self.values[..32]);
-        Outcome::Spent { statement: at as u32 + 1, values }
+        Outcome::Spent { statement: at as u32 + 1, values: self.variables() }
     }
 }
 

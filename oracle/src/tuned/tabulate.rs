@@ -4,7 +4,7 @@ use super::flow::{and, or, put, without, Flow, Row};
 use super::read::{Cursor, Program};
 use crate::condition::{Atom, Demand, Direction, Part, Quantifier};
 use crate::condition::{LONGEST_TEXT, MOST_PARTS, TABLE_WORDS};
-use crate::program::{Expression, Operand, VARIABLES};
+use crate::program::{Expression, Operand, FIRST_KEPT, KEPT, VARIABLES};
 
 /// The statements that define each variable, and those that use it.
 pub struct Rows {
@@ -20,7 +20,12 @@ impl Rows {
             let at = at as u8;
             match *statement {
                 Statement::Read(x) => put(&mut rows.defining[usize::from(x)], at),
-                Statement::Write(x) => put(&mut rows.using[usize::from(x)], at),
+                Statement::Write(x) => {
+                    put(&mut rows.using[usize::from(x)], at);
+                    // What the unit keeps is used when the run ends.
+                    let first = usize::from(FIRST_KEPT);
+                    rows.using[first..first + KEPT].iter_mut().for_each(|row| put(row, at));
+                }
                 Statement::Branch { tested, .. } => put(&mut rows.using[usize::from(tested)], at),
                 Statement::Skip => {}
                 Statement::Assign(x, right) => {

@@ -3,7 +3,7 @@ use native.Mathlib.Omega.{arith}
 use borrow.Author.Needs.{needs}
 use Rattle.language.proofs.Lengths.{number-most}
 use Rattle.statement_writer.proofs.Puts.{put-then}
-use Rattle.answer_line.specs.AnswerLine.{answerLine}
+use Rattle.answer_line.specs.AnswerLine.{spentLine}
 use Rattle.answer_line.proofs.spent.Statement.{statement}
 use Rattle.answer_line.proofs.spent.Tie as tie
 
@@ -14,7 +14,7 @@ byte-requires : tie.Need-byte-requires
 byte-requires c κs = omega (arith, number-most (c .before .before .before .before .before .before .before .before .before .before .before .args .n) (search needs))
 
 returns : tie.Need-returns
-unfolding answerLine
+unfolding spentLine
 returns c =
     let w3 = c .before .before .byte .ensures in
     let w2 = c .before .before .before .before .before .before .number .ensures in

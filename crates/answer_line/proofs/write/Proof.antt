@@ -2,6 +2,7 @@
 use mir.Syntax.{w32}
 use mir.Facts.{toZ-ofZ}
 use borrow.Author.Needs.{needs, sfits-of}
+use Rattle.answer_line.specs.AnswerLine.{answerLine}
 use Rattle.answer_line.proofs.write.Statement.{statement}
 use Rattle.answer_line.proofs.write.Tie as tie
 
@@ -11,6 +12,7 @@ returns c =
     rw (c .before .before .before .before .before .a .given .1) (rw (toZ-ofZ {w = w32} (sfits-of (c .before .before .before .before .known-told .given .0 .1))) at (told .0), told .1)
 
 returns-2 : tie.Need-returns-2
+unfolding answerLine
 returns-2 c =
     let told = c .before .before .spent .ensures in
     rw (c .before .before .before .before .before .a2 .given .1) told

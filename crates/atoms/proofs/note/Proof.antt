@@ -18,6 +18,9 @@ mark-requires-2 c κs =
     let low = rw (c .before .before .before .i2 .given .1) at (pre .0) in
     (omega (arith, c .before .row-number2 .ensures), pre .1, pre .2)
 
+note-kept-requires : tie.Need-note-kept-requires
+note-kept-requires c κs = let pre = c .before .before .before .before .before .before .before .before .before .before .pre in (pre .1, c .before .before .before .mark2 .ensures .same ∙ pre .2)
+
 mark-requires-3 : tie.Need-mark-requires-3
 mark-requires-3 c κs =
     let pre = c .before .before .before .before .before .before .pre in
@@ -39,7 +42,8 @@ returns : tie.Need-returns
 returns c = rw (c .before .before .before .before .before .before .i .given .1) (rw (c .before .before .before .before .row-number .ensures) at (c .before .before .mark .ensures))
 
 returns-2 : tie.Need-returns-2
-returns-2 c = rw (c .before .before .before .before .before .before .i2 .given .1) (rw (c .before .before .before .before .row-number2 .ensures) at (c .before .before .mark2 .ensures))
+returns-2 c =
+    rw (c .before .before .before .before .before .before .before .before .before .before .i2 .given .1) (marked-both (rw (c .before .before .before .before .before .before .before .before .row-number2 .ensures) at (c .before .before .before .before .before .before .mark2 .ensures)) (c .before .before .note-kept .ensures))
 
 returns-3 : tie.Need-returns-3
 returns-3 c =
@@ -61,6 +65,7 @@ note-spec =
     (λ c. search needs)
     (λ c κs. search needs)
     mark-requires-2
+    note-kept-requires
     (λ c. search needs)
     (λ c κs. search needs)
     mark-requires-3

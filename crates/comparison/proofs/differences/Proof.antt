@@ -4,13 +4,14 @@ use Rattle.language.specs.Spelling.{variables}
 use Rattle.comparison.specs.Lines.{differences}
 use Rattle.comparison.specs.Stepping.{pair-room}
 use Rattle.comparison.proofs.Room.{differences-parts}
-use Rattle.trace.proofs.Series.{Written, put-length, none-written, part-room, one-written, all-written}
+use Rattle.statement_writer.proofs.Puts.{put-length}
+use Rattle.statement_writer.proofs.Series.{Written, none-written, part-room, one-written, all-written}
 use borrow.Author.Needs.{needs}
 use Rattle.comparison.proofs.differences.Statement.{statement}
 use Rattle.comparison.proofs.differences.Tie as tie
 
 abbrev Inv-loop : tie.InvT-loop
-Inv-loop out₀ at a b to₀ x₀ out to x = Written (λ n. differences n a b) pair-room out₀ at out to x
+Inv-loop out₀ at a b to₀ x₀ out to x = Written (λ n. differences n a b) variables pair-room out₀ at out to x
 
 abbrev μ-loop : tie.MeasureT-loop
 μ-loop out₀ at a b to₀ x₀ out to x = variables - x

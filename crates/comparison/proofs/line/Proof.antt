@@ -5,7 +5,7 @@ use Rattle.statement_writer.proofs.Puts.{put-then}
 use Rattle.trace.proofs.Room.{head-most, text-most}
 use Rattle.comparison.specs.Lines.{pairLine}
 use Rattle.comparison.proofs.Room.{differences-parts, line-most}
-use Rattle.trace.proofs.Series.{parts-most}
+use Rattle.statement_writer.proofs.Series.{parts-most}
 use borrow.Author.Needs.{needs}
 use Rattle.comparison.proofs.line.Statement.{statement}
 use Rattle.comparison.proofs.line.Tie as tie

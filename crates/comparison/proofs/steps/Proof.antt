@@ -11,7 +11,7 @@ use Rattle.program.specs.declared.Program.{Program}
 use Rattle.program.proofs.Held.{held, held-valid, held-targets}
 use Rattle.machine.specs.Answer.{stateOf}
 use Rattle.machine.specs.declared.Next.{Next}
-use Rattle.trace.proofs.Series.{put-length}
+use Rattle.statement_writer.proofs.Puts.{put-length}
 use Rattle.comparison.proofs.Walk.{Going, not-gone, going-more, ended-step, stopped}
 use borrow.Author.Needs.{needs}
 use Rattle.comparison.proofs.steps.Statement.{statement}

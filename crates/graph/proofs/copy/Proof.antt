@@ -6,7 +6,7 @@ use native.Mathlib.Omega.{arith}
 use borrow.Author.Needs.{needs}
 use lib.ListN.{length, take, length-set}
 use lib.Seq.{take-all}
-use Rattle.graph.proofs.Lists.{copy-more}
+use Rattle.base.proofs.Copies.{copy-more}
 use Rattle.graph.proofs.copy.Statement.{statement}
 use Rattle.graph.proofs.copy.Tie as tie
 

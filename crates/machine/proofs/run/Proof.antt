@@ -1,10 +1,12 @@
 -- `run` meets its contract. The invariant: after `steps` steps, which the budget allows, the run stands before the statement at `at`.
-use mathlib.Core.Path.{_≡_, refl, ap}
-use Prim.Native.Nat.{_≤_, _-_}
+use mathlib.Core.Path.{_≡_, refl, ap, sym, _∙_}
+use mathlib.Core.List.{List}
+use Prim.Native.Nat.{ℕ, _≤_, _-_}
 use native.Mathlib.Omega.{arith}
 use borrow.Author.Needs.{needs}
 use Rattle.program.specs.Reading.{statements}
 use Rattle.program.proofs.Held.{held-valid, held-targets}
+use Rattle.machine.specs.Machine.{written, ended}
 use Rattle.machine.specs.Answer.{stateOf}
 use Rattle.machine.specs.declared.Next.{Next}
 use Rattle.machine.proofs.Runs.{Stands, stands-first, step-inside, step-over}
@@ -37,21 +39,22 @@ loop-again c =
 
 returns : tie.Need-returns Inv-loop μ-loop
 returns c =
-    let b = c .before .before .before .before .before .before .before .before in
-    let step = c .before .before .before .before .step in
+    let b = c .before .before .before .before .before .before .before .before .before in
+    let step = c .before .before .before .before .before .step in
     let us = step .last .1 .1 .1 .0 in
-    let v = c .before .before .next2 .given in (
+    let v = c .before .before .before .next2 .given in
+    let ends = ap (λ (x : Next). stateOf x us) (v .1) ∙ ap (λ (ks : List ℕ). ended (written (v .0 .0) ks)) (sym (c .kept-of .ensures)) in (
       v .0 .0,
-      step-over (b .before .args .t1) _ _ _ _ _ us (step .result) (b .loop .inv .0) (step .ensures) _ (ap (λ (x : Next). stateOf x us) (v .1)),
+      step-over (b .before .args .t1) _ _ _ _ _ us (step .result) (b .loop .inv .0) (step .ensures) _ ends,
       omega arith,
-      stored-same (v .0 .0) (search needs) (c .signed .ensures),
+      stored-same (v .0 .0) (search needs) (c .before .signed .ensures),
       refl,
     )
 
 returns-2 : tie.Need-returns-2 Inv-loop μ-loop
 returns-2 c =
-    let h : c .before .loop .steps ≡ c .before .before .args .budget = omega arith in
-    (c .before .loop .at, refl, rw (← h) (c .before .loop .inv .0 .state))
+    let h : c .before .before .loop .steps ≡ c .before .before .before .args .budget = omega arith in
+    (c .before .before .loop .at, refl, rw (← h) (c .before .before .loop .inv .0 .state), c .kept-of2 .ensures)
 
 pub run-spec : {M : Type 1} → statement M
 run-spec =
@@ -70,6 +73,8 @@ run-spec =
     loop-again
     (λ c. search needs)
     (λ c κs. search needs)
+    (λ c κs. search needs)
     returns
     (λ c. search needs)
+    (λ c κs. search needs)
     returns-2)

@@ -4,7 +4,7 @@ use native.Mathlib.Omega.{arith}
 use borrow.Author.Needs.{needs}
 use Rattle.language.specs.Spelling.{variables}
 use Rattle.statement_writer.proofs.Puts.{put-then}
-use Rattle.trace.proofs.Series.{parts-most}
+use Rattle.statement_writer.proofs.Series.{parts-most}
 use Rattle.answer_line.specs.AnswerLine.{answerLine}
 use Rattle.outcome.specs.Outcome.{answerValues, answerText}
 use Rattle.outcome.proofs.Lengths.{lines-parts}
@@ -18,7 +18,7 @@ returns : tie.Need-returns
 unfolding answerText answerValues
 returns c =
     let line = rw (c .enum-told .given .1) at (c .before .before .before .before .write .ensures) in
-    rw (c .enum-told .given .1, append-nil (answerLine _)) (line .0, omega (arith, line .1))
+    rw (c .enum-told .given .1, append-nil (answerLine _ _)) (line .0, omega (arith, line .1))
 
 returns-2 : tie.Need-returns-2
 unfolding answerText answerValues

@@ -3,9 +3,9 @@ use Prim.Native.Nat.{_-_}
 use native.Mathlib.Omega.{arith}
 use lib.ListN.{getD}
 use Rattle.language.specs.Spelling.{variables}
-use Rattle.statement_writer.proofs.Puts.{put-then}
+use Rattle.statement_writer.proofs.Puts.{put-then, put-length}
 use Rattle.trace.proofs.Room.{value-most}
-use Rattle.trace.proofs.Series.{Written, put-length, none-written, part-room, one-written, all-written}
+use Rattle.statement_writer.proofs.Series.{Written, none-written, part-room, one-written, all-written}
 use Rattle.outcome.specs.Outcome.{valueLines, value-line-room}
 use Rattle.outcome.proofs.Lengths.{lines-parts}
 use borrow.Author.Needs.{needs}
@@ -13,7 +13,7 @@ use Rattle.outcome.proofs.value_lines.Statement.{statement}
 use Rattle.outcome.proofs.value_lines.Tie as tie
 
 abbrev Inv-loop : tie.InvT-loop
-Inv-loop out₀ at values to₀ x₀ out to x = Written (λ n. valueLines n values) value-line-room out₀ at out to x
+Inv-loop out₀ at values to₀ x₀ out to x = Written (λ n. valueLines n values) variables value-line-room out₀ at out to x
 
 abbrev μ-loop : tie.MeasureT-loop
 μ-loop out₀ at values to₀ x₀ out to x = variables - x

@@ -7,7 +7,8 @@ use borrow.Author.Needs.{needs}
 use Rattle.statement_writer.specs.Writing.{Put}
 use Rattle.view.specs.View.{upTo}
 use Rattle.page.specs.Page.{escapeByte, escape}
-use Rattle.view.proofs.Texts.{put-length, upto-none, upto-room, upto-more, upto-all}
+use Rattle.statement_writer.proofs.Puts.{put-length}
+use Rattle.view.proofs.Texts.{upto-none, upto-room, upto-more, upto-all}
 use Rattle.page.proofs.escape.Statement.{statement}
 use Rattle.page.proofs.escape.Tie as tie
 

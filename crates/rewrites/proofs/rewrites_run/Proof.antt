@@ -8,16 +8,17 @@ use Rattle.rewrites.proofs.rewrites_run.Tie as tie
 
 returns : tie.Need-returns
 returns c =
-    let run = c .before .before .before .before .run in
-    record { answer = run .result .answer; values = run .result .values; answers = run .ensures; returned = rw (c .before .answer .given .1) (refl, refl) }
+    let run = c .before .before .before .before .before .run in
+    record { answer = run .result .answer; values = run .result .values; eight = run .result .kept; answers = run .ensures; returned = rw (c .before .answer .given .1) (refl, refl) }
 
 returns-2 : tie.Need-returns-2
 returns-2 c =
     let told = c .before .before .before .before in
-    let run = told .before .before .before .run in
+    let run = told .before .before .before .before .run in
     record {
       answer = run .result .answer;
       values = run .result .values;
+      eight = run .result .kept;
       answers = run .ensures;
       returned = rw (told .answer2 .given .1, c .before .finished .given .1) (refl, rw (toZ-ofZ {w = w32} (sfits-of (c .known-told3 .given .0 .1))));
     }
@@ -25,10 +26,11 @@ returns-2 c =
 returns-3 : tie.Need-returns-3
 returns-3 c =
     let told = c .before .before .before .before in
-    let run = told .before .before .before .run in
+    let run = told .before .before .before .before .run in
     record {
       answer = run .result .answer;
       values = run .result .values;
+      eight = run .result .kept;
       answers = run .ensures;
       returned = rw (told .answer2 .given .1, c .before .finished2 .given .1) (refl, refl);
     }

@@ -8,13 +8,14 @@ use Rattle.run.proofs.run.Statement.{statement}
 use Rattle.run.proofs.run.Tie as tie
 
 returns : tie.Need-returns
-returns c = rw (c .run-refused .ensures .0, c .run-refused .ensures .1) (inl (c .before .if1 .taken, refl), refl)
+returns c = let r = c .run-refused .ensures in rw (r .0, r .1, r .2) (inl (c .before .if1 .taken, refl), refl, refl)
 
 returns-2 : tie.Need-returns-2
 returns-2 c =
     let told = c .before .before .before in
-    rw (c .run-refused2 .ensures .0, c .run-refused2 .ensures .1)
-    (inr (told .before .before .before .if1 .left, told .answer .given .0 .0, (rw (told .answer .given .1) at (told .before .before .read .ensures)) .0, c .before .number-of .ensures), refl)
+    let r = c .run-refused2 .ensures in
+    rw (r .0, r .1, r .2)
+    (inr (told .before .before .before .if1 .left, told .answer .given .0 .0, (rw (told .answer .given .1) at (told .before .before .read .ensures)) .0, c .before .number-of .ensures), refl, refl)
 
 -- the text that was read is taken
 taken : (c : tie.After-enum-told) → Taken (c .before .before .before .before .before .args .program .now) (statements (c .before .before .read .result .program))
@@ -25,12 +26,12 @@ run-requires c κs = taken (c .before) .program
 
 returns-3 : tie.Need-returns-3
 returns-3 c =
-    let read = c .before .before .before .before .before in
+    let read = c .before .before .before .before .before .before in
     record {
       P = statements (read .read .result .program);
       allowed = read .before .if1 .left;
-      taken = taken (c .before .before .before);
-      answers = c .before .run .ensures;
+      taken = taken (c .before .before .before .before);
+      answers = c .before .before .run .ensures;
     }
 
 pub run-spec : {M : Type 1} → statement M

@@ -6,7 +6,7 @@ use borrow.Author.Needs.{needs}
 use lib.ListN.{length, take, drop, length-set}
 use lib.Seq.{take-all}
 use Rattle.table.specs.Table.{part-words}
-use Rattle.table.proofs.Lent.{copy-more}
+use Rattle.base.proofs.Copies.{copy-more-from}
 use Rattle.table.proofs.row_of.Statement.{statement}
 use Rattle.table.proofs.row_of.Tie as tie
 
@@ -29,7 +29,7 @@ loop-again c =
     let k = c .before .before .before .before .before .args .k in (
       omega arith,
       length-set (l .words) (l .i) _ ∙ l .inv .1,
-      copy-more t (l .words) (part-words * k) (l .i) (l .inv .2) (omega arith) (omega arith),
+      copy-more-from t (l .words) (part-words * k) (l .i) (l .inv .2) (omega arith) (omega arith),
     )
 
 returns : tie.Need-returns Inv-loop μ-loop

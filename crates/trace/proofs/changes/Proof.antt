@@ -4,13 +4,14 @@ use Rattle.language.specs.Spelling.{variables}
 use Rattle.trace.specs.Trace.{changes}
 use Rattle.trace.specs.Stepping.{change-room}
 use Rattle.trace.proofs.Room.{changes-parts}
-use Rattle.trace.proofs.Series.{Written, put-length, none-written, part-room, one-written, all-written}
+use Rattle.statement_writer.proofs.Puts.{put-length}
+use Rattle.statement_writer.proofs.Series.{Written, none-written, part-room, one-written, all-written}
 use borrow.Author.Needs.{needs}
 use Rattle.trace.proofs.changes.Statement.{statement}
 use Rattle.trace.proofs.changes.Tie as tie
 
 abbrev Inv-loop : tie.InvT-loop
-Inv-loop out₀ at old new to₀ x₀ out to x = Written (λ n. changes n old new) change-room out₀ at out to x
+Inv-loop out₀ at old new to₀ x₀ out to x = Written (λ n. changes n old new) variables change-room out₀ at out to x
 
 abbrev μ-loop : tie.MeasureT-loop
 μ-loop out₀ at old new to₀ x₀ out to x = variables - x

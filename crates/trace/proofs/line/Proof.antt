@@ -4,7 +4,7 @@ use Rattle.language.specs.Spelling.{variables}
 use Rattle.statement_writer.proofs.Puts.{put-then}
 use Rattle.trace.specs.Trace.{lineText}
 use Rattle.trace.proofs.Room.{head-most, changes-parts, line-most}
-use Rattle.trace.proofs.Series.{parts-most}
+use Rattle.statement_writer.proofs.Series.{parts-most}
 use borrow.Author.Needs.{needs}
 use Rattle.trace.proofs.line.Statement.{statement}
 use Rattle.trace.proofs.line.Tie as tie

@@ -6,7 +6,7 @@ use native.Mathlib.Omega.{arith}
 use Rattle.program.proofs.Held.{held-valid, held-targets}
 use Rattle.machine.specs.Answer.{stateOf}
 use Rattle.machine.specs.declared.Next.{Next}
-use Rattle.trace.proofs.Series.{put-length}
+use Rattle.statement_writer.proofs.Puts.{put-length}
 use Rattle.trace.proofs.Walk.{Going, not-gone, going-more, ends, stopped}
 use borrow.Author.Needs.{needs}
 use Rattle.trace.proofs.steps.Statement.{statement}

@@ -4,10 +4,10 @@ use Prim.Native.Nat.{_≤_, _-_}
 use native.Mathlib.Omega.{arith}
 use borrow.Author.Needs.{needs}
 use Rattle.statement_writer.specs.Writing.{Put}
-use Rattle.statement_writer.proofs.Puts.{put-then}
+use Rattle.statement_writer.proofs.Puts.{put-then, put-length}
 use Rattle.view.specs.View.{upTo, columns}
 use Rattle.view.specs.Writing.{byteIn}
-use Rattle.view.proofs.Texts.{put-length, upto-none, upto-more, upto-all, cells, cells-length, columns-length}
+use Rattle.view.proofs.Texts.{upto-none, upto-more, upto-all, cells, cells-length, columns-length}
 use Rattle.view.proofs.write_columns.Statement.{statement}
 use Rattle.view.proofs.write_columns.Tie as tie
 

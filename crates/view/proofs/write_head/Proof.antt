@@ -1,10 +1,10 @@
 -- `write_head` meets its contract: the margin, the columns and byte 10. Assumes nothing.
 use native.Mathlib.Omega.{arith}
 use borrow.Author.Needs.{needs}
-use Rattle.statement_writer.proofs.Puts.{put-then}
+use Rattle.statement_writer.proofs.Puts.{put-then, put-length}
 use Rattle.view.specs.View.{headRow}
 use Rattle.view.specs.Writing.{byteIn}
-use Rattle.view.proofs.Texts.{put-length, head-length}
+use Rattle.view.proofs.Texts.{head-length}
 use Rattle.view.proofs.write_head.Statement.{statement}
 use Rattle.view.proofs.write_head.Tie as tie
 

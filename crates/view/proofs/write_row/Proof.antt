@@ -1,10 +1,10 @@
 -- `write_row` meets its contract: the number, the statement, the marks and byte 10. Assumes nothing.
 use native.Mathlib.Omega.{arith}
 use borrow.Author.Needs.{needs}
-use Rattle.statement_writer.proofs.Puts.{put-then}
+use Rattle.statement_writer.proofs.Puts.{put-then, put-length}
 use Rattle.view.specs.View.{row}
 use Rattle.view.specs.Writing.{truthIn}
-use Rattle.view.proofs.Texts.{put-length, row-length}
+use Rattle.view.proofs.Texts.{row-length}
 use Rattle.view.proofs.write_row.Statement.{statement}
 use Rattle.view.proofs.write_row.Tie as tie
 

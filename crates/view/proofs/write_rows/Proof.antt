@@ -13,7 +13,8 @@ use Rattle.program.specs.Reading.{statementIn}
 use Rattle.program.proofs.Held.{held, length-held, at-held}
 use Rattle.view.specs.View.{upTo, row, rows}
 use Rattle.view.specs.Writing.{truthIn, Tabled, RowFits}
-use Rattle.view.proofs.Texts.{put-length, upto-none, upto-room, upto-more, upto-all}
+use Rattle.statement_writer.proofs.Puts.{put-length}
+use Rattle.view.proofs.Texts.{upto-none, upto-room, upto-more, upto-all}
 use Rattle.view.proofs.write_rows.Statement.{statement}
 use Rattle.view.proofs.write_rows.Tie as tie
 
