@@ -1,14 +1,16 @@
 -- Lines that are taken as conditions. Assumes nothing.
 use mathlib.Core.Path.{_≡_, refl, ap, ap₂}
 use mathlib.Core.List.{List, [], _∷_, _++_}
-use Prim.Native.Nat.{ℕ, suc}
-use lib.ListN.{length}
+use Prim.Native.Nat.{ℕ, zero, suc, _<_}
+use native.Mathlib.Omega.{arith}
+use lib.ListN.{length, getD}
 use Rattle.lines.specs.Lines.{AllValid}
 use Rattle.condition.specs.Condition.{Condition, ValidCondition}
 use Rattle.condition.specs.Texts as condition
 use Rattle.condition_reader.specs.Reading as condition-reading
 use Rattle.condition_reader.specs.declared.Refusal.{Refusal}
 use Rattle.condition_reader.proofs.Unique as condition-unique
+use Rattle.sharing.specs.Sharing.{part}
 use Rattle.review_reader.specs.Reading.{AllTaken}
 
 pub taken-more : (ls : List (List ℕ)) (cs : List Condition) (l : List ℕ) (c : Condition) → AllTaken ls cs → condition.Taken l c → AllTaken (ls ++ l ∷ []) (cs ++ c ∷ [])
@@ -43,3 +45,11 @@ all-refused [] l es [] a r f = a
 all-refused [] l es (c ∷ cs) a r f = condition-unique.taken-refused (a .0) r f
 all-refused (b ∷ bs) l es [] a r f = a
 all-refused (b ∷ bs) l es (c ∷ cs) a r f = all-refused bs l es cs (a .1) r f
+
+-- line j is taken as condition j
+pub taken-at : (ls : List (List ℕ)) (cs : List Condition) (j : ℕ) → j < length cs → AllTaken ls cs → condition.Taken (getD ls j []) (part cs j)
+taken-at [] [] j l a = absurd (omega arith)
+taken-at [] (c ∷ cs) j l a = absurd a
+taken-at (m ∷ ls) [] j l a = absurd a
+taken-at (m ∷ ls) (c ∷ cs) zero l a = a .0
+taken-at (m ∷ ls) (c ∷ cs) (suc j) l a = taken-at ls cs j (omega arith) (a .1)

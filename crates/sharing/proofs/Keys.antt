@@ -1,9 +1,10 @@
 -- Two parts have one key exactly where they are spelled alike, so looking a key up among those of the first occurrences finds the number.
 -- Assumes nothing.
-use mathlib.Core.Path.{_≡_, refl, sym, ap, _∙_}
-use mathlib.Core.List.{List, [], _∷_, _++_}
+use mathlib.Core.Path.{_≡_, refl, sym, ap, _∙_, subst}
+use mathlib.Core.List.{List, [], _∷_, _++_, append-assoc, append-nil}
 use mathlib.Core.Logic.{_↔_}
 use Prim.Native.Nat.{ℕ, _≤_, _<_}
+use native.Mathlib.Decide.{decLt}
 use native.Mathlib.Omega.{arith}
 use lib.ListN.{length, length-append}
 use lib.Seq.{getD-append-seam}
@@ -12,8 +13,8 @@ use Rattle.condition.specs.Condition.{Condition, atom, unary, binary, spellCond
 use Rattle.condition.specs.Words.{unaryCode, binaryCode}
 use Rattle.table.specs.Rules.{one, two}
 use Rattle.table.proofs.Rules.{operation-back}
-use Rattle.sharing.specs.Sharing.{Alike, part, numberOf, firsts, Known, OneEach}
-use Rattle.sharing.specs.Keys.{operator, keyOf, Operands, Ready, Numbered, Before, Postfix}
+use Rattle.sharing.specs.Sharing.{Alike, part, numberOf, firstsAfter, firsts, Known, OneEach}
+use Rattle.sharing.specs.Keys.{operator, keyOf, Operands, Ready, Numbered, Before, Postfix, Ordered}
 use Rattle.sharing.proofs.Spellings.{alike-equal, unary-alike, binary-alike}
 use Rattle.sharing.proofs.Firsts.{number-right, number-only, number-alike, number-stays, number-new, part-stays, firsts-known, firsts-new, firsts-begin, firsts-one-each}
 
@@ -130,3 +131,29 @@ pub keys-kept : (ps qs : List Condition) → Postfix ps → (i : ℕ) → i < le
 keys-kept ps qs w i l =
     let (es, e) = firsts-begin ps qs in
     rw (e, part-stays (firsts ps) es i l) (key-stays (firsts ps) es (part (firsts ps) i) (firsts-numbered ps w .ready i l .operands))
+
+-- the first occurrences come after their operands
+module _ (ds : List Condition) (c : Condition) (o : Ordered ds) (k : Operands (Known ds) c) where
+  ordered-one : Ordered (ds ++ c ∷ [])
+  ordered-one i l = elim (decLt i (length ds)) [
+    | yes m ↦
+        rw (part-stays ds (c ∷ []) i m)
+        (operands-map (λ p. numberOf ds p < i) (λ p. numberOf (ds ++ c ∷ []) p < i) (λ p b. let h : Known ds p = omega arith in omega (arith, number-stays ds (c ∷ []) p h)) (part ds i) (o i m))
+    | no m ↦
+        let e : i ≡ length ds = omega (arith, length-append ds (c ∷ [])) in
+        rw (e, getD-append-seam ds c [] (atom True))
+        (operands-map (Known ds) (λ p. numberOf (ds ++ c ∷ []) p < length ds) (λ p b. omega (arith, number-stays ds (c ∷ []) p b)) c k)
+  ]
+
+ordered-more : (ps qs : List Condition) → Postfix (ps ++ qs) → Ordered (firsts ps) → Ordered (firsts (ps ++ qs))
+ordered-more ps [] w o = rw (append-nil ps) o
+ordered-more ps (c ∷ qs) w o =
+    subst (λ (rs : List Condition). Ordered (firsts rs)) (append-assoc ps (c ∷ []) qs)
+    (ordered-more (ps ++ c ∷ []) qs (rw (append-assoc ps (c ∷ []) qs) w) (elim (decLt (numberOf (firsts ps) c) (length (firsts ps))) [
+      | yes l ↦ rw (firsts-known ps c l) o
+      | no l ↦ rw (firsts-new ps c (omega arith)) (ordered-one (firsts ps) c o (part-ready ps c qs w .operands))
+    ]))
+
+pub firsts-ordered : (ps : List Condition) → Postfix ps → Ordered (firsts ps)
+unfolding firstsAfter
+firsts-ordered ps w = ordered-more [] ps w (λ k l. absurd (omega arith))

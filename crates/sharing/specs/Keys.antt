@@ -42,3 +42,7 @@ Before ps k p = (j : ℕ) × (j < k) × (part ps j ≡ p)
 pub record Postfix (ps : List Condition) : Type 0 where
   pub valid : (k : ℕ) → k < length ps → ValidCondition (part ps k)
   pub earlier : (k : ℕ) → k < length ps → Operands (Before ps k) (part ps k)
+
+-- each of the list comes after its operands
+abbrev pub Ordered : List Condition → Type 0
+Ordered ds = (k : ℕ) → k < length ds → Operands (λ p. numberOf ds p < k) (part ds k)
