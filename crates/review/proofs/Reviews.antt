@@ -13,6 +13,7 @@ use Rattle.truth.specs.Truth.{Sat}
 use Rattle.table.specs.Table.{part-words, row}
 use Rattle.sharing.specs.Sharing.{most-lines, part, numberOf, firsts, partsOf}
 use Rattle.sharing.proofs.Lines.{line-known, line-own}
+use Rattle.review_reader.specs.Reading as reading
 use Rattle.review_reader.specs.Walking.{Held}
 use Rattle.review_reader.proofs.Taken.{taken-valid, taken-length}
 use Rattle.review_tables.specs.Filling.{TablesOf, Rowed, CountedLines}
@@ -23,6 +24,12 @@ pub all-zeros : {a b c d : List ℕ} → Zeros most-lines a → Zeros most-lines
     → Rest (record { tables = a; parts = b; satisfied = c; first = d }) most-lines 0
 all-zeros a b c d = record { sizes = (a .size, b .size, c .size, d .size); zeros = λ j _. (a .zero j, b .zero j, c .zero j, d .zero j) }
 
+taken-few : {u : List ℕ} {cs : List Condition} → reading.Taken u cs → length cs ≤ most-lines
+taken-few {cs = cs} t = omega (arith, taken-length (t .spelled .ls) cs (t .spelled .taken), t .spelled .countable)
+
+pub filled-few : {t u old new : List ℕ} {tables lines : ℕ} {told : Told} → ReviewFilled t u old new tables lines told → lines ≤ most-lines
+filled-few f = omega (arith, f .counted, taken-few (f .conditions))
+
 module _ {u : List ℕ} {cs : List Condition} {tables lines : ℕ} {entries numbers counts : List ℕ} (h : Held u cs tables lines entries numbers counts) where
   -- a line's table is among those that are filled
   pub line-inside : (j : ℕ) → j < lines → getD numbers j 0 < tables
@@ -31,7 +38,7 @@ module _ {u : List ℕ} {cs : List Condition} {tables lines : ℕ} {entries numb
       omega (arith, h .tables-of j i, line-known cs j i, h .shares .counted)
 
   pub few-lines : lines ≤ most-lines
-  few-lines = omega (arith, h .counted, taken-length (h .taken .spelled .ls) cs (h .taken .spelled .taken), h .taken .spelled .countable)
+  few-lines = omega (arith, h .counted, taken-few (h .taken))
 
   pub few-tables : part-words * tables ≤ review-words
   few-tables = omega (arith, h .shares .counted, h .taken .few)
