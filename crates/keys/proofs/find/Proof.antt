@@ -32,7 +32,9 @@ same-key-requires : tie.Need-same-key-requires Inv-loop μ-loop
 same-key-requires c κs = let l = c .before .before .loop .inv .within in (c .before .before .before .before .before .before .before .before .before .pre .1 .formed _ (omega arith), c .before .before .before .before .before .before .before .before .before .pre .0)
 
 returns : tie.Need-returns Inv-loop μ-loop
-returns c = search-found (c .before .before .before .before .before .before .before .before .before .before .before .pre .1) _ (c .before .before .before .before .loop .inv) (c .before .before .before .loop-test .taken) (decided-true (c .before .same-key .result) (c .if1 .taken) (c .before .same-key .ensures))
+returns c =
+    let h = c .before .before .before .before in
+    search-found (c .before .before .before .before .before .before .before .before .before .before .before .pre .1) _ (h .loop .inv) (c .before .before .before .loop-test .taken) (decided-true (c .before .same-key .result) (c .if1 .taken) (c .before .same-key .ensures))
 
 shared-slice-read-p-2 : tie.Need-shared-slice-read-p-2 Inv-loop μ-loop
 shared-slice-read-p-2 c = omega (arith, c .before .before .before .before .before .loop .inv .within, c .before .before .before .before .before .before .before .before .before .before .before .before .pre .1 .many-links, c .before .before .before .before .before .before .before .before .before .before .before .before .pre .1 .few)
@@ -41,10 +43,15 @@ cast-p-2 : tie.Need-cast-p-2 Inv-loop μ-loop
 cast-p-2 c = omega (arith, c .shared-slice-known7 .given (c .before .before .before .before .before .loop .p - 1) .fits)
 
 loop-less : tie.Need-loop-less Inv-loop μ-loop
-loop-less c = search-less (c .before .before .before .before .before .before .before .before .before .before .before .before .pre .1) _ (c .before .before .before .before .before .loop .inv) (c .before .before .before .before .loop-test .taken)
+loop-less c =
+    let h = c .before .before .before .before .before in
+    search-less (h .before .before .before .before .before .before .before .pre .1) _ (h .loop .inv) (c .before .before .before .before .loop-test .taken)
 
 loop-again : tie.Need-loop-again Inv-loop μ-loop
-loop-again c = search-next (c .before .before .before .before .before .before .before .before .before .before .before .before .pre .1) _ (c .before .before .before .before .before .loop .inv) (c .before .before .before .before .loop-test .taken) (decided-false (c .before .before .same-key .result) (c .before .if1 .left) (c .before .before .same-key .ensures))
+loop-again c =
+    let h = c .before .before .before .before .before in
+    let other = decided-false (c .before .before .same-key .result) (c .before .if1 .left) (c .before .before .same-key .ensures) in
+    search-next (h .before .before .before .before .before .before .before .pre .1) _ (h .loop .inv) (c .before .before .before .before .loop-test .taken) other
 
 returns-2 : tie.Need-returns-2 Inv-loop μ-loop
 returns-2 c = search-none (c .before .before .before .before .before .before .before .before .pre .1) _ (c .before .loop .inv) (c .loop-test .left)
