@@ -10,8 +10,8 @@ use Rattle.condition.specs.Condition.{Condition, atom, unary, binary, spellCond
 use Rattle.condition.specs.Words.{word, codeIn, leftIn, startIn, endIn, unaryCode, binaryCode}
 use Rattle.condition.proofs.Words.{operatorCode, unary-code, binary-code, Stands, stands-order, stands-within, Operands, Describes, held-describes}
 use Rattle.table.specs.Fill.{leftOf}
-use Rattle.sharing.specs.Sharing.{most-tables, part, numberOf, Known}
-use Rattle.sharing.specs.Keys.{Key, text, operator, keyOf}
+use Rattle.sharing.specs.Sharing.{most-tables, part, numberOf}
+use Rattle.sharing.specs.Keys.{Known, text, operator, keyOf}
 use Rattle.keys.specs.Store.{span, keyIn, Formed}
 use Rattle.keys.proofs.Told.{key-text, key-operator}
 use Rattle.numbering.specs.Numbering.{entryOf, Usable, Line}

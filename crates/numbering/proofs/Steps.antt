@@ -11,8 +11,8 @@ use Rattle.condition.specs.Condition.{Condition, atom, parts}
 use Rattle.condition.specs.declared.Atom.the-variants.{True}
 use Rattle.condition.specs.Texts.{most-parts}
 use Rattle.condition.proofs.Parts.{parts-few, parts-last}
-use Rattle.sharing.specs.Sharing.{most-tables, part, numberOf, firsts, Known}
-use Rattle.sharing.specs.Keys.{keyOf, Postfix}
+use Rattle.sharing.specs.Sharing.{most-tables, part, numberOf, firsts}
+use Rattle.sharing.specs.Keys.{Known, keyOf, Postfix}
 use Rattle.sharing.proofs.Firsts.{part-stays, firsts-one-each, firsts-begin, number-kept}
 use Rattle.sharing.proofs.Keys.{key-stays, postfix-front, part-ready, step-found, step-new, keys-kept}
 use Rattle.keys.specs.Store.{keyIn, Formed, Store, Looked}

@@ -24,8 +24,8 @@ use Rattle.table.specs.Rules.{Operation, one, two, codeOf, ruleOf, SatRule, flo
 use Rattle.table.proofs.Rules.{unary-rule, binary-rule}
 use Rattle.table.proofs.Operands.{iff-of}
 use Rattle.table.proofs.Parts.{rule-written}
-use Rattle.sharing.specs.Sharing.{part, numberOf, Known}
-use Rattle.sharing.specs.Keys.{text, operator, keyOf, Operands, Numbered}
+use Rattle.sharing.specs.Sharing.{part, numberOf}
+use Rattle.sharing.specs.Keys.{Known, text, operator, keyOf, Operands, Numbered}
 use Rattle.sharing.proofs.Spellings.{alike-equal}
 use Rattle.sharing.proofs.Firsts.{number-right}
 use Rattle.keys.specs.Store.{span, keyIn}

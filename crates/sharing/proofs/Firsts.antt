@@ -13,10 +13,17 @@ use borrow.Author.Tests.{lt-ltb, le-ltb}
 use Rattle.base.proofs.Bools.{clash}
 use Rattle.condition.specs.Condition.{Condition, atom, spellCondition}
 use Rattle.condition.specs.declared.Atom.the-variants.{True}
-use Rattle.sharing.specs.Sharing.{Alike, spelledAlike, part, numberOf, withOne, firstsAfter, firsts, IsNumber, Known, OneEach}
+use Rattle.sharing.specs.Sharing.{Alike, spelledAlike, part, numberOf, withOne, firstsAfter, firsts}
+use Rattle.sharing.specs.Keys.{Known, Distinct}
 use Rattle.sharing.proofs.Spellings.{same-equal, equal-same}
 
 -- ---- numbers
+
+-- n is the number of c
+pub record IsNumber (ds : List Condition) (c : Condition) (n : ℕ) : Type 0 where
+  pub within : n ≤ length ds
+  pub before : (j : ℕ) → j < n → Alike (part ds j) c → ⊥
+  pub found : n < length ds → Alike (part ds n) c
 
 pub number-right : (ds : List Condition) (c : Condition) → IsNumber ds c (numberOf ds c)
 unfolding numberOf
@@ -102,13 +109,13 @@ module _ (ps : List Condition) (c : Condition) where
   unfolding firstsAfter
   firsts-new l = firsts-more [] ps (c ∷ []) ∙ with-new (firsts ps) c l
 
-  pub count-known : Known (firsts ps) c → length (firsts (ps ++ c ∷ [])) ≡ length (firsts ps)
-  count-known l = ap length (firsts-known l)
-
-  pub count-new : length (firsts ps) ≤ numberOf (firsts ps) c → length (firsts (ps ++ c ∷ [])) ≡ length (firsts ps) + 1
-  count-new l = ap length (firsts-new l) ∙ length-append (firsts ps) (c ∷ [])
-
 -- ---- the first occurrences
+
+-- ds has one of each spelling of ps
+pub record OneEach (ps ds : List Condition) : Type 0 where
+  pub distinct : Distinct ds
+  pub known : (k : ℕ) → k < length ps → Known ds (part ps k)
+  pub from : (i : ℕ) → i < length ds → (k : ℕ) × (k < length ps) × (part ps k ≡ part ds i)
 
 after-begin : (ds ps : List Condition) → (es : List Condition) × (firstsAfter ds ps ≡ ds ++ es)
 unfolding firstsAfter

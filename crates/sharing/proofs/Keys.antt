@@ -13,10 +13,10 @@ use Rattle.condition.specs.Condition.{Condition, atom, unary, binary, spellCond
 use Rattle.condition.specs.Words.{unaryCode, binaryCode}
 use Rattle.table.specs.Rules.{one, two}
 use Rattle.table.proofs.Rules.{operation-back}
-use Rattle.sharing.specs.Sharing.{Alike, part, numberOf, firstsAfter, firsts, Known, OneEach}
-use Rattle.sharing.specs.Keys.{operator, keyOf, Operands, Ready, Numbered, Before, Postfix, Ordered}
+use Rattle.sharing.specs.Sharing.{Alike, part, numberOf, firstsAfter, firsts}
+use Rattle.sharing.specs.Keys.{Known, operator, keyOf, Operands, Ready, Numbered, Before, Postfix, Ordered}
 use Rattle.sharing.proofs.Spellings.{alike-equal, unary-alike, binary-alike}
-use Rattle.sharing.proofs.Firsts.{number-right, number-only, number-alike, number-stays, number-new, part-stays, firsts-known, firsts-new, firsts-begin, firsts-one-each}
+use Rattle.sharing.proofs.Firsts.{OneEach, number-right, number-only, number-alike, number-stays, number-new, part-stays, firsts-known, firsts-new, firsts-begin, firsts-one-each}
 
 -- ---- keys
 

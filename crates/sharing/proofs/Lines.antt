@@ -11,8 +11,8 @@ use Rattle.condition.specs.declared.Atom.the-variants.{True}
 use Rattle.condition.specs.Condition.{Condition, atom, unary, binary, ValidCondition, parts}
 use Rattle.condition.proofs.Parts.{parts-few, parts-last}
 use Rattle.lines.specs.Lines.{AllValid}
-use Rattle.sharing.specs.Sharing.{part, numberOf, firsts, partsOf, Known}
-use Rattle.sharing.specs.Keys.{Operands, Before, Postfix}
+use Rattle.sharing.specs.Sharing.{part, numberOf, firsts, partsOf}
+use Rattle.sharing.specs.Keys.{Known, Operands, Before, Postfix}
 use Rattle.sharing.proofs.Spellings.{alike-equal}
 use Rattle.sharing.proofs.Firsts.{part-stays, number-right, firsts-one-each}
 use Rattle.sharing.proofs.Keys.{operands-map, firsts-numbered}

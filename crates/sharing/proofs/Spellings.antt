@@ -8,8 +8,7 @@ use native.Mathlib.Omega.{arith}
 use lib.Dec.{eqb}
 use borrow.Author.Tests.{eqb-true, eq-eqb}
 use Rattle.base.proofs.Bools.{and-left, and-right, and-both}
-use Rattle.condition.specs.Condition.{Unary, Binary, Condition, atom, unary, binary, spellCondition, ValidAtom, ValidCondition}
-use Rattle.condition.specs.declared.Atom.{Atom}
+use Rattle.condition.specs.Condition.{Unary, Binary, Condition, unary, binary, spellCondition, ValidCondition}
 use Rattle.condition_reader.proofs.Spelling.{condition-unique}
 use Rattle.sharing.specs.Sharing.{Alike, sameText}
 
@@ -51,13 +50,3 @@ module _ (o o′ : Binary) (p p′ q q′ : Condition) (v : ValidCondition p × 
         (cc, ap spellCondition i, ap spellCondition j),
     λ (f, g, h). rw (f, g, h),
   )
-
--- an atom is spelled as no operator is, and an operator of one operand as none of two
-pub atom-unary : (a : Atom) (o : Unary) (p : Condition) → ValidAtom a → ValidCondition p → Alike (atom a) (unary o p) → ⊥
-atom-unary a o p v w e = let h = alike-equal (atom a) (unary o p) v w e in let z : _≡_ {A = ℕ} 0 1 = cc in omega arith
-
-pub atom-binary : (a : Atom) (o : Binary) (p q : Condition) → ValidAtom a → ValidCondition p × ValidCondition q → Alike (atom a) (binary o p q) → ⊥
-atom-binary a o p q v w e = let h = alike-equal (atom a) (binary o p q) v w e in let z : _≡_ {A = ℕ} 0 1 = cc in omega arith
-
-pub unary-binary : (o : Unary) (r : Condition) (b : Binary) (p q : Condition) → ValidCondition r → ValidCondition p × ValidCondition q → Alike (unary o r) (binary b p q) → ⊥
-unary-binary o r b p q v w e = let h = alike-equal (unary o r) (binary b p q) v w e in let z : _≡_ {A = ℕ} 0 1 = cc in omega arith

@@ -5,7 +5,15 @@ use Prim.Native.Nat.{ℕ, _<_}
 use lib.ListN.{length}
 use Rattle.condition.specs.Condition.{Condition, atom, unary, binary, spellAtom, ValidCondition}
 use Rattle.condition.specs.Words.{unaryCode, binaryCode}
-use Rattle.sharing.specs.Sharing.{part, numberOf, Known, Distinct}
+use Rattle.sharing.specs.Sharing.{Alike, part, numberOf}
+
+-- some condition of the list is spelled as c is
+abbrev pub Known : List Condition → Condition → Type 0
+Known ds c = numberOf ds c < length ds
+
+-- no two of the list are spelled alike
+abbrev pub Distinct : List Condition → Type 0
+Distinct ds = (i j : ℕ) → i < length ds → j < length ds → Alike (part ds i) (part ds j) → i ≡ j
 
 -- an atom's text; or an operator's code and its operands' numbers, the one of a unary operator twice
 pub data Key : Type 0 where

@@ -2,7 +2,7 @@
 use mathlib.Core.Path.{_≡_}
 use mathlib.Core.Bool.{Bool, true, false, cond, _&&_}
 use mathlib.Core.List.{List, [], _∷_, _++_}
-use Prim.Native.Nat.{ℕ, suc, _≤_, _<_}
+use Prim.Native.Nat.{ℕ, suc}
 use lib.Dec.{eqb, ltb}
 use lib.ListN.{length, getD}
 use Rattle.condition.specs.Condition.{Condition, atom, spellCondition, parts}
@@ -54,23 +54,3 @@ firsts ps = firstsAfter [] ps
 unfoldable pub partsOf : List Condition → List Condition
 partsOf [] = []
 partsOf (c ∷ cs) = parts c ++ partsOf cs
-
--- n is the number of c
-pub record IsNumber (ds : List Condition) (c : Condition) (n : ℕ) : Type 0 where
-  pub within : n ≤ length ds
-  pub before : (j : ℕ) → j < n → Alike (part ds j) c → ⊥
-  pub found : n < length ds → Alike (part ds n) c
-
--- some condition of the list is spelled as c is
-abbrev pub Known : List Condition → Condition → Type 0
-Known ds c = numberOf ds c < length ds
-
--- no two of the list are spelled alike
-abbrev pub Distinct : List Condition → Type 0
-Distinct ds = (i j : ℕ) → i < length ds → j < length ds → Alike (part ds i) (part ds j) → i ≡ j
-
--- ds has one of each spelling of ps
-pub record OneEach (ps ds : List Condition) : Type 0 where
-  pub distinct : Distinct ds
-  pub known : (k : ℕ) → k < length ps → Known ds (part ps k)
-  pub from : (i : ℕ) → i < length ds → (k : ℕ) × (k < length ps) × (part ps k ≡ part ds i)
