@@ -1,6 +1,6 @@
-/* A libFuzzer target over the calls. An input is a program, a condition, a list of marks and some
-   bytes that choose the rest, with '%', which no text holds, between them. What is checked holds
-   for every input:
+/* A libFuzzer target over the calls. An input is a program, a condition or the conditions of a
+   review, a list of marks and some bytes that choose the rest, with '%', which no text holds, between
+   them. What is checked holds for every input:
    - a refused call changes nothing, and a finished one only what its result sets;
    - no byte beyond a lent text or buffer is touched: each ends at a page that can't be;
    - a program is misspelled exactly where a line of it is, and is written as it was read;
@@ -10,6 +10,8 @@
      step before;
    - `use` holds at the last statement of what is written and of what the unit keeps, i24 to i31;
    - `!` in front of a condition complements its row and keeps the others;
+   - a review is refused for its first line that is refused alone, its tables are those of its lines'
+     parts alone, and there is one for each part that is spelled differently, in the order of endings;
    - a mark's verdict is that of its published condition's table, and at `write` only what is written
      is replaced;
    - the rewritten program is taken, and both programs' runs agree, in all nine values where they end.
@@ -32,6 +34,11 @@
 
 #define PAGE 4096
 #define TABLE_WORDS 256
+#define REVIEW_WORDS 512
+#define REVIEW_LINES 32
+#define MOST_TABLES 128
+#define MOST_PARTS 64
+#define LONGEST 1024
 #define VERDICT_BYTES 256
 #define TEXT_BYTES 8704
 #define VARIABLES 32
@@ -346,6 +353,153 @@ static uint8_t check_condition(struct text program, struct text condition, uint8
     return 0;
 }
 
+/* Reviews */
+
+struct review {
+    uint32_t tables, lines, of_lines[4][REVIEW_LINES];
+    uint64_t words[REVIEW_WORDS];
+};
+
+enum { TABLE_OF, PARTS, SATISFIED, FIRST };
+
+static uint8_t review(struct text program, struct text lines, size_t room, struct review *answer) {
+    /* Two words and four arrays, each between words that are kept. */
+    uint32_t counts[5], places[1 + 4 * (REVIEW_LINES + 1)];
+    uint64_t *words = (uint64_t *)(void *)lend(&tables, room * sizeof *words);
+    uint32_t *of[4];
+    uint8_t number;
+
+    unset(counts, 5);
+    unset(places, sizeof places / sizeof *places);
+    for (size_t k = 0; k < 4; k++) of[k] = places + 1 + k * (REVIEW_LINES + 1);
+    number = rewrites_review(program.bytes, program.length, lines.bytes, lines.length, words, room,
+                             &counts[1], &counts[3], of[TABLE_OF], of[PARTS], of[SATISFIED],
+                             of[FIRST]);
+    for (size_t k = 0; k < 5; k++) REQUIRE((number == 0 && k % 2 == 1) || counts[k] == UNSET);
+    if (number == 0) {
+        REQUIRE(counts[1] >= 1 && counts[1] <= MOST_TABLES);
+        REQUIRE(counts[3] >= 1 && counts[3] <= REVIEW_LINES);
+        set(&tables, (uint8_t *)words, 4 * counts[1] * sizeof *words);
+        answer->tables = counts[1];
+        answer->lines = counts[3];
+        memcpy(answer->words, words, 4 * counts[1] * sizeof *words);
+        for (size_t k = 0; k < 4; k++) memcpy(answer->of_lines[k], of[k], sizeof answer->of_lines[k]);
+    }
+    for (size_t k = 0; k < sizeof places / sizeof *places; k++)
+        REQUIRE((number == 0 && k > 0 && (k - 1) % (REVIEW_LINES + 1) < counts[3]) ||
+                places[k] == UNSET);
+    require_kept(&tables);
+    return number;
+}
+
+/* The parts of a line that is taken, in the order in which their text ends. */
+static struct text parts[MOST_PARTS];
+static size_t part_count;
+
+/* Adds the parts of the condition at a place of a line that is taken, and tells where it ends. */
+static const uint8_t *add_parts(const uint8_t *start, const uint8_t *bound) {
+    const uint8_t *at = start;
+
+    if (*at == '!') {
+        at = add_parts(at + 1, bound);
+    } else if (*at == '(' || ((*at == 'E' || *at == 'A') && at[1] == '[')) {
+        at = add_parts(at + (*at == '(' ? 1 : 2), bound);
+        at = add_parts(at + 3, bound) + 1;
+    } else if (*at == 'E' || *at == 'A') {
+        at = add_parts(at + 3, bound);
+    } else {
+        while (at < bound && *at >= 'a' && *at <= 'z') at++;
+        if (at < bound && *at == '(') {
+            while (*at != ')') at++;
+            at++;
+        }
+    }
+    REQUIRE(at <= bound && part_count < MOST_PARTS);
+    parts[part_count++] = (struct text){start, (size_t)(at - start)};
+    return at;
+}
+
+static int alike(struct text one, struct text other) {
+    return one.length == other.length && memcmp(one.bytes, other.bytes, one.length) == 0;
+}
+
+/* What is expected of a review, from its lines alone. */
+struct expected {
+    /* 0, or the first refusal of a line, 6 to 8. */
+    uint8_t number;
+    /* The first of the parts that are spelled alike, and each one's row. */
+    struct text firsts[REVIEW_LINES * MOST_PARTS];
+    uint64_t rows[REVIEW_LINES * MOST_PARTS][4];
+    size_t tables;
+    uint32_t of_lines[4][REVIEW_LINES];
+};
+
+/* Takes over what a line answers alone. */
+static void expect_line(struct expected *all, size_t j, struct text line, const struct table *alone) {
+    size_t k, at = 0;
+
+    part_count = 0;
+    REQUIRE(add_parts(line.bytes, line.bytes + line.length) == line.bytes + line.length);
+    REQUIRE(part_count == alone->parts);
+    for (k = 0; k < part_count; k++) {
+        for (at = 0; at < all->tables && !alike(all->firsts[at], parts[k]); at++) continue;
+        if (at == all->tables) {
+            all->firsts[at] = parts[k];
+            memcpy(all->rows[at], alone->words + 4 * k, sizeof all->rows[at]);
+            all->tables++;
+        }
+        REQUIRE(memcmp(all->rows[at], alone->words + 4 * k, sizeof all->rows[at]) == 0);
+    }
+    all->of_lines[TABLE_OF][j] = (uint32_t)at;
+    all->of_lines[PARTS][j] = alone->parts;
+    all->of_lines[SATISFIED][j] = alone->satisfied;
+    all->of_lines[FIRST][j] = alone->first;
+}
+
+static void expect(struct expected *all, struct text program, struct text lines) {
+    static struct table alone;
+    size_t start = 0;
+
+    all->number = 0;
+    all->tables = 0;
+    for (size_t j = 0; start < lines.length && all->number == 0; j++) {
+        struct text line = {lines.bytes + start, 0};
+
+        while (start + line.length < lines.length && line.bytes[line.length] != 10) line.length++;
+        if (start + line.length == lines.length) {
+            all->number = line.length > LONGEST ? 6 : 7;
+        } else {
+            all->number = tabulate(program, put(&others, line.bytes, line.length), TABLE_WORDS, &alone);
+            if (all->number == 0) expect_line(all, j, line, &alone);
+        }
+        start += line.length + 1;
+    }
+}
+
+static void check_review(struct text program, struct text lines, uint8_t refused) {
+    static struct review answer;
+    static struct expected all;
+    uint8_t number = review(program, lines, REVIEW_WORDS, &answer);
+    size_t count = lines_of(lines) + (lines.length > 0 && lines.bytes[lines.length - 1] != 10);
+
+    REQUIRE(review(program, lines, REVIEW_WORDS - 1, &answer) == 1);
+    met(OF_CALLS, 48 + number);
+    if (refused != 0 || count < 1 || count > REVIEW_LINES) {
+        REQUIRE(number == (refused != 0 ? refused : 16));
+        return;
+    }
+    expect(&all, program, lines);
+    if (all.number == 0 && all.tables > MOST_TABLES) all.number = 17;
+    REQUIRE(number == all.number);
+    if (number != 0) return;
+    REQUIRE(answer.tables == all.tables && answer.lines == count);
+    REQUIRE(memcmp(answer.words, all.rows, all.tables * sizeof *all.rows) == 0);
+    for (size_t k = 0; k < 4; k++)
+        REQUIRE(memcmp(answer.of_lines[k], all.of_lines[k], count * sizeof **all.of_lines) == 0);
+    met(OF_CALLS, 1100 + answer.tables);
+    met(OF_CALLS, 1300 + answer.lines);
+}
+
 /* Whether a program that is taken ends with `write` of this variable. */
 static int is_written(struct text program, unsigned variable) {
     char line[32];
@@ -560,7 +714,12 @@ int LLVMFuzzerTestOneInput(const uint8_t *data, size_t size) {
     }
     condition = put(&conditions, condition.bytes, condition.length);
     check_condition(program, condition, refused);
-    if (refused != 0) check_condition(put(&programs, P, strlen(P)), condition, 0);
+    check_review(program, condition, refused);
+    if (refused != 0) {
+        struct text plain = put(&programs, P, strlen(P));
+        check_condition(plain, condition, 0);
+        check_review(plain, condition, 0);
+    }
     require_kept(&conditions);
     marks = put(&conditions, marks.bytes, marks.length);
     if (refused != 0) {

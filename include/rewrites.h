@@ -67,6 +67,35 @@ uint8_t rewrites_tabulate(const uint8_t *program, size_t program_len, const uint
                           size_t condition_len, uint64_t *table, size_t table_len, uint32_t *parts,
                           uint32_t *satisfied, uint32_t *first);
 
+/* Tabulates the conditions of a review together: 1 to 32 lines, each a condition ended by byte 10.
+   Parts spelled alike, byte for byte, in one line or in several, get one table; the tables are
+   filled in the order in which their parts first end. Each line reads as it does with
+   rewrites_tabulate by itself. Takes at most 256 KiB of stack, most where brackets stand within one
+   another.
+
+   Returns 0, and sets
+   table      words 4k to 4k+3 for table k, counted from 0, as rewrites_tabulate does for part k. All
+              further words are kept.
+   *tables    the number of tables, 1 to 128, which is that of differing parts.
+   *lines     the number of lines.
+   table_of, parts, satisfied, first
+              entry j for line j, counted from 0: the table of its whole condition, its number of
+              parts, counted at each occurrence, how many statements satisfy it, and the first of
+              them, 0 if none. All further entries are kept.
+
+   Returns the number of a refusal, and keeps all:
+    1: the table has under 512 words.
+    2 to 5: the program, as with rewrites_run.
+   16: no line or over 32 lines, an unfinished last one counted.
+    6: a line is longer than 1,024 bytes, its byte 10 not counted.
+    7: it is misspelled, or is the last and lacks its byte 10.
+    8: it has over 64 parts. Of 6 to 8 it is that of the first faulty line.
+   17: over 128 differing parts. */
+uint8_t rewrites_review(const uint8_t *program, size_t program_len, const uint8_t *conditions,
+                        size_t conditions_len, uint64_t *table, size_t table_len, uint32_t *tables,
+                        uint32_t *lines, uint32_t table_of[32], uint32_t parts[32],
+                        uint32_t satisfied[32], uint32_t first[32]);
+
 /* Judges each mark of a list on the program, and writes the program with the accepted marks made. A
    list has zero to 256 lines, each ended by byte 10: `n: mark(rm, X, E)` or `n: mark(rpl, X, A)`.
    rm  fits where statement n is `X := E`.

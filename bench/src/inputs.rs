@@ -135,3 +135,82 @@ pub fn different_marks_for(program: &[u8]) -> Vec<u8> {
     let list: Vec<Mark> = program.statements().iter().enumerate().filter_map(mark).collect();
     marks::text(&list)
 }
+
+// Reviews
+
+/// For each of eight variables: its value is used later on, after the statement, not after it, and is
+/// stored for nothing. Each line holds the one before.
+pub fn liveness_review() -> Vec<u8> {
+    let lines: Vec<String> = (0..8)
+        .flat_map(|x| {
+            let live = format!("E[!def(i{x}) U use(i{x})]");
+            let dead = format!("!EX {live}");
+            [live.clone(), format!("EX {live}"), dead.clone(), format!("(def(i{x}) & {dead})")]
+        })
+        .collect();
+    text(&lines)
+}
+
+/// The published conditions of marks: a copy or a constant for each of six variables, and its
+/// assignment dropped.
+pub fn marks_review() -> Vec<u8> {
+    let lines: Vec<String> = (0..6)
+        .flat_map(|x| {
+            let copy =
+                |a: &str| format!("AY A[((!def(i{x}) & trans({a})) & !entry) B stmt(i{x} := {a})]");
+            [copy("i12"), copy("7"), format!("!EX E[!def(i{x}) U use(i{x})]")]
+        })
+        .collect();
+    text(&lines)
+}
+
+/// Five lines that share parts.
+pub fn short_review() -> Vec<u8> {
+    let live = "E[!def(i2) U use(i2)]";
+    text(&[live, "EX exit", &format!("(EX exit & {live})"), "use(i2)", "EX exit"])
+}
+
+/// A line of so many parts, operators in turn before an atom.
+fn operators_line(operators: &[&str], parts: usize, atom: &str) -> String {
+    let words = operators.iter().cycle().take(parts - 1);
+    words.map(|operator| format!("{operator} ")).collect::<String>() + atom
+}
+
+/// 32 lines of 60 parts that share all.
+pub fn same_review() -> Vec<u8> {
+    text(&vec![operators_line(&OPERATORS, 60, "node(9)"); 32])
+}
+
+/// Chains of 28 to 59 `!`, each one longer than the line before: no two lines are alike, and 61 parts
+/// differ.
+pub fn growing_review() -> Vec<u8> {
+    let line = |k: usize| "!".repeat(k) + &"!".repeat(28) + "EX use(i1)";
+    text(&(0..32).map(line).collect::<Vec<String>>())
+}
+
+/// 128 parts that differ, four a line.
+pub fn differing_review() -> Vec<u8> {
+    let operators =
+        |k: usize| [OPERATORS[k % 12], OPERATORS[(k + 5) % 12], OPERATORS[(k + 7) % 12]];
+    let line = |k: usize| operators_line(&operators(k), 4, &format!("node({k})"));
+    text(&(0..32).map(line).collect::<Vec<String>>())
+}
+
+/// Two chains of 63 `!`, each 16 times: 128 parts that differ, among 2,048.
+pub fn chains_review() -> Vec<u8> {
+    let line = |k: usize| format!("{}node({})", "!".repeat(63), k % 2);
+    text(&(0..32).map(line).collect::<Vec<String>>())
+}
+
+/// 32 chains of 59 `!` whose parts all differ: refused when all are read.
+pub fn refused_review() -> Vec<u8> {
+    let line = |k: usize| format!("{}node({})", "!".repeat(59), k);
+    text(&(0..32).map(line).collect::<Vec<String>>())
+}
+
+/// Long atoms of which each two differ in a digit at the end.
+pub fn atoms_review() -> Vec<u8> {
+    let atom = |k: usize| format!("stmt(i31 := -2147483640 + -21474836{:02})", k);
+    let line = |k: usize| format!("({} & {})", atom(2 * k % 48), atom((2 * k + 1) % 48));
+    text(&(0..32).map(line).collect::<Vec<String>>())
+}

@@ -7,7 +7,8 @@ mod time;
 use inputs::{atoms_condition, binary_condition, text, unary_condition, OPERATORS};
 use inputs::{different_marks_for, marks_for};
 use oracle::tuned;
-use rewrites::{judge, run, tabulate, MOST_STEPS, TABLE_WORDS, TEXT_BYTES, VERDICT_BYTES};
+use rewrites::{judge, review, run, tabulate, MOST_STEPS};
+use rewrites::{REVIEW_WORDS, TABLE_WORDS, TEXT_BYTES, VERDICT_BYTES};
 use std::fs;
 use time::medians;
 
@@ -244,6 +245,86 @@ fn print_table_growth(worst: &mut Worst) {
     }
 }
 
+// Reviews
+
+/// A review of one kind.
+struct Review {
+    name: &'static str,
+    is_ordinary: bool,
+    lines: fn() -> Vec<u8>,
+}
+
+const REVIEWS: [Review; 9] = [
+    Review { name: "5 lines", is_ordinary: true, lines: inputs::short_review },
+    Review { name: "liveness", is_ordinary: true, lines: inputs::liveness_review },
+    Review { name: "conditions of marks", is_ordinary: true, lines: inputs::marks_review },
+    Review { name: "60 parts, all shared", is_ordinary: false, lines: inputs::same_review },
+    Review { name: "`!` one more a line", is_ordinary: false, lines: inputs::growing_review },
+    Review { name: "128 differing parts", is_ordinary: false, lines: inputs::differing_review },
+    Review { name: "2 chains of 63 `!`", is_ordinary: false, lines: inputs::chains_review },
+    Review { name: "32 chains, refused 17", is_ordinary: false, lines: inputs::refused_review },
+    Review { name: "long atoms", is_ordinary: false, lines: inputs::atoms_review },
+];
+
+/// The times of a review, ours and tuned, and of as many calls of `tabulate` as it has lines.
+fn time_review(program: &[u8], conditions: &[u8]) -> [f64; 3] {
+    let (mut table, mut table_2) = ([0; REVIEW_WORDS], [0; REVIEW_WORDS]);
+    let mut alone = [0; TABLE_WORDS];
+    let lines: Vec<&[u8]> =
+        conditions.split(|&byte| byte == 10).filter(|line| !line.is_empty()).collect();
+    let times = medians(
+        TIMES,
+        [
+            &mut || review(program, conditions, &mut table).is_ok(),
+            &mut || tuned::review(program, conditions, &mut table_2).is_ok(),
+            &mut || lines.iter().all(|line| tabulate(program, line, &mut alone).is_ok()),
+        ],
+    );
+    assert!(table == table_2);
+    times
+}
+
+fn print_reviews(worst: &mut Worst) {
+    println!(
+        "\nReviews, in microseconds; beside the tuned call, and beside a call of tabulate for each line. No table is\n\
+         filled where a review is refused"
+    );
+    println!(
+        "{:<60} {:>6} {:>6} {:>9} {:>9} {:>7} {:>9} {:>7}",
+        "", "lines", "tables", "ours", "tuned", "ratio", "alone", "ratio"
+    );
+    let mut largest = (0.0, String::new());
+    for flow in &FLOWS {
+        for asked in &REVIEWS {
+            for size in [16, 64, 256] {
+                let (program, conditions) = ((flow.program)(size), (asked.lines)());
+                let [ours, tuned, alone] = time_review(&program, &conditions);
+                let answer = review(&program, &conditions, &mut [0; REVIEW_WORDS]);
+                let lines = conditions.iter().filter(|&&byte| byte == 10).count();
+                let tables = answer.map_or(0, |answer| answer.tables);
+                let name = format!("{}, {}, {} statements", flow.name, asked.name, size);
+                println!(
+                    "{:<60} {:>6} {:>6} {:>9.2} {:>9.2} {:>7.2} {:>9.2} {:>7.2}",
+                    name,
+                    lines,
+                    tables,
+                    ours * 1e6,
+                    tuned * 1e6,
+                    ours / tuned,
+                    alone * 1e6,
+                    ours / alone
+                );
+                if ours / alone > largest.0 {
+                    largest = (ours / alone, name.clone());
+                }
+                let is_ordinary = flow.is_ordinary && asked.is_ordinary;
+                worst.meet(is_ordinary, ours / tuned, format!("review, {}", name));
+            }
+        }
+    }
+    println!("largest ratio to a call for each line: {:.2} ({})", largest.0, largest.1);
+}
+
 // Marks
 
 fn time_judging(program: &[u8], marks: &[u8]) -> [f64; 3] {
@@ -310,6 +391,7 @@ fn main() {
     print_writing(&mut worst);
     print_tables(&mut worst);
     print_table_growth(&mut worst);
+    print_reviews(&mut worst);
     print_judging(&mut worst);
     println!("\nlargest ratio, ordinary inputs:    {:.2} ({})", worst.ordinary.0, worst.ordinary.1);
     println!(

@@ -1,7 +1,7 @@
 //! The line of a text that a refusal is about. The library answers a number alone, so it is asked
 //! about one line at a time, each in a program of plain lines; nothing is read here.
 
-use rewrites::{Refusal, TEXT_BYTES, VARIABLES, VERDICT_BYTES};
+use rewrites::{Refusal, REVIEW_WORDS, TEXT_BYTES, VARIABLES, VERDICT_BYTES};
 
 /// The lines of a text, each with its byte 10 if it has one.
 pub fn lines(text: &[u8]) -> impl Iterator<Item = &[u8]> {
@@ -43,5 +43,14 @@ pub fn line_of_marks(text: &[u8]) -> Option<usize> {
         let judged = rewrites::judge(&program, line, &mut verdicts, &mut new);
         judged == Err(Refusal::MarkMisspelled)
     };
+    lines(text).position(is_wrong).map(|at| at + 1)
+}
+
+/// The first line of a review, counted from 1, that is refused so by itself. A count of lines or of
+/// parts that is refused is about no line.
+pub fn line_of_review(text: &[u8], refusal: Refusal) -> Option<usize> {
+    let program = with_line(2, 2, b"");
+    let mut table = [0; REVIEW_WORDS];
+    let is_wrong = |line: &[u8]| rewrites::review(&program, line, &mut table) == Err(refusal);
     lines(text).position(is_wrong).map(|at| at + 1)
 }

@@ -1,6 +1,6 @@
 //! What went wrong, in words: which file and line, whose mistake it is, and what was expected.
 
-use crate::blame::{line_of_marks, line_of_program, lines};
+use crate::blame::{line_of_marks, line_of_program, line_of_review, lines};
 use crate::files::{shown, Text, Unread};
 use crate::start;
 use rewrites::{Refusal, MOST_STEPS};
@@ -52,6 +52,7 @@ fn whose(refusal: Refusal) -> &'static str {
         Refusal::ConditionLength | Refusal::ConditionMisspelled | Refusal::ConditionParts => {
             "the author of the condition"
         }
+        Refusal::ReviewLines | Refusal::ReviewParts => "the author of the review",
         Refusal::MarkMisspelled | Refusal::MarkCount => "the optimiser",
     }
 }
@@ -82,6 +83,8 @@ fn expected(refusal: Refusal, text: &[u8]) -> String {
             "`!p`, `(p & q)`, `(p | q)`, `EX p` and the like, `E[p U q]` and the like, or an atom"
         }
         Refusal::ConditionParts => "at most 64 parts",
+        Refusal::ReviewLines => "1 to 32 lines",
+        Refusal::ReviewParts => "at most 128 differing parts",
         Refusal::MarkMisspelled => {
             "`n: mark(rm, X, E)` or `n: mark(rpl, X, A)`, and byte 10"
         }
@@ -100,7 +103,7 @@ impl Fault {
         };
         let found = match (refusal, line.and_then(|line| lines(bytes).nth(line - 1))) {
             (_, Some(line)) => Some(quoted(line)),
-            (Refusal::LineCount | Refusal::MarkCount, _) => {
+            (Refusal::LineCount | Refusal::MarkCount | Refusal::ReviewLines, _) => {
                 Some(grouped(lines(bytes).count()) + " lines")
             }
             (Refusal::ConditionLength, _) => Some(grouped(bytes.len()) + " bytes"),
@@ -116,6 +119,24 @@ impl Fault {
             expected: expected(refusal, bytes),
             found,
         }
+    }
+
+    /// A review is refused: for a line's condition, or as a whole.
+    pub fn of_review(refusal: Refusal, text: &Text) -> Fault {
+        let number = line_of_review(&text.bytes, refusal);
+        let line = match number.and_then(|number| lines(&text.bytes).nth(number - 1)) {
+            Some(line) => line,
+            None => return Fault::refused(refusal, text),
+        };
+        let bytes = line.strip_suffix(b"\n").unwrap_or(line).to_vec();
+        let is_unfinished = bytes.len() == line.len();
+        let mut fault = Fault::refused(refusal, &Text { name: text.name.clone(), bytes });
+        fault.line = number;
+        if is_unfinished && refusal == Refusal::ConditionMisspelled {
+            fault.words = "condition without its byte 10".to_string();
+            fault.expected = "byte 10 at the end of each line".to_string();
+        }
+        fault
     }
 
     /// A start is misspelled.

@@ -11,6 +11,7 @@ mod folder;
 mod marks;
 mod output;
 mod parts;
+mod review;
 mod run;
 mod start;
 mod status;
@@ -34,7 +35,7 @@ Exit status:
   3  output that wasn't written
 Of many folders the worst is told.";
 
-/// Shift programs: judges marks, tabulates conditions, runs
+/// Shift programs: judges marks, tabulates and reviews conditions, runs
 #[derive(Parser)]
 #[command(name = "rewrites", version, after_help = STATUSES)]
 struct Arguments {
@@ -50,6 +51,9 @@ enum Call {
     /// Show at which statements each part of a condition is true
     #[command(after_help = STATUSES)]
     Tabulate(tabulate::Arguments),
+    /// Show at which statements each condition of a review is true
+    #[command(after_help = STATUSES)]
+    Review(review::Arguments),
     /// Run a program from a start
     #[command(after_help = STATUSES)]
     Run(run::Arguments),
@@ -59,7 +63,7 @@ enum Call {
 fn wrong(arguments: &Arguments) -> Option<clap::Error> {
     let (name, words) = match &arguments.call {
         Call::Check(check) => ("check", check.wrong()?),
-        Call::Tabulate(_) | Call::Run(_) => return None,
+        Call::Tabulate(_) | Call::Review(_) | Call::Run(_) => return None,
     };
     let mut command = Arguments::command();
     command.build();
@@ -88,6 +92,7 @@ fn answered(output: &mut Output) -> Result<Status, Unwritten> {
     match arguments.call {
         Call::Check(call) => call.run(output),
         Call::Tabulate(call) => call.run(output),
+        Call::Review(call) => call.run(output),
         Call::Run(call) => call.run(output),
     }
 }

@@ -48,7 +48,7 @@ struct Row {
 }
 
 /// The statements that are set in the words of one part.
-fn statements(words: &[u64]) -> Vec<usize> {
+pub fn statements(words: &[u64]) -> Vec<usize> {
     let is_set = |at: &usize| words[at / 64] >> (at % 64) & 1 == 1;
     (0..64 * words.len()).filter(is_set).map(|at| at + 1).collect()
 }

@@ -1,6 +1,6 @@
 //! What is found by asking the library, or read here, held to the second implementation.
 
-use crate::blame::{line_of_marks, line_of_program, lines};
+use crate::blame::{line_of_marks, line_of_program, line_of_review, lines};
 use crate::fault::grouped;
 use crate::files::shown;
 use crate::start::{self, Start};
@@ -9,6 +9,7 @@ use oracle::condition::Condition;
 use oracle::generate::{self, Random};
 use oracle::marks::Mark;
 use oracle::{desk, folder};
+use rewrites::{review, REVIEW_WORDS};
 use rewrites::{tabulate, Refusal, TABLE_WORDS, TEXT_BYTES, VARIABLES, VERDICT_BYTES};
 use std::ffi::OsStr;
 use std::os::unix::ffi::OsStrExt;
@@ -72,6 +73,26 @@ fn lines_of_marks_are_the_first_misspelled() {
         whole += usize::from(answer.is_ok());
     }
     assert!(met > 500 && whole > 500, "{met} {whole}");
+}
+
+#[test]
+fn lines_of_reviews_are_the_first_faulty() {
+    let mut met = [0; 18];
+    for mut random in cases(4_000) {
+        let program = generate::program(&mut random, 12);
+        let text = folder::conditions(&mut random, &program);
+        let is_taken = |line: &[u8]| {
+            line.strip_suffix(b"\n").map_or(false, |condition| Condition::read(condition).is_ok())
+        };
+        let faulty = lines(&text).position(|line| !is_taken(line)).map(|at| at + 1);
+        if let Err(refusal) = review(&program.text(), &text, &mut [0; REVIEW_WORDS]) {
+            let is_counted = matches!(refusal, Refusal::ReviewLines | Refusal::ReviewParts);
+            let expected = faulty.filter(|_| !is_counted);
+            assert_eq!(line_of_review(&text, refusal), expected, "{}", text.escape_ascii());
+            met[usize::from(refusal.number())] += 1;
+        }
+    }
+    assert!([6, 7, 8, 16, 17].iter().all(|&number| met[number] > 20), "{met:?}");
 }
 
 #[test]

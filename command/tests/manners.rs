@@ -11,17 +11,20 @@ use std::os::unix::process::CommandExt;
 use std::path::{Path, PathBuf};
 use std::process::{Command, Stdio};
 
-const CALLS: [&[&str]; 5] = [
+const CALLS: [&[&str]; 6] = [
     &["check", "."],
     &["check", "--json", "."],
     &["check", "--text", "."],
     &["tabulate", "."],
+    &["review", "."],
     &["run", "."],
 ];
 
 #[test]
 fn help_and_version() {
-    for words in [&["--help"][..], &["-h"], &["help", "run"], &["check", "--help"]] {
+    for words in
+        [&["--help"][..], &["-h"], &["help", "run"], &["review", "-h"], &["check", "--help"]]
+    {
         let output = run(words);
         assert_eq!((status(&output), said(&output).as_str()), (0, ""), "{words:?}");
         assert!(printed(&output).contains("Usage: rewrites"), "{words:?}");
@@ -46,6 +49,9 @@ fn usage() {
         &["tabulate"],
         &["tabulate", ".", "."],
         &["tabulate", ".", "--condition"],
+        &["review"],
+        &["review", ".", "."],
+        &["review", ".", "--condition", "true"],
         &["run"],
         &["run", ".", "--input", "x"],
         &["run", ".", "--input", "-0"],
@@ -120,7 +126,7 @@ fn a_closed_pipe_ends_quietly() {
     assert_eq!(status.code(), Some(2));
 }
 
-const NAMES: [&str; 4] = ["given", "marks", "condition", "start"];
+const NAMES: [&str; 5] = ["given", "marks", "condition", "conditions", "start"];
 
 /// P's files, but for one.
 fn without(name: &str, left_out: &str) -> PathBuf {
@@ -136,6 +142,7 @@ fn readers(file: &str) -> Vec<&'static [&'static str]> {
     let reads = |words: &&&[&str]| match words[0] {
         "check" => file == "given" || file == "marks",
         "tabulate" => file == "given" || file == "condition",
+        "review" => file == "given" || file == "conditions",
         _ => file == "given" || file == "start",
     };
     CALLS.iter().filter(reads).copied().collect()
@@ -185,6 +192,7 @@ fn files_at_the_limit() {
         ("given", b"skip\n".repeat(13_107), 1),
         ("marks", b"2: mark(rm, i0, 1)\n".repeat(3_450)[..65_535].to_vec(), 1),
         ("condition", b"!".repeat(65_535), 1),
+        ("conditions", b"true\n".repeat(13_107), 1),
         ("start", b"1\n".repeat(32_768)[..65_535].to_vec(), 1),
     ] {
         let base = without("limit", file);

@@ -22,14 +22,14 @@ use std::path::Path;
 const CASES: u64 = 3_000;
 
 #[rustfmt::skip]
-const WORDS: [&str; 30] = [
-    "check", "tabulate", "run", "help", ".", "a", "nowhere", "given", "--json", "--text", "--explain",
+const WORDS: [&str; 31] = [
+    "check", "tabulate", "review", "run", "help", ".", "a", "nowhere", "given", "--json", "--text", "--explain",
     "-o", "new", "--output=new", "-onew", "--condition", "E[", "--input", "-1", "2147483648", "--budget",
     "1000001", "--set", "--set=i32=1", "--", "-", "--help", "-V", "-x", "",
 ];
 
 /// The options of each call, some of them such that they are refused.
-const OPTIONS: [(&str, &[&[&str]]); 3] = [
+const OPTIONS: [(&str, &[&[&str]]); 4] = [
     (
         "check",
         &[&["--json"], &["--explain"], &["--text"], &["."], &["a"], &["nowhere"], &["-o", "new"]],
@@ -43,6 +43,7 @@ const OPTIONS: [(&str, &[&[&str]]); 3] = [
             &["--condition", "E["],
         ],
     ),
+    ("review", &[&["--json"]]),
     (
         "run",
         &[
@@ -95,10 +96,15 @@ fn fill(random: &mut Random, base: &Path) {
     let (program, given) = random_folder::given(random);
     let list = oracle::marks::text(&generate::marks(random, &program, 10));
     let condition = random_folder::condition(random, &program);
+    let conditions = random_folder::conditions(random, &program);
     let start = random_folder::start(random);
-    for (name, content) in
-        [("given", given), ("marks", list), ("condition", condition), ("start", start)]
-    {
+    for (name, content) in [
+        ("given", given),
+        ("marks", list),
+        ("condition", condition),
+        ("conditions", conditions),
+        ("start", start),
+    ] {
         let path = base.join(name);
         let content = match random.below(60) {
             0 => continue,

@@ -13,6 +13,8 @@ CHECK = {"marks", "accepted", "bytes", "counts", "verdicts", "program"}
 MARK = {"line", "mark", "statement", "verdict", "name", "words", "condition"}
 TABULATE = {"condition", "statements", "parts", "satisfied", "first", "table"}
 ROW = {"part", "text", "satisfied", "statements"}
+REVIEW = {"statements", "tables", "lines", "conditions"}
+CONDITION = {"line", "condition", "table", "parts", "satisfied", "first", "statements"}
 START = {"input", "budget", "values", "outcome"}
 ENDED = START | {"value", "steps", "kept"}
 SPENT = START | {"statement", "left"}
@@ -70,6 +72,21 @@ def tabulate(thing):
     return text + "parts {parts} satisfied {satisfied} first {first}\n".format(**thing)
 
 
+def review(thing):
+    has(thing, REPORT | REVIEW)
+    text = ""
+    for at, row in enumerate(thing["conditions"]):
+        has(row, CONDITION)
+        assert row["line"] == at + 1
+        assert 0 <= row["table"] < thing["tables"] and row["parts"] >= 1
+        assert row["satisfied"] == len(row["statements"])
+        assert row["first"] == (row["statements"] + [0])[0]
+        assert all(1 <= number <= thing["statements"] for number in row["statements"])
+        text += "{line} {table} {parts} {satisfied} {first} {condition} {statements}\n".format(**row)
+    assert thing["lines"] == len(thing["conditions"])
+    return text + "tables {tables} lines {lines}\n".format(**thing)
+
+
 def run(thing):
     assert len(thing["values"]) == 32 and all(map(whole, thing["values"]))
     if thing["outcome"] == "ended":
@@ -107,11 +124,11 @@ def told(thing):
         assert thing["status"] != 0
         return refused
     assert refused == ""
-    return {"check": check, "tabulate": tabulate, "run": run}[thing["call"]](thing)
+    return {"check": check, "tabulate": tabulate, "review": review, "run": run}[thing["call"]](thing)
 
 
 described = pathlib.Path(__file__).parents[2].joinpath("docs/REFERENCE.md").read_text()
-for names in (VERDICTS, FAULT, REPORT, TOTAL, CHECK, MARK, TABULATE, ROW, ENDED, SPENT):
+for names in (VERDICTS, FAULT, REPORT, TOTAL, CHECK, MARK, TABULATE, ROW, REVIEW, CONDITION, ENDED, SPENT):
     for name in names:
         assert "`%s`" % name in described, name
 

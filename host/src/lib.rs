@@ -48,6 +48,22 @@
 //! assert_eq!(answer, Ok(Tabulated { parts: 8, satisfied: 1, first: 2 }));
 //! ```
 //!
+//! A review has many conditions, one a line. Parts spelled alike are worked out once.
+//!
+//! ```
+//! use rewrites::{review, REVIEW_WORDS};
+//!
+//! // Two lines that share `use(i1)`: four operators and atoms, three of them different.
+//! let program = b"read i0\ni1 := i0\ni1 := 7\nwrite i1\n";
+//! let mut table = [0; REVIEW_WORDS];
+//! let answer = review(program, b"EF use(i1)\nAX use(i1)\n", &mut table).unwrap();
+//! assert_eq!((answer.lines, answer.tables), (2, 3));
+//!
+//! // The first line is true at all four statements, the second at 3 and 4.
+//! assert_eq!(answer.satisfied[..2], [4, 2]);
+//! assert_eq!(answer.first[..2], [1, 3]);
+//! ```
+//!
 //! A mark proposes to drop an assignment, or to put a copied variable or a constant in place of a
 //! variable that is used. Each mark is judged by a condition. The accepted ones are made, and runs of
 //! the two programs answer alike.
@@ -91,6 +107,12 @@ pub const TABLE_WORDS: usize = 256;
 /// The words of one part in a table.
 pub const PART_WORDS: usize = 4;
 
+/// The words that the table of a review must have: 128 tables of [`PART_WORDS`].
+pub const REVIEW_WORDS: usize = 512;
+
+/// The most lines of a review.
+pub const REVIEW_LINES: usize = 32;
+
 /// The bytes that there must be for verdicts: one for each of the most marks.
 pub const VERDICT_BYTES: usize = 256;
 
@@ -127,6 +149,24 @@ pub struct Tabulated {
     pub satisfied: u32,
     /// The first of them, numbered from 1; 0 if none.
     pub first: u32,
+}
+
+/// What a review answers beside the tables. Entry j of an array is that of line j, counted from 0;
+/// entries past the lines are 0.
+#[derive(Clone, Copy, Debug, PartialEq, Eq)]
+pub struct Reviewed {
+    /// The number of tables, 1 to 128: that of parts that are spelled differently.
+    pub tables: u32,
+    /// The number of lines, 1 to 32.
+    pub lines: u32,
+    /// The table of each line's whole condition, counted from 0.
+    pub table_of: [u32; REVIEW_LINES],
+    /// The number of each line's parts, counted at each occurrence, 1 to 64.
+    pub parts: [u32; REVIEW_LINES],
+    /// How many statements satisfy each line.
+    pub satisfied: [u32; REVIEW_LINES],
+    /// The first of them, numbered from 1; 0 if none.
+    pub first: [u32; REVIEW_LINES],
 }
 
 /// What the judging of a list of marks answers beside the verdicts and the new text.
@@ -210,12 +250,16 @@ pub enum Refusal {
     Placement = 4,
     /// A target of an `if` is 0, 1 or above the count of statements.
     Target = 5,
-    /// The condition is longer than 1,024 bytes.
+    /// A review has no line, or over [`REVIEW_LINES`] lines.
+    ReviewLines = 16,
+    /// The condition, or a line of a review, is longer than 1,024 bytes.
     ConditionLength = 6,
-    /// The condition is misspelled.
+    /// The condition is misspelled, or the last line of a review lacks its byte 10.
     ConditionMisspelled = 7,
     /// The condition has over 64 parts.
     ConditionParts = 8,
+    /// A review has over 128 differing parts.
+    ReviewParts = 17,
     /// A line of the marks is misspelled, or the last lacks its byte 10.
     MarkMisspelled = 9,
     /// There are over 256 lines of marks.
@@ -224,16 +268,18 @@ pub enum Refusal {
 
 impl Refusal {
     /// Every refusal, in the order in which they apply.
-    pub const ALL: [Refusal; 11] = [
+    pub const ALL: [Refusal; 13] = [
         Refusal::Buffer,
         Refusal::Budget,
         Refusal::Misspelled,
         Refusal::LineCount,
         Refusal::Placement,
         Refusal::Target,
+        Refusal::ReviewLines,
         Refusal::ConditionLength,
         Refusal::ConditionMisspelled,
         Refusal::ConditionParts,
+        Refusal::ReviewParts,
         Refusal::MarkMisspelled,
         Refusal::MarkCount,
     ];
@@ -254,7 +300,8 @@ impl fmt::Display for Refusal {
     fn fmt(&self, f: &mut fmt::Formatter<'_>) -> fmt::Result {
         f.write_str(match self {
             Refusal::Buffer => {
-                "table under 256 words, verdicts under 256 bytes or new text under 8,704 bytes"
+                "table under 256 words, or 512 of a review, verdicts under 256 bytes or new text under \
+                 8,704 bytes"
             }
             Refusal::Budget => "budget over 1,000,000",
             Refusal::Misspelled => {
@@ -263,9 +310,11 @@ impl fmt::Display for Refusal {
             Refusal::LineCount => "under 2 or over 256 lines",
             Refusal::Placement => "`read` or `write` missing from its place or standing elsewhere",
             Refusal::Target => "a target outside 2 to N",
+            Refusal::ReviewLines => "no line or over 32 lines of a review",
             Refusal::ConditionLength => "condition longer than 1,024 bytes",
             Refusal::ConditionMisspelled => "condition misspelled",
             Refusal::ConditionParts => "condition of over 64 parts",
+            Refusal::ReviewParts => "review of over 128 differing parts",
             Refusal::MarkMisspelled => {
                 "some line of the marks misspelled, or the last without its byte 10"
             }
@@ -420,6 +469,75 @@ pub fn tabulate(program: &[u8], condition: &[u8], table: &mut [u64]) -> Result<T
         return Err(Refusal::returned(number));
     }
     Ok(Tabulated { parts, satisfied, first })
+}
+
+/// Tabulates the conditions of a review together: 1 to [`REVIEW_LINES`] lines, each a condition ended
+/// by byte 10.
+///
+/// Parts spelled alike, byte for byte, in one line or in several, get one table; tables are filled in
+/// the order in which their parts first end. Table k, counted from 0, fills words 4k to 4k+3, as part k
+/// does in [`tabulate`]. All further words are kept. Each line reads as it would by itself: its
+/// table, its number of parts, how many statements satisfy it and the first of them are what
+/// [`tabulate`] answers for that line alone.
+///
+/// Takes at most 256 KiB of stack, most where brackets stand within one another.
+///
+/// # Errors
+///
+/// [`Refusal::Buffer`] for a table of under [`REVIEW_WORDS`] words, whatever the texts hold; else,
+/// for the program, [`Refusal::Misspelled`], [`Refusal::LineCount`], [`Refusal::Placement`] or
+/// [`Refusal::Target`]; else [`Refusal::ReviewLines`] for no line or over 32, an unfinished last one
+/// counted; else, for the first faulty line, [`Refusal::ConditionLength`],
+/// [`Refusal::ConditionMisspelled`] or [`Refusal::ConditionParts`], where a last line without its
+/// byte 10 is misspelled; else [`Refusal::ReviewParts`] for over 128 differing parts. The table is
+/// then kept.
+///
+/// ```
+/// use rewrites::{review, Refusal, PART_WORDS, REVIEW_WORDS};
+///
+/// let program = b"read i0\nif i0 goto 2 else 3\nwrite i0\n";
+/// let mut table = [0; REVIEW_WORDS];
+///
+/// // `exit`, `EF exit` and `AF exit` get tables 0 to 2; the last line is the second again.
+/// let answer = review(program, b"exit\nEF exit\nAF exit\nEF exit\n", &mut table).unwrap();
+/// assert_eq!((answer.tables, answer.lines), (3, 4));
+/// assert_eq!(answer.table_of[..4], [0, 1, 2, 1]);
+/// assert_eq!(answer.satisfied[..4], [1, 3, 1, 3]);
+/// assert_eq!(table[PART_WORDS], 0b111);
+///
+/// // Spelled otherwise is another part.
+/// let answer = review(program, b"(entry & exit)\n(exit & entry)\n", &mut table).unwrap();
+/// assert_eq!(answer.tables, 4);
+///
+/// assert_eq!(review(program, b"", &mut table), Err(Refusal::ReviewLines));
+/// assert_eq!(review(program, b"exit", &mut table), Err(Refusal::ConditionMisspelled));
+/// ```
+pub fn review(program: &[u8], conditions: &[u8], table: &mut [u64]) -> Result<Reviewed, Refusal> {
+    let none = [0; REVIEW_LINES];
+    let mut reviewed =
+        Reviewed { tables: 0, lines: 0, table_of: none, parts: none, satisfied: none, first: none };
+    // SAFETY: the pointers come from references, so none is null, and those that are written
+    // through are the only ones to their places.
+    let number = unsafe {
+        raw::rewrites_review(
+            program.as_ptr(),
+            program.len(),
+            conditions.as_ptr(),
+            conditions.len(),
+            table.as_mut_ptr(),
+            table.len(),
+            &mut reviewed.tables,
+            &mut reviewed.lines,
+            &mut reviewed.table_of,
+            &mut reviewed.parts,
+            &mut reviewed.satisfied,
+            &mut reviewed.first,
+        )
+    };
+    if number != 0 {
+        return Err(Refusal::returned(number));
+    }
+    Ok(reviewed)
 }
 
 /// Judges each mark of a list on a program, and writes the program with the accepted marks made.

@@ -1,6 +1,6 @@
 //! The calls as `include/rewrites.h` declares them.
 
-use crate::{KEPT, VARIABLES};
+use crate::{KEPT, REVIEW_LINES, VARIABLES};
 
 extern "C" {
     /// See [`crate::run`] and the header.
@@ -40,6 +40,28 @@ extern "C" {
         parts: *mut u32,
         satisfied: *mut u32,
         first: *mut u32,
+    ) -> u8;
+
+    /// See [`crate::review`] and the header.
+    ///
+    /// # Safety
+    ///
+    /// `program` points to `program_len` bytes, `conditions` to `conditions_len` bytes and `table` to
+    /// `table_len` words; each of them may be null where its length is 0. No other pointer is null.
+    /// Places that the call writes overlap no other place lent to it.
+    pub fn rewrites_review(
+        program: *const u8,
+        program_len: usize,
+        conditions: *const u8,
+        conditions_len: usize,
+        table: *mut u64,
+        table_len: usize,
+        tables: *mut u32,
+        lines: *mut u32,
+        table_of: *mut [u32; REVIEW_LINES],
+        parts: *mut [u32; REVIEW_LINES],
+        satisfied: *mut [u32; REVIEW_LINES],
+        first: *mut [u32; REVIEW_LINES],
     ) -> u8;
 
     /// See [`crate::judge`] and the header.

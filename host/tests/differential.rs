@@ -17,8 +17,9 @@ use oracle::generate::{self, Damage, Random, WrongSign};
 use oracle::machine::{self, kept_of, Outcome, Values};
 use oracle::marks::{self, Judge, Kind, Mark};
 use oracle::program::{is_kept, Expression, Operand, Operator, Program, Statement, LARGEST, LEAST};
+use oracle::review::{self, Reviewed, MOST_TABLES};
 use rewrites::{raw, FIRST_KEPT, KEPT, MOST_STEPS, VARIABLES};
-use rewrites::{TABLE_WORDS, TEXT_BYTES, VERDICT_BYTES};
+use rewrites::{REVIEW_LINES, REVIEW_WORDS, TABLE_WORDS, TEXT_BYTES, VERDICT_BYTES};
 
 const CASES: u64 = 100_000;
 const SEED: u64 = 1;
@@ -570,6 +571,159 @@ fn tables_are_as_by_the_oracle() {
     of_stmt.0.report();
     of_trans.0.report();
     uses.report();
+}
+
+// Reviews
+
+/// The places that a review sets, with kept words between them.
+const TABLES: usize = 0;
+const LINES: usize = 2;
+const TABLE_OF: usize = 4;
+const PARTS_OF: usize = TABLE_OF + REVIEW_LINES + 1;
+const SATISFIED_OF: usize = PARTS_OF + REVIEW_LINES + 1;
+const FIRST_OF: usize = SATISFIED_OF + REVIEW_LINES + 1;
+const REVIEW_PLACES: usize = FIRST_OF + REVIEW_LINES;
+
+/// Puts an answer where a review does. Entries past the lines are kept.
+fn put_reviewed(places: &mut Lent<u32>, reviewed: &Reviewed) {
+    let (places, lines) = (places.part(), reviewed.lines as usize);
+    places[TABLES] = reviewed.tables;
+    places[LINES] = reviewed.lines;
+    places[TABLE_OF..TABLE_OF + lines].copy_from_slice(&reviewed.table_of[..lines]);
+    places[PARTS_OF..PARTS_OF + lines].copy_from_slice(&reviewed.parts[..lines]);
+    places[SATISFIED_OF..SATISFIED_OF + lines].copy_from_slice(&reviewed.satisfied[..lines]);
+    places[FIRST_OF..FIRST_OF + lines].copy_from_slice(&reviewed.first[..lines]);
+}
+
+/// Holds a review to the oracle's, and tells its answer.
+fn review_agrees(
+    random: &mut Random,
+    case: &str,
+    program: &[u8],
+    conditions: &[u8],
+    room: usize,
+) -> Result<Reviewed, u8> {
+    let (mut given, mut asked) = (Text::new(random, program), Text::new(random, conditions));
+    let mut table = Lent::new(random, room, |bits| bits);
+    let mut places = Lent::new(random, REVIEW_PLACES, |bits| bits as u32);
+    let (mut expected, mut expected_places) = (table.clone(), places.clone());
+    let wanted = review::review(program, conditions, expected.part());
+    if let Ok(reviewed) = &wanted {
+        put_reviewed(&mut expected_places, reviewed);
+    }
+    let shown = || {
+        let (program, conditions) = (escaped(program), escaped(conditions));
+        format!("case {case}: table of {room} words program {program} review {conditions}")
+    };
+    let (program, conditions) = (given.part(), asked.part());
+    let (words, set) = (table.part(), places.part().as_mut_ptr());
+    // SAFETY: the pointers come from references, and no two of the written places overlap.
+    let number = unsafe {
+        raw::rewrites_review(
+            program.as_ptr(),
+            program.len(),
+            conditions.as_ptr(),
+            conditions.len(),
+            words.as_mut_ptr(),
+            words.len(),
+            set.add(TABLES),
+            set.add(LINES),
+            set.add(TABLE_OF).cast(),
+            set.add(PARTS_OF).cast(),
+            set.add(SATISFIED_OF).cast(),
+            set.add(FIRST_OF).cast(),
+        )
+    };
+    assert_eq!(number, wanted.err().unwrap_or(0), "number of {}", shown());
+    table.assert_same(&expected, "table", shown);
+    places.assert_same(&expected_places, "places", shown);
+    given.assert_kept("program", shown);
+    asked.assert_kept("review", shown);
+    wanted
+}
+
+/// A review. Those that go by counts have in turn so many tables, and so many lines.
+fn review_text(random: &mut Random, case: u64, program: &Program) -> Vec<u8> {
+    let round = case / (16 * MOST_TABLES as u64);
+    match in_turn(case, EACH_COUNT, 1..=MOST_TABLES) {
+        Some(tables) if round % 2 == 0 => generate::review_of_tables(random, tables),
+        Some(lines) => generate::review(random, program, 1 + lines % REVIEW_LINES, 4),
+        None => generate::any_review(random, program),
+    }
+}
+
+const SHARED: [&str; 4] = ["nothing", "within a line", "by lines", "a whole line"];
+
+/// How the lines of a review share parts.
+fn shared_by(conditions: &[Condition]) -> Vec<&'static str> {
+    let alone = |c: &Condition| review::tables(std::slice::from_ref(c)).len();
+    let parts: usize = conditions.iter().map(|c| c.parts().len()).sum();
+    let differing: usize = conditions.iter().map(alone).sum();
+    let tables = review::tables(conditions).len();
+    let texts: Vec<Vec<u8>> = conditions.iter().map(Condition::text).collect();
+    let is_again = (1..texts.len()).any(|j| texts[..j].contains(&texts[j]));
+    let met = [tables == parts, differing < parts, tables < differing, is_again];
+    SHARED.into_iter().zip(met).filter(|(_, is_met)| *is_met).map(|(kind, _)| kind).collect()
+}
+
+#[test]
+fn reviews_are_as_by_the_oracle() {
+    let mut refusals = Tally::new("refusals of review", [1, 2, 3, 4, 5, 16, 6, 7, 8, 17]);
+    let mut sizes = Tally::new("sizes of programs reviewed", 2..=256);
+    let mut tables = Tally::new("tables of a review", 1..=MOST_TABLES as u32);
+    let mut lines = Tally::new("lines of a review", 1..=REVIEW_LINES as u32);
+    let mut kinds = Tally::new("parts reviewed", PART_KINDS);
+    let mut shared = Tally::new("parts shared", SHARED);
+    let mut ends = Tally::new("unfinished lines refused", [6, 7, 16]);
+    let mut rooms = rooms("words of a review's table", REVIEW_WORDS);
+    let mut of_programs = damages("damages of programs reviewed");
+    let mut of_reviews = damages("damages of reviews");
+    for (case, mut random) in cases("review") {
+        let random = &mut random;
+        let program = program(random, case);
+        let mut text = program.text();
+        let mut conditions = review_text(random, case, &program);
+        let mut words = REVIEW_WORDS + random.below(3);
+        if !is_whole(case) {
+            match random.below(40) {
+                0..=3 => damaged(random, &mut text, &mut of_programs),
+                4 => text = generate::statement_soup(random),
+                _ => {}
+            }
+            if random.chance(15) {
+                damaged(random, &mut conditions, &mut of_reviews);
+            }
+            words = room(random, REVIEW_WORDS);
+        }
+        rooms.met(words);
+        match review_agrees(random, &case.to_string(), &text, &conditions, words) {
+            Err(number) => {
+                refusals.met(number);
+                if !conditions.is_empty() && !conditions.ends_with(b"\n") {
+                    ends.met(number);
+                }
+            }
+            Ok(reviewed) => {
+                let asked = review::conditions(&conditions).expect("each line is taken");
+                sizes.met(Program::read(&text).expect("the program is taken").count());
+                tables.met(reviewed.tables);
+                lines.met(reviewed.lines);
+                let parts = asked.iter().flat_map(Condition::parts);
+                parts.for_each(|part| kinds.met(part_kind(part)));
+                shared_by(&asked).into_iter().for_each(|kind| shared.met(kind));
+            }
+        }
+    }
+    refusals.report();
+    sizes.report();
+    tables.report();
+    lines.report();
+    kinds.report();
+    shared.report();
+    ends.report();
+    rooms.report();
+    of_programs.report();
+    of_reviews.report();
 }
 
 // Judgements

@@ -122,6 +122,91 @@ static int tabulate_answers(void) {
     return 0;
 }
 
+/* Arrays of 32 entries with a marked word on both sides of each. */
+enum {
+    TABLE_OF = 1,
+    PARTS = TABLE_OF + 33,
+    SATISFIED = PARTS + 33,
+    FIRST = SATISFIED + 33,
+    PLACES = FIRST + 33
+};
+
+static int review_answers(void) {
+    uint8_t (*const review)(const uint8_t *, size_t, const uint8_t *, size_t, uint64_t *, size_t,
+                            uint32_t *, uint32_t *, uint32_t *, uint32_t *, uint32_t *, uint32_t *) =
+        rewrites_review;
+    static const char lines[] =
+        "E[!def(i2) U use(i2)]\nEX exit\n(EX exit & E[!def(i2) U use(i2)])\nuse(i2)\nEX exit\n";
+    static const uint64_t rows[7] = {4, 251, 8, 120, 128, 208, 80};
+    static const uint32_t expected[4][5] = {
+        {3, 5, 6, 2, 5}, {4, 2, 7, 1, 2}, {4, 3, 2, 1, 3}, {4, 5, 5, 4, 5}};
+    const uint8_t *p = (const uint8_t *)P, *c = (const uint8_t *)lines;
+    const size_t length = strlen(P), size = strlen(lines);
+    uint64_t memory[4 + 512 + 4], *const table = memory + 4;
+    uint32_t tables = 11, count = 12, places[PLACES];
+    uint32_t *const a = places + TABLE_OF, *const b = places + PARTS, *const s = places + SATISFIED,
+                    *const f = places + FIRST;
+    size_t k, j;
+
+    for (k = 0; k < 520; k++) memory[k] = 13 + k;
+    for (k = 0; k < PLACES; k++) places[k] = 0xa5c30000 + (uint32_t)k;
+    CHECK(review(p, length, c, size, table, 511, &tables, &count, a, b, s, f) == 1);
+    CHECK(review(p, 0, c, 0, table, 511, &tables, &count, a, b, s, f) == 1);
+    CHECK(review(p, 0, c, 0, table, 512, &tables, &count, a, b, s, f) == 3);
+    CHECK(review(p, length, c, 0, table, 512, &tables, &count, a, b, s, f) == 16);
+    CHECK(review(p, length, c, size - 1, table, 512, &tables, &count, a, b, s, f) == 7);
+    CHECK(review(p, length, c, size, NULL, 0, &tables, &count, a, b, s, f) == 1);
+    CHECK(review(NULL, 0, NULL, 0, NULL, 0, &tables, &count, a, b, s, f) == 1);
+    CHECK(review(NULL, 0, NULL, 0, table, 512, &tables, &count, a, b, s, f) == 3);
+    CHECK(review(p, length, NULL, 0, table, 512, &tables, &count, a, b, s, f) == 16);
+    CHECK(tables == 11 && count == 12);
+    for (k = 0; k < 520; k++) CHECK(memory[k] == 13 + k);
+    for (k = 0; k < PLACES; k++) CHECK(places[k] == 0xa5c30000 + k);
+
+    CHECK(review(p, length, c, size, table, 512, &tables, &count, a, b, s, f) == 0);
+    CHECK(tables == 7 && count == 5);
+    for (k = 0; k < 28; k++) CHECK(table[k] == (k % 4 == 0 ? rows[k / 4] : 0));
+    for (k = 0; k < 520; k++) CHECK((k >= 4 && k < 4 + 28) || memory[k] == 13 + k);
+    for (k = 0; k < 4; k++)
+        for (j = 0; j < 5; j++) CHECK(places[TABLE_OF + 33 * k + j] == expected[k][j]);
+    for (k = 0; k < PLACES; k++)
+        CHECK((k > 0 && (k - 1) % 33 < 5) || places[k] == 0xa5c30000 + k);
+    return 0;
+}
+
+/* 32 lines fill every entry, and 128 tables every word. */
+static int full_review_answers(void) {
+    static char lines[32 * 16], refused[33 * 16];
+    uint64_t memory[2 + 512 + 2], *const table = memory + 2;
+    uint32_t tables = 0, count = 0, places[PLACES];
+    size_t size = 0, k;
+
+    for (k = 0; k < 32; k++) size += (size_t)sprintf(lines + size, "!!!node(%u)\n", (unsigned)k);
+    for (k = 0; k < 516; k++) memory[k] = 13 + k;
+    for (k = 0; k < PLACES; k++) places[k] = 0xa5c30000 + (uint32_t)k;
+    CHECK(rewrites_review((const uint8_t *)P, strlen(P), (const uint8_t *)lines, size, table, 512, &tables,
+                          &count, places + TABLE_OF, places + PARTS, places + SATISFIED,
+                          places + FIRST) == 0);
+    CHECK(tables == 128 && count == 32);
+    CHECK(memory[0] == 13 && memory[1] == 14 && memory[514] == 527 && memory[515] == 528);
+    CHECK(table[0] == 0 && table[4] == 255 && table[508] == 255 && table[511] == 0);
+    for (k = 0; k < 32; k++) CHECK(places[TABLE_OF + k] == 4 * k + 3 && places[PARTS + k] == 4);
+    CHECK(places[SATISFIED] == 8 && places[SATISFIED + 1] == 7 && places[SATISFIED + 31] == 8);
+    CHECK(places[FIRST] == 1 && places[FIRST + 1] == 2 && places[FIRST + 31] == 1);
+    for (k = 0; k < PLACES; k += 33) CHECK(places[k] == 0xa5c30000 + k);
+
+    /* One part more, and one line more. */
+    sprintf(refused, "!%s", lines);
+    CHECK(rewrites_review((const uint8_t *)P, strlen(P), (const uint8_t *)refused, size + 1, table, 512,
+                          &tables, &count, places + TABLE_OF, places + PARTS, places + SATISFIED,
+                          places + FIRST) == 17);
+    sprintf(refused, "%st", lines);
+    CHECK(rewrites_review((const uint8_t *)P, strlen(P), (const uint8_t *)refused, size + 1, table, 512,
+                          &tables, &count, places + TABLE_OF, places + PARTS, places + SATISFIED,
+                          places + FIRST) == 16);
+    return 0;
+}
+
 static int judge_answers(void) {
     uint8_t (*const judge)(const uint8_t *, size_t, const uint8_t *, size_t, uint8_t *, size_t,
                            uint8_t *, size_t, uint32_t *, uint32_t *, uint32_t *) = rewrites_judge;
@@ -201,6 +286,6 @@ static int below_zero_answers(void) {
 }
 
 int main(void) {
-    return run_answers() || kept_answers() || tabulate_answers() || judge_answers() ||
-           below_zero_answers();
+    return run_answers() || kept_answers() || tabulate_answers() || review_answers() ||
+           full_review_answers() || judge_answers() || below_zero_answers();
 }

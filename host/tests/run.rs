@@ -1277,15 +1277,21 @@ fn a_spent_run_sets_statement_and_values_and_keeps_the_rest() {
 #[test]
 fn refusals_print_their_words() {
     let words = [
-        (1, "table under 256 words, verdicts under 256 bytes or new text under 8,704 bytes"),
+        (
+            1,
+            "table under 256 words, or 512 of a review, verdicts under 256 bytes or new text under \
+             8,704 bytes",
+        ),
         (15, "budget over 1,000,000"),
         (2, "some line isn't spelled as a statement, or the last lacks its byte 10"),
         (3, "under 2 or over 256 lines"),
         (4, "`read` or `write` missing from its place or standing elsewhere"),
         (5, "a target outside 2 to N"),
+        (16, "no line or over 32 lines of a review"),
         (6, "condition longer than 1,024 bytes"),
         (7, "condition misspelled"),
         (8, "condition of over 64 parts"),
+        (17, "review of over 128 differing parts"),
         (9, "some line of the marks misspelled, or the last without its byte 10"),
         (10, "over 256 lines of marks"),
     ];

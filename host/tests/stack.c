@@ -1,6 +1,6 @@
 /* Prints how many bytes of stack the deepest calls take. Each runs in a thread whose stack was filled
    with a pattern before; what the thread alone overwrites is not counted. Exits with 0 where `run`,
-   `judge` and `tabulate` take no more than the bytes given as arguments. */
+   `judge`, `tabulate` and `review` take no more than the bytes given as arguments. */
 #define _POSIX_C_SOURCE 200112L
 #include "rewrites.h"
 
@@ -12,8 +12,8 @@
 #define ROOM ((size_t)4 << 20)
 #define PATTERN 0xa5
 
-static uint8_t program[8704], condition[1024], marks[8704];
-static size_t program_len, condition_len, marks_len;
+static uint8_t program[8704], condition[1024], conditions[32 * 1025], marks[8704];
+static size_t program_len, condition_len, conditions_len, marks_len;
 static uint8_t number;
 
 static void *nothing(void *unused) { return unused; }
@@ -31,6 +31,14 @@ static void *tabulate(void *unused) {
     static uint32_t parts, satisfied, first;
     number = rewrites_tabulate(program, program_len, condition, condition_len, table, 256, &parts,
                                &satisfied, &first);
+    return unused;
+}
+
+static void *review(void *unused) {
+    static uint64_t table[512];
+    static uint32_t tables, lines, table_of[32], parts[32], satisfied[32], first[32];
+    number = rewrites_review(program, program_len, conditions, conditions_len, table, 512, &tables,
+                             &lines, table_of, parts, satisfied, first);
     return unused;
 }
 
@@ -69,6 +77,13 @@ static void put(const char *word, int times) {
     }
 }
 
+/* Puts the condition into the review as a line. */
+static void put_line(void) {
+    memcpy(conditions + conditions_len, condition, condition_len);
+    conditions_len += condition_len;
+    conditions[conditions_len++] = 10;
+}
+
 int main(int count, char **arguments) {
     static const struct {
         const char *open, *middle, *close;
@@ -79,11 +94,11 @@ int main(int count, char **arguments) {
         {"EX ", "true", "", 340, 8}, {"!", "true", "", 1020, 8},  {"E[", "", "", 512, 7},
         {"(", "true", "", 1020, 7},  {"(", "", "", 1024, 7},
     };
-    size_t most[3] = {ROOM, ROOM, ROOM};
+    size_t most[4] = {ROOM, ROOM, ROOM, ROOM};
     size_t alone = overwritten(nothing), bytes, k;
     int fails = 0, line;
 
-    for (k = 0; k < 3 && k + 1 < (size_t)count; k++) most[k] = strtoul(arguments[k + 1], NULL, 10);
+    for (k = 0; k < 4 && k + 1 < (size_t)count; k++) most[k] = strtoul(arguments[k + 1], NULL, 10);
 
     /* 256 lines: each goes to the line before. */
     program_len = sprintf((char *)program, "read i31\n");
@@ -112,6 +127,23 @@ int main(int count, char **arguments) {
         printf("%7lu bytes of stack: tabulate, %4d of '%s', then '%s': %d\n", (unsigned long)bytes,
                cases[k].depth, cases[k].open, cases[k].middle, number);
         fails += number != cases[k].number || bytes > most[2];
+
+        /* The same on each line of a review; where it is refused, on the last of 32. */
+        conditions_len = 0;
+        for (line = 1; line < 32 && cases[k].number != 0; line++)
+            conditions_len += sprintf((char *)conditions + conditions_len, "!!!node(%d)\n", line);
+        for (line = 1; line <= (cases[k].number == 0 ? 32 : 1); line++) put_line();
+        bytes = overwritten(review) - alone;
+        printf("%7lu bytes of stack: review, %4d of '%s', then '%s': %d\n", (unsigned long)bytes,
+               cases[k].depth, cases[k].open, cases[k].middle, number);
+        fails += number != cases[k].number || bytes > most[3];
     }
+
+    /* 128 differing parts. */
+    for (line = 0, conditions_len = 0; line < 32; line++)
+        conditions_len += sprintf((char *)conditions + conditions_len, "AG EF !node(%d)\n", line);
+    bytes = overwritten(review) - alone;
+    printf("%7lu bytes of stack: review, 128 tables\n", (unsigned long)bytes);
+    fails += number != 0 || bytes > most[3];
     return fails > 0;
 }

@@ -4,12 +4,12 @@
 mod common;
 
 use common::{lines, text};
-use rewrites::{tabulate, Refusal, TABLE_WORDS};
+use rewrites::{review, tabulate, Refusal, REVIEW_LINES, REVIEW_WORDS, TABLE_WORDS};
 use std::process::Command;
 use std::thread;
 
-/// What `run`, `judge` and `tabulate` take at most, in KiB, as `include/rewrites.h` tells.
-const MOST: [u32; 3] = [64, 128, 256];
+/// What `run`, `judge`, `tabulate` and `review` take at most, in KiB, as `include/rewrites.h` tells.
+const MOST: [u32; 4] = [64, 128, 256, 256];
 
 #[test]
 fn no_call_takes_more_stack_than_is_told() {
@@ -33,9 +33,19 @@ fn the_deepest_conditions_are_read_in_a_thread_with_256_kib_of_stack() {
     for (condition, refusal) in cases {
         let program = text(&lines(256));
         let mut table = vec![0; TABLE_WORDS];
+        let last = "true\n".repeat(REVIEW_LINES - 1) + &condition + "\n";
         let call = move || tabulate(&program, condition.as_bytes(), &mut table);
-        let thread = thread::Builder::new().stack_size(256 << 10).spawn(call);
-        let answer = thread.expect("the thread starts").join().expect("the thread ends");
-        assert_eq!(answer, Err(refusal));
+        assert_eq!(in_small_thread(call), Err(refusal));
+
+        let program = text(&lines(256));
+        let mut table = vec![0; REVIEW_WORDS];
+        let call = move || review(&program, last.as_bytes(), &mut table);
+        assert_eq!(in_small_thread(call), Err(refusal));
     }
+}
+
+/// What a call answers in a thread with 256 KiB of stack.
+fn in_small_thread<A: Send + 'static>(call: impl FnOnce() -> A + Send + 'static) -> A {
+    let thread = thread::Builder::new().stack_size(256 << 10).spawn(call);
+    thread.expect("the thread starts").join().expect("the thread ends")
 }

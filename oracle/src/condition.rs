@@ -18,7 +18,7 @@ pub const MOST_PARTS: usize = 64;
 /// The smallest table that may be lent, in words.
 pub const TABLE_WORDS: usize = 256;
 
-#[derive(Clone, Copy, Debug, PartialEq, Eq)]
+#[derive(Clone, Copy, Debug, PartialEq, Eq, Hash)]
 pub enum Atom {
     True,
     False,
@@ -31,20 +31,20 @@ pub enum Atom {
     Trans(Expression),
 }
 
-#[derive(Clone, Copy, Debug, PartialEq, Eq)]
+#[derive(Clone, Copy, Debug, PartialEq, Eq, Hash)]
 pub enum Quantifier {
     Some,
     All,
 }
 
-#[derive(Clone, Copy, Debug, PartialEq, Eq)]
+#[derive(Clone, Copy, Debug, PartialEq, Eq, Hash)]
 pub enum Direction {
     Forward,
     Backward,
 }
 
 /// What is asked of a whole path: F, G, U and W, or R, M, S and B in their stead backward.
-#[derive(Clone, Copy, Debug, PartialEq, Eq)]
+#[derive(Clone, Copy, Debug, PartialEq, Eq, Hash)]
 pub enum Demand {
     Finally(usize),
     Globally(usize),
@@ -53,7 +53,7 @@ pub enum Demand {
 }
 
 /// A part of a condition; its operands are named by their own places in the list of parts.
-#[derive(Clone, Copy, Debug, PartialEq, Eq)]
+#[derive(Clone, Copy, Debug, PartialEq, Eq, Hash)]
 pub enum Part {
     Atom(Atom),
     Not(usize),

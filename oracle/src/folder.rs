@@ -4,6 +4,7 @@ use crate::check::LARGEST_FILE;
 use crate::generate::{self, Random};
 use crate::marks;
 use crate::program::Program;
+use crate::review::REVIEW_LINES;
 
 /// A line again and again, until there are so many bytes.
 fn long(line: &str, bytes: usize) -> Vec<u8> {
@@ -78,6 +79,21 @@ pub fn condition_file(random: &mut Random, condition: &[u8]) -> (Vec<u8>, Vec<u8
         file.push(10);
     }
     (file, bare.to_vec())
+}
+
+/// A review for a program, at times damaged.
+pub fn conditions(random: &mut Random, given: &Program) -> Vec<u8> {
+    match random.below(10) {
+        0 => {
+            let text = generate::any_review(random, given);
+            generate::damage(random, &text)
+        }
+        1..=5 => {
+            let lines = random.between(1, REVIEW_LINES);
+            generate::review(random, given, lines, 3)
+        }
+        _ => generate::any_review(random, given),
+    }
 }
 
 /// A start, at times damaged; budgets are small, so that traces are.

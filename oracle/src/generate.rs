@@ -1,12 +1,13 @@
 //! Random cases, the same for the same seed.
 
-use crate::condition::LONGEST_TEXT;
+use crate::condition::{Condition, LONGEST_TEXT, MOST_PARTS};
 use crate::machine::{Values, LARGEST_BUDGET};
 use crate::marks::{Judge, Kind, Mark};
 use crate::program::{
     is_kept, Expression, Operand, Operator, Program, Statement, FIRST_KEPT, KEPT, LARGEST, LEAST,
     MOST_LINES, VARIABLES,
 };
+use crate::review::{MOST_TABLES, REVIEW_LINES};
 
 /// A source of random numbers (splitmix64).
 #[derive(Clone, Debug)]
@@ -430,6 +431,125 @@ pub fn condition_of_length(random: &mut Random, program: &Program, length: usize
         };
     }
     text.into_bytes()
+}
+
+/// A line of a review that is made of pieces of those before: one again, under an operator, twice in a pair, or two
+/// of them in a pair, or in both orders.
+fn sharing_line(random: &mut Random, pieces: &[String]) -> String {
+    let (p, q) = (&pieces[random.below(pieces.len())], &pieces[random.below(pieces.len())]);
+    match random.below(8) {
+        0 | 1 => p.clone(),
+        2 | 3 => format!("{}{p}", random.pick(&UNARY)),
+        4 => {
+            let (open, sign) = random.pick(&BINARY);
+            let close = if open == "(" { ")" } else { "]" };
+            format!("({open}{p}{sign}{q}{close} | {open}{q}{sign}{p}{close})")
+        }
+        5 | 6 => pair(random, p, p),
+        _ => pair(random, p, q),
+    }
+}
+
+/// A review of so many lines that share parts, each line a condition that is taken by itself. New ones have up to
+/// so many parts.
+pub fn review(random: &mut Random, program: &Program, lines: usize, parts: usize) -> Vec<u8> {
+    let mut text = Vec::new();
+    let mut pieces: Vec<String> = Vec::new();
+    let new = random.pick(&[5, 20, 50]);
+    for _ in 0..lines {
+        let shared = (!pieces.is_empty() && !random.chance(new))
+            .then(|| sharing_line(random, &pieces))
+            .filter(|line| Condition::read(line.as_bytes()).is_ok());
+        let line = shared.map(String::into_bytes).unwrap_or_else(|| {
+            let parts = random.between(1, parts);
+            condition(random, program, parts)
+        });
+        let read = Condition::read(&line).expect("a generated condition is taken");
+        pieces.extend((0..read.parts().len()).map(|part| read.text_of(part)));
+        text.extend(line);
+        text.push(b'\n');
+    }
+    text
+}
+
+/// The most parts of a line that is an atom behind operators.
+const LONGEST_CHAIN: usize = 60;
+
+/// A review that has so many differing parts: operators before atoms that differ, and some lines again.
+pub fn review_of_tables(random: &mut Random, tables: usize) -> Vec<u8> {
+    let fewest = (tables + LONGEST_CHAIN - 1) / LONGEST_CHAIN;
+    let lines = random.between(fewest, REVIEW_LINES.min(tables));
+    let mut sizes = vec![1; lines];
+    for _ in lines..tables {
+        let mut at = random.below(lines);
+        while sizes[at] == LONGEST_CHAIN {
+            at = (at + 1) % lines;
+        }
+        sizes[at] += 1;
+    }
+    let line = |random: &mut Random, (at, size): (usize, usize)| {
+        let operators: String = (1..size).map(|_| random.pick(&UNARY)).collect();
+        format!("{operators}node({at})\n")
+    };
+    let mut texts: Vec<String> =
+        sizes.into_iter().enumerate().map(|sized| line(random, sized)).collect();
+    for _ in 0..random.below(REVIEW_LINES - lines + 1) {
+        let again = texts[random.below(lines)].clone();
+        texts.push(again);
+    }
+    texts.concat().into_bytes()
+}
+
+/// A review of any kind: at the edges of lines and tables, with lines that are refused, with the last unfinished,
+/// and mostly such that it is taken.
+pub fn any_review(random: &mut Random, program: &Program) -> Vec<u8> {
+    let mut text = match random.below(20) {
+        0 => {
+            let tables = random.between(MOST_TABLES - 2, MOST_TABLES + 2);
+            review_of_tables(random, tables)
+        }
+        1 => {
+            let tables = random.between(1, 2 * MOST_TABLES);
+            review_of_tables(random, tables)
+        }
+        2 => {
+            let lines = random.pick(&[0, 1, 30, 31, 32, 33, 34]);
+            review(random, program, lines, 4)
+        }
+        3 => {
+            let lines = random.between(20, REVIEW_LINES);
+            review(random, program, lines, MOST_PARTS)
+        }
+        _ => {
+            let (lines, parts) = (random.between(1, 12), random.between(1, 12));
+            review(random, program, lines, parts)
+        }
+    };
+    if random.chance(12) {
+        let line = match random.below(6) {
+            0 => condition_soup(random),
+            1 => nested_condition(random),
+            2 => {
+                let parts = random.between(60, 70);
+                condition(random, program, parts)
+            }
+            3 => Vec::new(),
+            _ => {
+                let length = random.between(LONGEST_TEXT - 2, LONGEST_TEXT + 2);
+                condition_of_length(random, program, length)
+            }
+        };
+        let mut lines = lines(&text);
+        lines.insert(random.below(lines.len() + 1), [&line[..], b"\n"].concat());
+        text = lines.concat();
+    }
+    // The last line lacks its byte 10.
+    match random.below(50) {
+        0 => drop(text.pop()),
+        1 => text.extend(nested_condition(random)),
+        _ => {}
+    }
+    text
 }
 
 /// The marks that fit a statement and that a copy nearest before it, in line order, suggests.

@@ -12,6 +12,7 @@ pub mod generate;
 pub mod machine;
 pub mod marks;
 pub mod program;
+pub mod review;
 pub mod steps;
 pub mod tuned;
 

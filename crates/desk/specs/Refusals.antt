@@ -1,4 +1,4 @@
--- Refusals in words: document 01, "Numbers for a refused call or mark". Whose mistake it is comes first.
+-- Refusals in words: document 01, "Numbers for a refused call or mark", and those of document 02. Whose mistake it is comes first.
 -- The figures of sizes in the words are text.
 use mathlib.Core.List.{List, [], _∷_, _++_}
 use Prim.Native.Nat.{ℕ}
@@ -26,6 +26,8 @@ refusals =
     ∷ whole 8 "the author of the condition: over 64 parts"
     ∷ whole 9 "the optimiser: some line misspelled, or the last without its byte 10"
     ∷ whole 10 "the optimiser: over 256 lines"
+    ∷ whole 16 "the author of the review: no line or over 32 lines"
+    ∷ whole 17 "the author of the review: over 128 differing parts"
     ∷ []
 
 -- what the row of n says, or nothing

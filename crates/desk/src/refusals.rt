@@ -82,6 +82,16 @@ pub fn words(out: &mut [u8], at: usize, n: u8, line: u32) -> usize
             )
         }
         10 => statement_writer::word(out, at, b"the optimiser: over 256 lines"),
+        16 => statement_writer::word(
+            out,
+            at,
+            b"the author of the review: no line or over 32 lines",
+        ),
+        17 => statement_writer::word(
+            out,
+            at,
+            b"the author of the review: over 128 differing parts",
+        ),
         _ => at,
     }
 }

@@ -14,6 +14,11 @@ use Rattle.run.specs.declared.RunAnswer.{RunAnswer}
 use Rattle.run.specs.declared.RunAnswer.the-variants.{Refused, Finished}
 use Rattle.tabulate.specs.declared.TabulateAnswer.{TabulateAnswer}
 use Rattle.tabulate.specs.declared.TabulateAnswer.the-variants as tabulate
+use lib.ListN.{take}
+use lib.Seq.{sets}
+use Rattle.review.specs.Review.{Told, ReviewAnswers}
+use Rattle.review.specs.declared.ReviewAnswer.{ReviewAnswer}
+use Rattle.review.specs.declared.ReviewAnswer.the-variants as review
 
 -- the places lent to `rewrites_run`
 pub record RunPlaces : Type 0 where
@@ -75,3 +80,34 @@ pub record JudgeExported (t u : List ℕ) (old new : Lent) (r : ℕ) (o q : Judg
   pub answer : JudgeAnswer
   pub answers : JudgeAnswers t u old new answer
   pub returned : JudgeReturned answer r o q
+
+-- the places lent to `rewrites_review` beside the table
+pub record ReviewPlaces : Type 0 where
+  pub tables : ℕ
+  pub lines : ℕ
+  pub told : Told
+
+-- ys with the first n of xs at its front
+abbrev pub begun : ℕ → List ℕ → List ℕ → List ℕ
+begun n xs ys = sets ys 0 (take n xs)
+
+-- an entry for each of the n lines; the rest is kept
+abbrev pub told : ℕ → Told → Told → Told
+told n a o = record {
+  tables = begun n (a .tables) (o .tables);
+  parts = begun n (a .parts) (o .parts);
+  satisfied = begun n (a .satisfied) (o .satisfied);
+  first = begun n (a .first) (o .first);
+}
+
+-- 0 is a result, which sets both numbers and the entries of the lines; any other number is the refusal, which keeps all
+abbrev pub ReviewReturned : ReviewAnswer → Told → ℕ → ReviewPlaces → ReviewPlaces → Type 0
+ReviewReturned (review.Refused n) a r o q = (r ≡ n) × (q ≡ o)
+ReviewReturned (review.Filled m n) a r o q = (r ≡ 0) × (q ≡ record { tables = m; lines = n; told = told n a (o .told) })
+
+-- the number and the places are those of the one answer of `review`, which also says what the table holds
+pub record ReviewExported (t u old new : List ℕ) (r : ℕ) (o q : ReviewPlaces) : Type 0 where
+  pub answer : ReviewAnswer
+  pub beside : Told
+  pub answers : ReviewAnswers t u old new answer beside
+  pub returned : ReviewReturned answer beside r o q

@@ -37,7 +37,7 @@ module _ (P : List Statement) (f : Flow) (flows : FlowOf P f) (X Y X′ Y′ : �
       Iff·trans (said-iff (flows .forward .graph) o (quant all) X Y X′ Y′ x y s l) (paths-same (flows .forward .graph) _ (flows .exact-forward) (quant all) _ s l)
   rule-sat rule.Nothing s l = (λ h. h, λ h. h)
 
-iff-of : {X Y : Type 0} → X ≡ Y → X ↔ Y
+pub iff-of : {X Y : Type 0} → X ≡ Y → X ↔ Y
 iff-of e = rw e (λ h. h, λ h. h)
 
 -- the operator of a part that is no atom, and its operands' parts

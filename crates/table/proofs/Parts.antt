@@ -10,8 +10,10 @@ use lib.Seq.{length-take-le, take-all}
 use Rattle.language.specs.declared.Statement.{Statement}
 use Rattle.tokens.specs.Parsing.{found}
 use Rattle.bits.specs.Row.{member}
+use Rattle.labelling.specs.Labels.{Labelled}
 use Rattle.ctl.specs.Paths.{So}
 use Rattle.graph.specs.Graphs.{entries, DirectionsAt}
+use Rattle.flow.specs.Flow.{steps}
 use Rattle.flow.specs.FlowOf.{flow-entries, flowAt}
 use Rattle.atoms.specs.Facts.{FactsOf}
 use Rattle.condition.specs.Condition.{Condition, atom, unary, binary}
@@ -32,6 +34,18 @@ written-map X Y f w =
       kept = w .kept;
       labelled = record { exact = λ s l. Iff·trans (w .labelled .exact s l) (f s l); beyond = w .labelled .beyond };
     }
+
+-- an operator's row, from the rows of its operands: Q j is the truth of part j, X that of part k
+module _ {P : List Statement} {n : ℕ} {rows : List ℕ} {codes : List (List ℕ)} {flow : List ℕ} (x : Known P n rows codes flow) (Q : ℕ → ℕ → Type 0) {old : List ℕ} {k : ℕ}
+    (filled : (j : ℕ) → j < k → Labelled (length P) (member (row old j)) (Q j)) {left right : ℕ} (l : left < k) (r : right < k)
+    (o : Operation) (X : ℕ → Type 0) (sat : (s : ℕ) → SatRule (steps P) (ruleOf o) (Q left) (Q right) s ↔ X s) where
+  pub rule-written : (new : List ℕ)
+      → Written part-words old new k n (SatRule (flowSteps n (flowAt flow)) (ruleOf o) (So (member (row old left))) (So (member (row old right))))
+      → Written part-words old new k (length P) X
+  rule-written new h =
+      written-map _ X
+      (λ s b. Iff·trans (rule-sat P (flowAt flow) (x .flows) _ _ (Q left) (Q right) (λ u d. filled left l .exact u d) (λ u d. filled right r .exact u d) (ruleOf o) s b) (sat s))
+      (subst (λ (m : ℕ). Written part-words old new k m (SatRule (flowSteps m (flowAt flow)) (ruleOf o) (So (member (row old left))) (So (member (row old right))))) (sym (x .size)) h)
 
 module _ {P : List Statement} {n : ℕ} {rows : List ℕ} {codes : List (List ℕ)} {flow t : List ℕ} {c : Condition} {w : ℕ} {old : List ℕ} {k : ℕ} (r : PartReady P n rows codes flow t c w old k) where
   abbrev size : n ≡ length P
@@ -56,15 +70,9 @@ module _ {P : List Statement} {n : ℕ} {rows : List ℕ} {codes : List (List �
         → Written part-words old new k (length P) (Sat P (partAt c k))
     operator-written new left is h =
         let i = ops .inside in
-        let g =
-        subst (λ (j : ℕ). Written part-words old new k (length P) (SatRule (flowSteps (length P) (flowAt flow)) (ruleOf (ops .operation)) (So (member (row old j))) (So (member (row old (k - 1)))))) is
-        (subst (λ (m : ℕ). Written part-words old new k m (SatRule (flowSteps m (flowAt flow)) (ruleOf (ops .operation)) (So (member (row old left))) (So (member (row old (k - 1)))))) size
-        (h (ops .operation) (ops .coded))) in
-        written-map _ (Sat P (partAt c k))
-        (λ s l. Iff·trans
-        (rule-sat P (flowAt flow) (r .known .flows) _ _ (Sat P (partAt c (leftOf w k))) (Sat P (partAt c (k - 1))) (λ u b. r .filled (leftOf w k) i .exact u b) (λ u b. r .filled (k - 1) (omega arith) .exact u b) (ruleOf (ops .operation)) s l)
-        (ops .sat s))
-        g
+        rule-written (r .known) (λ j. Sat P (partAt c j)) (r .filled) i (omega arith) (ops .operation) (Sat P (partAt c k)) (ops .sat) new
+        (subst (λ (j : ℕ). Written part-words old new k n (SatRule (flowSteps n (flowAt flow)) (ruleOf (ops .operation)) (So (member (row old j))) (So (member (row old (k - 1)))))) is
+        (h (ops .operation) (ops .coded)))
 
   -- a part with an atom's
   pub atom-written : (new : List ℕ) → codeIn w ≡ 0

@@ -43,7 +43,7 @@ unfoldable pub operationOf : ℕ → Operation
 unfolding operations
 operationOf code = getD operations code (one negation)
 
-operation-back : (x : Operation) → operationOf (codeOf x) ≡ x
+pub operation-back : (x : Operation) → operationOf (codeOf x) ≡ x
 unfolding operationOf operations
 operation-back (one negation) = refl
 operation-back (one (Unary.path E forward next)) = refl

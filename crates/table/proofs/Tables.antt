@@ -34,10 +34,11 @@ word-tells {t = t} {c = c} {ws = ws} h k l = let d = held-describes (h .taken) (
 
 -- the rows before the one that was written are kept
 module _ (old new : List ℕ) (k : ℕ) (kept : Kept old new (part-words * k) part-words) (fits : part-words * k + part-words ≤ length old) where
-  pub rows-more : (P : List Statement) (c : Condition) → RowsRight P c old k → Labelled (length P) (member (row new k)) (Sat P (partAt c k)) → RowsRight P c new (k + 1)
-  rows-more P c r l =
-      below-more (λ j. Labelled (length P) (member (row new j)) (Sat P (partAt c j))) k
-      (λ j h. subst (λ (w : List ℕ). Labelled (length P) (member w) (Sat P (partAt c j))) (sym (row-kept part-words old new k kept j (omega arith) (omega arith))) (r j h)) l
+  pub rows-more : (n : ℕ) (Q : ℕ → ℕ → Type 0) → ((j : ℕ) → j < k → Labelled n (member (row old j)) (Q j)) → Labelled n (member (row new k)) (Q k)
+      → (j : ℕ) → j < k + 1 → Labelled n (member (row new j)) (Q j)
+  rows-more n Q r l =
+      below-more (λ j. Labelled n (member (row new j)) (Q j)) k
+      (λ j h. subst (λ (w : List ℕ). Labelled n (member w) (Q j)) (sym (row-kept part-words old new k kept j (omega arith) (omega arith))) (r j h)) l
 
 -- the parts before k are filled, and the words from there on are kept
 pub record SoFar (n : ℕ) (rows : List ℕ) (codes : List (List ℕ)) (flow t : List ℕ) (m : ℕ) (ws old table : List ℕ) (k : ℕ) : Type 0 where
@@ -60,7 +61,7 @@ module _ {n : ℕ} {rows : List ℕ} {codes : List (List ℕ)} {flow t : List �
           within = omega arith;
           room = i .room;
           same = kept .same ∙ i .same;
-          filled = λ P c x h. rows-more table new k (w P c x h .kept) (omega (arith, i .same, i .room)) P c (i .filled P c x h) (w P c x h .labelled);
+          filled = λ P c x h. rows-more table new k (w P c x h .kept) (omega (arith, i .same, i .room)) (length P) (λ j. Sat P (partAt c j)) (i .filled P c x h) (w P c x h .labelled);
           past = λ j b. kept .past j (omega arith) ∙ i .past j (omega arith);
         }
 

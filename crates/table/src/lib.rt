@@ -133,7 +133,7 @@ pub fn row_of(table: &[u64], k: usize) -> [u64; WORDS]
 }
 
 // Part k becomes the row of an operator, from those of its operands' parts; of a unary operator the left one counts.
-fn fill_operator(
+pub fn fill_operator(
     code: u64,
     left: usize,
     right: usize,
@@ -156,7 +156,7 @@ fn fill_operator(
 }
 
 // Part k becomes the row of the atom whose text begins at `start`.
-fn fill_atom(
+pub fn fill_atom(
     text: &[u8],
     start: usize,
     n: usize,
@@ -178,7 +178,7 @@ fn fill_atom(
 }
 
 // The part of the left operand of part k's operator; of a unary operator it is the part before.
-fn left_of(w: u64, k: usize) -> usize
+pub fn left_of(w: u64, k: usize) -> usize
     requires { ⌜ 0 < k ⌝ }
     ensures { λ r. ⌜ r ≡ leftOf w k ⌝ }
 {

@@ -22,7 +22,7 @@ use Rattle.table.specs.Summary.{Counts}
 use Rattle.tabulate.specs.Tabulate.{table-words, TabulateFilled}
 
 -- a bit of a row is set exactly at the places below n of which X is true
-labelled-bit : {n : ℕ} {y : ℕ → Bool} {X : ℕ → Type 0} → Labelled n y X → (s : ℕ) → (y s ≡ true) ↔ ((s < n) × X s)
+pub labelled-bit : {n : ℕ} {y : ℕ → Bool} {X : ℕ → Type 0} → Labelled n y X → (s : ℕ) → (y s ≡ true) ↔ ((s < n) × X s)
 labelled-bit {n = n} {y = y} {X = X} l s = go (decLt s n)
   where
     go : Dec (s < n) → (y s ≡ true) ↔ ((s < n) × X s)
@@ -30,7 +30,7 @@ labelled-bit {n = n} {y = y} {X = X} l s = go (decLt s n)
     go (no h) = (λ e. clash e (l .beyond s (omega arith)), λ x. absurd (h (x .0)))
 
 -- the same of a word of the table
-row-bit : (ws : List ℕ) (k w b : ℕ) → w < part-words → b < 64 → member (row ws k) (w * 64 + b) ≡ bit (getD ws (part-words * k + w) 0) b
+pub row-bit : (ws : List ℕ) (k w b : ℕ) → w < part-words → b < 64 → member (row ws k) (w * 64 + b) ≡ bit (getD ws (part-words * k + w) 0) b
 row-bit ws k w b h l =
     word-member (row ws k) w b l
     ∙ ap (λ (x : ℕ). bit x b) (getD-take part-words (drop (part-words * k) ws) w 0 h ∙ getD-drop (part-words * k) ws w 0)

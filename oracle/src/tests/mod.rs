@@ -6,6 +6,7 @@ mod generated;
 mod kept;
 mod naive;
 mod open_points;
+mod review;
 mod tuned;
 
 use crate::condition;

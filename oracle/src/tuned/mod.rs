@@ -4,9 +4,11 @@
 mod flow;
 mod judge;
 mod read;
+mod review;
 mod run;
 mod tabulate;
 
 pub use judge::{judge, judge_by_labels};
+pub use review::review;
 pub use run::run;
 pub use tabulate::tabulate;

@@ -63,13 +63,19 @@ fn operands(expression: &Expression) -> (Operand, Operand) {
     }
 }
 
+/// Where the parts of a condition go as they are read.
+pub trait Parts {
+    /// Adds a part, and tells the number that names it as an operand.
+    fn add(&mut self, part: Part) -> usize;
+}
+
 /// The parts of a condition, as many as may be; all are counted.
-struct Parts {
+struct List {
     parts: [Part; MOST_PARTS],
     count: usize,
 }
 
-impl Parts {
+impl Parts for List {
     fn add(&mut self, part: Part) -> usize {
         if let Some(place) = self.parts.get_mut(self.count) {
             *place = part;
@@ -77,94 +83,102 @@ impl Parts {
         self.count += 1;
         self.count - 1
     }
+}
 
-    fn read(text: &[u8]) -> Result<Parts, u8> {
-        if text.len() > LONGEST_TEXT {
-            return Err(6);
-        }
-        let mut parts = Parts { parts: [Part::Atom(Atom::True); MOST_PARTS], count: 0 };
-        let mut cursor = Cursor::new(text);
-        parts.condition(&mut cursor).ok_or(7)?;
-        if !cursor.is_at_end() {
-            return Err(7);
-        }
-        if parts.count > MOST_PARTS {
+impl List {
+    fn read(text: &[u8]) -> Result<List, u8> {
+        let mut list = List { parts: [Part::Atom(Atom::True); MOST_PARTS], count: 0 };
+        read(&mut list, text)?;
+        if list.count > MOST_PARTS {
             return Err(8);
         }
-        Ok(parts)
+        Ok(list)
     }
+}
 
-    fn condition(&mut self, cursor: &mut Cursor<'_>) -> Option<usize> {
-        match cursor.peek() {
-            b'!' => {
-                cursor.pass();
-                let p = self.condition(cursor)?;
-                Some(self.add(Part::Not(p)))
-            }
-            b'(' => {
-                cursor.pass();
-                let p = self.condition(cursor)?;
-                cursor.byte(b' ')?;
-                let sign = cursor.peek();
-                cursor.pass();
-                cursor.byte(b' ')?;
-                let q = self.condition(cursor)?;
-                cursor.byte(b')')?;
-                match sign {
-                    b'&' => Some(self.add(Part::And(p, q))),
-                    b'|' => Some(self.add(Part::Or(p, q))),
-                    _ => None,
-                }
-            }
-            b'E' => {
-                cursor.pass();
-                self.paths(cursor, Quantifier::Some)
-            }
-            b'A' => {
-                cursor.pass();
-                self.paths(cursor, Quantifier::All)
-            }
-            _ => {
-                let atom = atom(cursor)?;
-                Some(self.add(Part::Atom(atom)))
-            }
+/// Adds the parts of a condition; the number of the whole, or the refusal, 6 or 7.
+pub fn read(parts: &mut impl Parts, text: &[u8]) -> Result<usize, u8> {
+    if text.len() > LONGEST_TEXT {
+        return Err(6);
+    }
+    let mut cursor = Cursor::new(text);
+    let whole = condition(parts, &mut cursor).ok_or(7)?;
+    if !cursor.is_at_end() {
+        return Err(7);
+    }
+    Ok(whole)
+}
+
+fn condition(parts: &mut impl Parts, cursor: &mut Cursor<'_>) -> Option<usize> {
+    match cursor.peek() {
+        b'!' => {
+            cursor.pass();
+            let p = condition(parts, cursor)?;
+            Some(parts.add(Part::Not(p)))
         }
-    }
-
-    fn paths(&mut self, cursor: &mut Cursor<'_>, quantifier: Quantifier) -> Option<usize> {
-        let letter = cursor.peek();
-        cursor.pass();
-        if letter == b'[' {
-            let p = self.condition(cursor)?;
+        b'(' => {
+            cursor.pass();
+            let p = condition(parts, cursor)?;
             cursor.byte(b' ')?;
-            let letter = cursor.peek();
+            let sign = cursor.peek();
             cursor.pass();
             cursor.byte(b' ')?;
-            let q = self.condition(cursor)?;
-            cursor.byte(b']')?;
-            let (direction, demand) = match letter {
-                b'U' => (Direction::Forward, Demand::Until(p, q)),
-                b'W' => (Direction::Forward, Demand::Weak(p, q)),
-                b'S' => (Direction::Backward, Demand::Until(p, q)),
-                b'B' => (Direction::Backward, Demand::Weak(p, q)),
-                _ => return None,
-            };
-            return Some(self.add(Part::Path(quantifier, direction, demand)));
+            let q = condition(parts, cursor)?;
+            cursor.byte(b')')?;
+            match sign {
+                b'&' => Some(parts.add(Part::And(p, q))),
+                b'|' => Some(parts.add(Part::Or(p, q))),
+                _ => None,
+            }
         }
-        if !b"XFGYRM".contains(&letter) {
-            return None;
+        b'E' => {
+            cursor.pass();
+            paths(parts, cursor, Quantifier::Some)
         }
-        cursor.byte(b' ')?;
-        let p = self.condition(cursor)?;
-        Some(self.add(match letter {
-            b'X' => Part::Next(quantifier, Direction::Forward, p),
-            b'Y' => Part::Next(quantifier, Direction::Backward, p),
-            b'F' => Part::Path(quantifier, Direction::Forward, Demand::Finally(p)),
-            b'R' => Part::Path(quantifier, Direction::Backward, Demand::Finally(p)),
-            b'G' => Part::Path(quantifier, Direction::Forward, Demand::Globally(p)),
-            _ => Part::Path(quantifier, Direction::Backward, Demand::Globally(p)),
-        }))
+        b'A' => {
+            cursor.pass();
+            paths(parts, cursor, Quantifier::All)
+        }
+        _ => {
+            let atom = atom(cursor)?;
+            Some(parts.add(Part::Atom(atom)))
+        }
     }
+}
+
+fn paths(parts: &mut impl Parts, cursor: &mut Cursor<'_>, quantifier: Quantifier) -> Option<usize> {
+    let letter = cursor.peek();
+    cursor.pass();
+    if letter == b'[' {
+        let p = condition(parts, cursor)?;
+        cursor.byte(b' ')?;
+        let letter = cursor.peek();
+        cursor.pass();
+        cursor.byte(b' ')?;
+        let q = condition(parts, cursor)?;
+        cursor.byte(b']')?;
+        let (direction, demand) = match letter {
+            b'U' => (Direction::Forward, Demand::Until(p, q)),
+            b'W' => (Direction::Forward, Demand::Weak(p, q)),
+            b'S' => (Direction::Backward, Demand::Until(p, q)),
+            b'B' => (Direction::Backward, Demand::Weak(p, q)),
+            _ => return None,
+        };
+        return Some(parts.add(Part::Path(quantifier, direction, demand)));
+    }
+    if !b"XFGYRM".contains(&letter) {
+        return None;
+    }
+    cursor.byte(b' ')?;
+    let p = condition(parts, cursor)?;
+    Some(parts.add(match letter {
+        b'X' => Part::Next(quantifier, Direction::Forward, p),
+        b'Y' => Part::Next(quantifier, Direction::Backward, p),
+        b'F' => Part::Path(quantifier, Direction::Forward, Demand::Finally(p)),
+        b'R' => Part::Path(quantifier, Direction::Backward, Demand::Finally(p)),
+        b'G' => Part::Path(quantifier, Direction::Forward, Demand::Globally(p)),
+        _ => Part::Path(quantifier, Direction::Backward, Demand::Globally(p)),
+    }))
 }
 
 fn atom(cursor: &mut Cursor<'_>) -> Option<Atom> {
@@ -252,25 +266,24 @@ fn path_row(
     }
 }
 
-/// The call: fills the table; the number of parts, of satisfying statements and the first of these, or the
-/// refusal, 1, 2 to 5 or 6 to 8.
-pub fn tabulate(
-    program: &[u8],
-    condition: &[u8],
-    table: &mut [u64],
-) -> Result<(u32, u32, u32), u8> {
-    if table.len() < TABLE_WORDS {
-        return Err(1);
+/// What rows are made from.
+pub struct Found<'a> {
+    pub program: &'a Program,
+    pub flow: Flow,
+    rows: Rows,
+}
+
+impl<'a> Found<'a> {
+    pub fn new(program: &'a Program) -> Found<'a> {
+        Found { program, flow: Flow::new(program), rows: Rows::new(program) }
     }
-    let program = Program::read(program)?;
-    let parts = Parts::read(condition)?;
-    let flow = Flow::new(&program);
-    let rows = Rows::new(&program);
-    let none = [0; 4];
-    let mut done = [none; MOST_PARTS];
-    for k in 0..parts.count {
-        let row = match parts.parts[k] {
-            Part::Atom(atom) => atom_row(&program, &flow, &rows, &atom),
+
+    /// The statements at which a part holds, from the rows of its operands.
+    #[inline(always)]
+    pub fn row(&self, part: &Part, done: &[Row]) -> Row {
+        let flow = &self.flow;
+        match *part {
+            Part::Atom(atom) => atom_row(self.program, flow, &self.rows, &atom),
             Part::Not(p) => without(&flow.all, &done[p]),
             Part::And(p, q) => and(&done[p], &done[q]),
             Part::Or(p, q) => or(&done[p], &done[q]),
@@ -282,20 +295,46 @@ pub fn tabulate(
             Part::Path(quantifier, direction, demand) => {
                 let (p, q, weak) = match demand {
                     Demand::Finally(p) => (&flow.all, &done[p], false),
-                    Demand::Globally(p) => (&done[p], &none, true),
+                    Demand::Globally(p) => (&done[p], &NONE, true),
                     Demand::Until(p, q) => (&done[p], &done[q], false),
                     Demand::Weak(p, q) => (&done[p], &done[q], true),
                 };
-                path_row(&flow, quantifier, direction, p, q, weak)
+                path_row(flow, quantifier, direction, p, q, weak)
             }
-        };
+        }
+    }
+}
+
+pub const NONE: Row = [0; 4];
+
+/// How many statements a row has, and the first of them, 0 if none.
+pub fn counted(row: &Row) -> (u32, u32) {
+    let satisfied = row.iter().map(|word| word.count_ones()).sum();
+    let first = (0..4)
+        .find(|&word| row[word] != 0)
+        .map_or(0, |word| 64 * word as u32 + row[word].trailing_zeros() + 1);
+    (satisfied, first)
+}
+
+/// The call: fills the table; the number of parts, of satisfying statements and the first of these, or the
+/// refusal, 1, 2 to 5 or 6 to 8.
+pub fn tabulate(
+    program: &[u8],
+    condition: &[u8],
+    table: &mut [u64],
+) -> Result<(u32, u32, u32), u8> {
+    if table.len() < TABLE_WORDS {
+        return Err(1);
+    }
+    let program = Program::read(program)?;
+    let list = List::read(condition)?;
+    let found = Found::new(&program);
+    let mut done = [NONE; MOST_PARTS];
+    for k in 0..list.count {
+        let row = found.row(&list.parts[k], &done);
         done[k] = row;
         table[4 * k..4 * k + 4].copy_from_slice(&row);
     }
-    let whole = done[parts.count - 1];
-    let satisfied = whole.iter().map(|word| word.count_ones()).sum();
-    let first = (0..4)
-        .find(|&word| whole[word] != 0)
-        .map_or(0, |word| 64 * word as u32 + whole[word].trailing_zeros() + 1);
-    Ok((parts.count as u32, satisfied, first))
+    let (satisfied, first) = counted(&done[list.count - 1]);
+    Ok((list.count as u32, satisfied, first))
 }

@@ -8,11 +8,11 @@ use Rattle.desk.proofs.refusals.words.Statement.{statement}
 use Rattle.desk.proofs.refusals.words.Tie as tie
 
 -- no row has the number
-returns-12 : tie.Need-returns-12
+returns-14 : tie.Need-returns-14
 unfolding refusalWords
-returns-12 c =
+returns-14 c =
     let n = c .match .rest in
-    rw (ne-eqb _ 1 (n .0 .0 .0 .0 .0 .0 .0 .0 .0 .0 .1), ne-eqb _ 15 (n .0 .0 .0 .0 .0 .0 .0 .0 .0 .1), ne-eqb _ 2 (n .0 .0 .0 .0 .0 .0 .0 .0 .1), ne-eqb _ 3 (n .0 .0 .0 .0 .0 .0 .0 .1), ne-eqb _ 4 (n .0 .0 .0 .0 .0 .0 .1), ne-eqb _ 5 (n .0 .0 .0 .0 .0 .1), ne-eqb _ 6 (n .0 .0 .0 .0 .1), ne-eqb _ 7 (n .0 .0 .0 .1), ne-eqb _ 8 (n .0 .0 .1), ne-eqb _ 9 (n .0 .1), ne-eqb _ 10 (n .1))
+    rw (ne-eqb _ 1 (n .0 .0 .0 .0 .0 .0 .0 .0 .0 .0 .0 .0 .1), ne-eqb _ 15 (n .0 .0 .0 .0 .0 .0 .0 .0 .0 .0 .0 .1), ne-eqb _ 2 (n .0 .0 .0 .0 .0 .0 .0 .0 .0 .0 .1), ne-eqb _ 3 (n .0 .0 .0 .0 .0 .0 .0 .0 .0 .1), ne-eqb _ 4 (n .0 .0 .0 .0 .0 .0 .0 .0 .1), ne-eqb _ 5 (n .0 .0 .0 .0 .0 .0 .0 .1), ne-eqb _ 6 (n .0 .0 .0 .0 .0 .0 .1), ne-eqb _ 7 (n .0 .0 .0 .0 .0 .1), ne-eqb _ 8 (n .0 .0 .0 .0 .1), ne-eqb _ 9 (n .0 .0 .0 .1), ne-eqb _ 10 (n .0 .0 .1), ne-eqb _ 16 (n .0 .1), ne-eqb _ 17 (n .1))
     (record { text = refl; after = omega arith })
 
 pub words-spec : {M : Type 1} → statement M
@@ -46,6 +46,10 @@ words-spec =
     (λ c. search needs)
     (λ c κs. rw (c .before .before .match .keys11) at (c .before .before .before .before .pre))
     (λ c. search needs)
+    (λ c κs. rw (c .before .before .match .keys12) at (c .before .before .before .before .pre))
+    (λ c. search needs)
+    (λ c κs. rw (c .before .before .match .keys13) at (c .before .before .before .before .pre))
+    (λ c. search needs)
     (λ c. rw (c .before .before .before .before .before .match .keys1) (c .before .before .word .ensures))
     (λ c. search needs)
     (λ c. rw (c .before .before .before .before .before .match .keys2) (c .before .before .word2 .ensures))
@@ -67,4 +71,8 @@ words-spec =
     (λ c. rw (c .before .before .before .before .before .match .keys10) (c .before .before .word7 .ensures))
     (λ c. search needs)
     (λ c. rw (c .before .before .before .before .before .match .keys11) (c .before .before .word8 .ensures))
-    returns-12)
+    (λ c. search needs)
+    (λ c. rw (c .before .before .before .before .before .match .keys12) (c .before .before .word9 .ensures))
+    (λ c. search needs)
+    (λ c. rw (c .before .before .before .before .before .match .keys13) (c .before .before .word10 .ensures))
+    returns-14)

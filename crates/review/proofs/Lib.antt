@@ -1,0 +1,3 @@
+pub mod Reviews
+pub mod Unique
+pub mod Alone

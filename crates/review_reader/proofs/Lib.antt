@@ -1,0 +1,4 @@
+pub mod Splits
+pub mod Taken
+pub mod Walks
+pub mod Unique

@@ -1,0 +1,4 @@
+pub mod Spellings
+pub mod Firsts
+pub mod Keys
+pub mod Lines
