@@ -11,7 +11,7 @@ use std::os::unix::process::CommandExt;
 use std::path::{Path, PathBuf};
 use std::process::{Command, Stdio};
 
-const CALLS: [&[&str]; 6] = [
+const CALLS: [&[&str]; 7] = [
     &["check", "."],
     &["check", "--json", "."],
     &["check", "--text", "."],
