@@ -14,7 +14,8 @@
      parts alone, and there is one for each part that is spelled differently, in the order of endings;
    - a mark's verdict is that of its published condition's table, and at `write` only what is written
      is replaced;
-   - the rewritten program is taken, and both programs' runs agree, in all nine values where they end.
+   - the rewritten program is taken, and both programs' runs agree, in all nine values where they end;
+   - the lines of a list that is taken, one after another, are the list.
    `fuzz/run` builds it and runs it; `host/tests/fuzz.rs` runs it on the seeds. */
 #define _DEFAULT_SOURCE
 #include "rewrites.h"
@@ -113,6 +114,7 @@ static struct region programs, others, conditions, tables, verdict_bytes, new_te
 
 /* What out-parameters hold before a call, and the words on both sides of each. */
 #define UNSET 0xa5c3e187u
+#define UNSET_SIZE (~(size_t)UNSET)
 
 static void unset(uint32_t *places, size_t count) {
     for (size_t k = 0; k < count; k++) places[k] = UNSET;
@@ -625,6 +627,36 @@ static void check_verdicts(struct text program, struct text marks, const struct 
     REQUIRE(start == marks.length && accepted == answer->accepted);
 }
 
+static uint8_t mark_line(struct text marks, uint32_t line, size_t *begin, size_t *end) {
+    size_t places[5];
+    uint8_t number;
+
+    for (size_t k = 0; k < 5; k++) places[k] = UNSET_SIZE;
+    number = rewrites_mark_line(marks.bytes, marks.length, line, &places[1], &places[3]);
+    for (size_t k = 0; k < 5; k++) REQUIRE((number == 0 && k % 2 == 1) || places[k] == UNSET_SIZE);
+    *begin = places[1];
+    *end = places[3];
+    return number;
+}
+
+/* The lines of a list of so many marks, or its refusal, whichever line is asked for. */
+static void check_lines(struct text marks, uint8_t refused, uint32_t count) {
+    const uint32_t beyond[4] = {count, 256, 65536, UINT32_MAX};
+    size_t start = 0, begin, end;
+
+    for (uint32_t j = 0; j < count; j++) {
+        REQUIRE(mark_line(marks, j, &begin, &end) == 0);
+        REQUIRE(begin == start && end > begin && end <= marks.length);
+        REQUIRE(memchr(marks.bytes + begin, 10, end - begin) == marks.bytes + end - 1);
+        start = end;
+    }
+    for (size_t k = 0; k < 4; k++) {
+        REQUIRE(mark_line(marks, beyond[k], &begin, &end) == refused);
+        if (refused == 0) REQUIRE(begin == marks.length && end == marks.length);
+    }
+    if (refused == 0) REQUIRE(start == marks.length);
+}
+
 static void check_marks(struct text program, struct text marks, uint8_t refused,
                         const uint32_t values[VARIABLES], uint32_t input, uint32_t budget) {
     static struct judgement answer, other;
@@ -641,6 +673,7 @@ static void check_marks(struct text program, struct text marks, uint8_t refused,
         return;
     }
     REQUIRE(number == 0 || number == 9 || number == 10);
+    check_lines(marks, number, number == 0 ? answer.marks : 0);
 
     /* No marks give the program back. */
     REQUIRE(judge(program, (struct text){marks.bytes, 0}, VERDICT_BYTES, TEXT_BYTES, &other) == 0);

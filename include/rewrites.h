@@ -131,6 +131,21 @@ uint8_t rewrites_judge(const uint8_t *program, size_t program_len, const uint8_t
                        size_t marks_len, uint8_t *verdicts, size_t verdicts_len, uint8_t *text,
                        size_t text_len, uint32_t *mark_count, uint32_t *accepted, uint32_t *bytes);
 
+/* Tells where a line of a list of marks lies in the list's text, so that a host can show a verdict
+   beside its mark. A list is as with rewrites_judge; line j, counted from 0, is the one whose verdict
+   fills byte j. The lines lie end to end: the first begins at 0, each ends, its byte 10 included,
+   where the next begins, and the last ends at marks_len. Takes at most 16 KiB of stack.
+
+   Returns 0, and sets
+   *begin where the line begins.
+   *end   where it ends, after its byte 10. At and beyond the number of marks both are marks_len.
+
+   Returns the number of a refusal, and keeps all:
+    9: some line of the marks is misspelled, or the last is without its byte 10.
+   10: the marks have over 256 lines. */
+uint8_t rewrites_mark_line(const uint8_t *marks, size_t marks_len, uint32_t line, size_t *begin,
+                           size_t *end);
+
 #ifdef __cplusplus
 }
 #endif

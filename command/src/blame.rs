@@ -1,7 +1,7 @@
 //! The line of a text that a refusal is about. The library answers a number alone, so it is asked
-//! about one line at a time, each in a program of plain lines; nothing is read here.
+//! about one line at a time, that of a program among plain lines; nothing is read here.
 
-use rewrites::{Refusal, REVIEW_WORDS, TEXT_BYTES, VARIABLES, VERDICT_BYTES};
+use rewrites::{mark_line, Refusal, REVIEW_WORDS, VARIABLES};
 
 /// The lines of a text, each with its byte 10 if it has one.
 pub fn lines(text: &[u8]) -> impl Iterator<Item = &[u8]> {
@@ -37,12 +37,7 @@ pub fn line_of_program(text: &[u8], refusal: Refusal) -> Option<usize> {
 
 /// The first line of a list of marks, counted from 1, that is misspelled.
 pub fn line_of_marks(text: &[u8]) -> Option<usize> {
-    let program = with_line(2, 2, b"");
-    let (mut verdicts, mut new) = ([0; VERDICT_BYTES], [0; TEXT_BYTES]);
-    let is_wrong = |line: &[u8]| {
-        let judged = rewrites::judge(&program, line, &mut verdicts, &mut new);
-        judged == Err(Refusal::MarkMisspelled)
-    };
+    let is_wrong = |line: &[u8]| mark_line(line, 0) == Err(Refusal::MarkMisspelled);
     lines(text).position(is_wrong).map(|at| at + 1)
 }
 

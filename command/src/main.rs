@@ -8,6 +8,7 @@ mod check;
 mod fault;
 mod files;
 mod folder;
+mod lines;
 mod marks;
 mod output;
 mod parts;
@@ -35,7 +36,7 @@ Exit status:
   3  output that wasn't written
 Of many folders the worst is told.";
 
-/// Shift programs: judges marks, tabulates and reviews conditions, runs
+/// Shift programs: judges marks, tabulates and reviews conditions, runs, and finds the lines of marks
 #[derive(Parser)]
 #[command(name = "rewrites", version, after_help = STATUSES)]
 struct Arguments {
@@ -57,13 +58,16 @@ enum Call {
     /// Run a program from a start
     #[command(after_help = STATUSES)]
     Run(run::Arguments),
+    /// Show where in a list the line of each mark begins and ends
+    #[command(after_help = STATUSES)]
+    Lines(lines::Arguments),
 }
 
 /// What is wrong with the arguments of a call taken together.
 fn wrong(arguments: &Arguments) -> Option<clap::Error> {
     let (name, words) = match &arguments.call {
         Call::Check(check) => ("check", check.wrong()?),
-        Call::Tabulate(_) | Call::Review(_) | Call::Run(_) => return None,
+        Call::Tabulate(_) | Call::Review(_) | Call::Run(_) | Call::Lines(_) => return None,
     };
     let mut command = Arguments::command();
     command.build();
@@ -94,6 +98,7 @@ fn answered(output: &mut Output) -> Result<Status, Unwritten> {
         Call::Tabulate(call) => call.run(output),
         Call::Review(call) => call.run(output),
         Call::Run(call) => call.run(output),
+        Call::Lines(call) => call.run(output),
     }
 }
 

@@ -9,8 +9,8 @@ use oracle::condition::Condition;
 use oracle::generate::{self, Random};
 use oracle::marks::Mark;
 use oracle::{desk, folder};
-use rewrites::{review, REVIEW_WORDS};
-use rewrites::{tabulate, Refusal, TABLE_WORDS, TEXT_BYTES, VARIABLES, VERDICT_BYTES};
+use rewrites::{mark_line, review, tabulate, Refusal, REVIEW_WORDS};
+use rewrites::{TABLE_WORDS, TEXT_BYTES, VARIABLES, VERDICT_BYTES};
 use std::ffi::OsStr;
 use std::os::unix::ffi::OsStrExt;
 use std::path::Path;
@@ -106,6 +106,22 @@ fn conditions_of_marks_are_as_by_the_oracle() {
         for (found, mark) in found.iter().zip(&list) {
             assert_eq!(found.condition().into_bytes(), mark.condition().text());
             assert_eq!((found.statement, found.text), (mark.number, mark.to_string().as_str()));
+        }
+    }
+}
+
+/// What is shown of a mark is its line in the list, without byte 10.
+#[test]
+fn texts_of_marks_are_their_lines() {
+    for mut random in cases(300) {
+        let program = generate::program(&mut random, 20);
+        let count = random.below(40);
+        let list = oracle::marks::text(&generate::marks(&mut random, &program, count));
+        let found = marks::of(&list);
+        assert_eq!(found.len(), count);
+        for (line, mark) in found.iter().enumerate() {
+            let bounds = mark_line(&list, line as u32).expect("a list that is taken");
+            assert_eq!([mark.text.as_bytes(), b"\n"].concat(), list[bounds]);
         }
     }
 }

@@ -11,20 +11,26 @@ use std::os::unix::process::CommandExt;
 use std::path::{Path, PathBuf};
 use std::process::{Command, Stdio};
 
-const CALLS: [&[&str]; 6] = [
+const CALLS: [&[&str]; 7] = [
     &["check", "."],
     &["check", "--json", "."],
     &["check", "--text", "."],
     &["tabulate", "."],
     &["review", "."],
     &["run", "."],
+    &["lines", "."],
 ];
 
 #[test]
 fn help_and_version() {
-    for words in
-        [&["--help"][..], &["-h"], &["help", "run"], &["review", "-h"], &["check", "--help"]]
-    {
+    for words in [
+        &["--help"][..],
+        &["-h"],
+        &["help", "run"],
+        &["review", "-h"],
+        &["check", "--help"],
+        &["lines", "-h"],
+    ] {
         let output = run(words);
         assert_eq!((status(&output), said(&output).as_str()), (0, ""), "{words:?}");
         assert!(printed(&output).contains("Usage: rewrites"), "{words:?}");
@@ -63,6 +69,9 @@ fn usage() {
         &["run", ".", "--budget", "-1"],
         &["run", ".", "--set", "i32=1"],
         &["run", ".", "--set", "i3"],
+        &["lines"],
+        &["lines", ".", "."],
+        &["lines", ".", "--text"],
     ] {
         let output = run_in(&example("p"), words);
         assert_eq!((status(&output), printed(&output).as_str()), (2, ""), "{words:?}");
@@ -143,6 +152,7 @@ fn readers(file: &str) -> Vec<&'static [&'static str]> {
         "check" => file == "given" || file == "marks",
         "tabulate" => file == "given" || file == "condition",
         "review" => file == "given" || file == "conditions",
+        "lines" => file == "marks",
         _ => file == "given" || file == "start",
     };
     CALLS.iter().filter(reads).copied().collect()

@@ -22,14 +22,14 @@ use std::path::Path;
 const CASES: u64 = 3_000;
 
 #[rustfmt::skip]
-const WORDS: [&str; 31] = [
-    "check", "tabulate", "review", "run", "help", ".", "a", "nowhere", "given", "--json", "--text", "--explain",
+const WORDS: [&str; 32] = [
+    "check", "tabulate", "review", "run", "lines", "help", ".", "a", "nowhere", "given", "--json", "--text", "--explain",
     "-o", "new", "--output=new", "-onew", "--condition", "E[", "--input", "-1", "2147483648", "--budget",
     "1000001", "--set", "--set=i32=1", "--", "-", "--help", "-V", "-x", "",
 ];
 
 /// The options of each call, some of them such that they are refused.
-const OPTIONS: [(&str, &[&[&str]]); 4] = [
+const OPTIONS: [(&str, &[&[&str]]); 5] = [
     (
         "check",
         &[&["--json"], &["--explain"], &["--text"], &["."], &["a"], &["nowhere"], &["-o", "new"]],
@@ -55,6 +55,7 @@ const OPTIONS: [(&str, &[&[&str]]); 4] = [
             &["--budget=1000001"],
         ],
     ),
+    ("lines", &[&["--json"]]),
 ];
 
 /// The words of a call, mostly such that it is made, at times damaged or any.

@@ -18,6 +18,8 @@ CONDITION = {"line", "condition", "table", "parts", "satisfied", "first", "state
 START = {"input", "budget", "values", "outcome"}
 ENDED = START | {"value", "steps", "kept"}
 SPENT = START | {"statement", "left"}
+LINES = {"marks", "bytes", "lines"}
+LINE = {"line", "begin", "end", "mark"}
 
 
 def has(thing, names):
@@ -100,6 +102,21 @@ def run(thing):
     return "spent at {statement}\n".format(**thing) + "".join(lines)
 
 
+def lines(thing):
+    has(thing, REPORT | LINES)
+    text, begin = "", 0
+    for at, line in enumerate(thing["lines"]):
+        has(line, LINE)
+        assert line["line"] == at + 1
+        assert line["begin"] == begin
+        begin = line["end"]
+        assert begin == line["begin"] + len(line["mark"].encode()) + 1
+        text += "{line} {begin} {end} {mark}\n".format(**line)
+    assert thing["marks"] == len(thing["lines"])
+    assert thing["bytes"] == begin
+    return text + "marks {marks} bytes {bytes}\n".format(**thing)
+
+
 def faults(thing):
     """The refusal, `refused start`, or nothing where a file wasn't read."""
     text = ""
@@ -124,11 +141,11 @@ def told(thing):
         assert thing["status"] != 0
         return refused
     assert refused == ""
-    return {"check": check, "tabulate": tabulate, "review": review, "run": run}[thing["call"]](thing)
+    return {"check": check, "tabulate": tabulate, "review": review, "run": run, "lines": lines}[thing["call"]](thing)
 
 
 described = pathlib.Path(__file__).parents[2].joinpath("docs/REFERENCE.md").read_text()
-for names in (VERDICTS, FAULT, REPORT, TOTAL, CHECK, MARK, TABULATE, ROW, REVIEW, CONDITION, ENDED, SPENT):
+for names in (VERDICTS, FAULT, REPORT, TOTAL, CHECK, MARK, TABULATE, ROW, REVIEW, CONDITION, ENDED, SPENT, LINES, LINE):
     for name in names:
         assert "`%s`" % name in described, name
 

@@ -81,11 +81,14 @@
 //! assert_eq!(answer, Ok(Judged { marks: 2, accepted: 2, bytes: 31 }));
 //! assert_eq!(text[..31], *b"read i0\nskip\ni1 := i2\nwrite i2\n");
 //! ```
+//!
+//! [`mark_line`] tells where a mark's line lies in the list, to show its verdict beside it.
 
 #![warn(missing_docs)]
 
 use std::error::Error;
 use std::fmt;
+use std::ops::Range;
 
 pub mod raw;
 
@@ -636,4 +639,50 @@ pub fn judge(
         return Err(Refusal::returned(number));
     }
     Ok(Judged { marks: mark_count, accepted, bytes })
+}
+
+/// Tells where line `line` of a list of marks, counted from 0, lies in the list: the bytes from its first
+/// to its byte 10. [`judge`] puts the line's verdict into byte `line` of the verdicts.
+///
+/// The lines lie end to end: the first begins at 0, each ends where the next begins, and the last ends at
+/// the list's length. At and beyond the number of marks the range is empty and stands there.
+///
+/// Takes at most 16 KiB of stack.
+///
+/// # Errors
+///
+/// [`Refusal::MarkMisspelled`] or [`Refusal::MarkCount`] for the list, whichever line is asked for.
+///
+/// ```
+/// use rewrites::{judge, mark_line, Refusal, Verdict, TEXT_BYTES, VERDICT_BYTES};
+///
+/// let program = b"read i0\ni1 := i0\ni1 := i2\nwrite i1\n";
+/// let marks = b"3: mark(rm, i1, i2)\n4: mark(rpl, i1, i2)\n";
+/// let mut verdicts = [0; VERDICT_BYTES];
+/// let answer = judge(program, marks, &mut verdicts, &mut [0; TEXT_BYTES])?;
+///
+/// // The marks that are refused, as they stand in the list.
+/// for line in 0..answer.marks {
+///     if verdicts[line as usize] != Verdict::Accepted.number() {
+///         assert_eq!(marks[mark_line(marks, line)?], *b"3: mark(rm, i1, i2)\n");
+///     }
+/// }
+///
+/// assert_eq!(mark_line(marks, 0), Ok(0..20));
+/// assert_eq!(mark_line(marks, 1), Ok(20..41));
+/// assert_eq!(mark_line(marks, 2), Ok(41..41));
+/// assert_eq!(mark_line(&marks[..40], 0), Err(Refusal::MarkMisspelled));
+/// # Ok::<(), Refusal>(())
+/// ```
+pub fn mark_line(marks: &[u8], line: u32) -> Result<Range<usize>, Refusal> {
+    let mut begin = 0;
+    let mut end = 0;
+    // SAFETY: the pointers come from references, so none is null, and those that are written
+    // through are the only ones to their places.
+    let number =
+        unsafe { raw::rewrites_mark_line(marks.as_ptr(), marks.len(), line, &mut begin, &mut end) };
+    if number != 0 {
+        return Err(Refusal::returned(number));
+    }
+    Ok(begin..end)
 }

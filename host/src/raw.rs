@@ -84,4 +84,18 @@ extern "C" {
         accepted: *mut u32,
         bytes: *mut u32,
     ) -> u8;
+
+    /// See [`crate::mark_line`] and the header.
+    ///
+    /// # Safety
+    ///
+    /// `marks` points to `marks_len` bytes, and may be null where that is 0. No other pointer is null.
+    /// Places that the call writes overlap no other place lent to it.
+    pub fn rewrites_mark_line(
+        marks: *const u8,
+        marks_len: usize,
+        line: u32,
+        begin: *mut usize,
+        end: *mut usize,
+    ) -> u8;
 }

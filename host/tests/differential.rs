@@ -20,6 +20,7 @@ use oracle::program::{is_kept, Expression, Operand, Operator, Program, Statement
 use oracle::review::{self, Reviewed, MOST_TABLES};
 use rewrites::{raw, FIRST_KEPT, KEPT, MOST_STEPS, VARIABLES};
 use rewrites::{REVIEW_LINES, REVIEW_WORDS, TABLE_WORDS, TEXT_BYTES, VERDICT_BYTES};
+use std::ops::Range;
 
 const CASES: u64 = 100_000;
 const SEED: u64 = 1;
@@ -1055,6 +1056,126 @@ fn judgements_are_as_by_the_oracle_and_keep_runs() {
     enough.report();
 }
 
+// Lines of marks
+
+/// The places that the call sets, with kept words between them.
+const BEGIN: usize = 0;
+const END: usize = 2;
+const LINE_PLACES: usize = 3;
+
+/// Holds the bounds of a line to the oracle's, and tells the answer.
+fn mark_line_agrees(
+    random: &mut Random,
+    case: &str,
+    list: &[u8],
+    line: u32,
+) -> Result<Range<usize>, u8> {
+    let mut asked = Text::new(random, list);
+    let mut places = Lent::new(random, LINE_PLACES, |bits| bits as usize);
+    let mut expected = places.clone();
+    let wanted = marks::mark_line(list, line);
+    if let Ok(bounds) = &wanted {
+        let places = expected.part();
+        places[BEGIN] = bounds.start;
+        places[END] = bounds.end;
+    }
+    let shown = || format!("case {case}: line {line} of marks {}", escaped(list));
+    let (list, first) = (asked.part(), places.part().as_mut_ptr());
+    // SAFETY: the pointers come from references, and the written places don't overlap.
+    let number = unsafe {
+        let (begin, end) = (first.add(BEGIN), first.add(END));
+        raw::rewrites_mark_line(list.as_ptr(), list.len(), line, begin, end)
+    };
+    assert_eq!(number, wanted.as_ref().err().copied().unwrap_or(0), "number of {}", shown());
+    places.assert_same(&expected, "places", shown);
+    asked.assert_kept("marks", shown);
+    wanted
+}
+
+/// A line of a list of so many marks, or one at or beyond its end, often with a line's low bits.
+fn line_near(random: &mut Random, count: usize) -> u32 {
+    let within = random.below(count.max(1)) as u32;
+    match random.below(16) {
+        0 => 0,
+        1 => count.saturating_sub(1) as u32,
+        2 => count as u32,
+        3 => count as u32 + 1,
+        4 => within + (1 << 8),
+        5 => within + (1 << 16),
+        6 => within + (1 << 31),
+        7 => u32::MAX,
+        8 => random.bits() as u32,
+        _ => within,
+    }
+}
+
+/// Where a line stands in a list of so many marks.
+fn line_kind(line: u32, count: usize) -> &'static str {
+    match line as usize {
+        at if at > count => "beyond",
+        at if at == count => "at the number of marks",
+        _ if count == 1 => "the only",
+        0 => "the first",
+        at if at + 1 == count => "the last",
+        _ => "within",
+    }
+}
+
+#[rustfmt::skip]
+const LINE_KINDS: [&str; 6] =
+    ["the only", "the first", "within", "the last", "at the number of marks", "beyond"];
+
+#[test]
+fn lines_of_marks_are_as_by_the_oracle() {
+    let mut refusals = Tally::new("refusals of mark_line", [9, 10]);
+    let mut counts = Tally::new("marks of a list with lines", 0..=256);
+    let mut kinds = Tally::new("lines asked for", LINE_KINDS);
+    let mut largest = Tally::new("largest line asked for", [u32::MAX]);
+    let mut lengths = Tally::new("bytes of a line", 19..=36);
+    let mut damages = damages("damages of lists with lines");
+    let mut signs = Signs::new("wrong signs of lists with lines", 9);
+    for (case, mut random) in cases("mark_line") {
+        let random = &mut random;
+        // The marks needn't fit, so the program is small.
+        let size = random.between(2, 12);
+        let program = generate::program(random, size);
+        let count = in_turn(case, EACH_COUNT, 0..=256).unwrap_or(match random.below(30) {
+            0 => random.between(250, 258),
+            _ => random.below(16),
+        });
+        let mut list = marks::text(&generate::marks(random, &program, count));
+        let mut sign = None;
+        if !is_whole(case) {
+            match random.below(10) {
+                0..=2 => damaged(random, &mut list, &mut damages),
+                3 => list = generate::mark_soup(random),
+                4 => sign = wrongly_signed(random, &mut list),
+                _ => {}
+            }
+        }
+        let line = line_near(random, count);
+        let answer = mark_line_agrees(random, &case.to_string(), &list, line);
+        signs.met(sign, answer.as_ref().err().copied().unwrap_or(0));
+        match answer {
+            Err(number) => refusals.met(number),
+            Ok(bounds) => {
+                let count = marks::read(&list).expect("a list with lines is taken").len();
+                counts.met(count);
+                kinds.met(line_kind(line, count));
+                largest.met(line);
+                lengths.met(bounds.len());
+            }
+        }
+    }
+    refusals.report();
+    counts.report();
+    kinds.report();
+    largest.report();
+    lengths.report();
+    damages.report();
+    signs.met.report();
+}
+
 // Whole ranges of cases
 
 #[test]
@@ -1233,6 +1354,9 @@ fn marks_edited_by_one_byte_are_as_by_the_oracle() {
     let below_zero = b"4: mark(rpl, i2, -2147483648)\n3: mark(rm, i2, -7 - -40)\n";
     let rooms = (VERDICT_BYTES, TEXT_BYTES);
     for text in edits(list).chain(edits(below_zero)) {
+        for line in [0, 1, 2, 3, u32::MAX] {
+            let _ = mark_line_agrees(random, "edit", &text, line);
+        }
         let answer = judgement_agrees(random, "edit", P.as_bytes(), &text, rooms);
         numbers.met(answer.as_ref().err().copied().unwrap_or(0));
         if let Ok(judged) = answer {

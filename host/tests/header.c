@@ -285,7 +285,57 @@ static int below_zero_answers(void) {
     return 0;
 }
 
+/* Where the lines of a list lie. */
+static int mark_line_answers(void) {
+    uint8_t (*const mark_line)(const uint8_t *, size_t, uint32_t, size_t *, size_t *) =
+        rewrites_mark_line;
+    static const char list[] =
+        "4: mark(rpl, i2, 7)\n3: mark(rm, i2, 7)\n4: mark(rpl, i1, i0)\n"
+        "6: mark(rm, i0, 1)\n9: mark(rm, i2, 7)\n";
+    static const size_t bounds[6] = {0, 20, 39, 60, 79, 98};
+    static const uint32_t beyond[6] = {5, 6, 256, 65536, 0x80000000, 0xffffffff};
+    static const char one[] = "2147483647: mark(rm, i31, 2147483647 + 2147483647)\n";
+    static uint8_t many[257 * (sizeof one - 1)];
+    const uint8_t *m = (const uint8_t *)list;
+    const size_t size = strlen(list), length = sizeof one - 1, mark = (size_t)-1 / 3;
+    size_t places[5]; /* begin and end, with a word on both sides of each */
+    size_t j, k;
+
+    for (k = 0; k < 257; k++) memcpy(many + k * length, one, length);
+    for (k = 0; k < 5; k++) places[k] = mark + k;
+    CHECK(mark_line(m, size - 1, 0, &places[1], &places[3]) == 9);
+    CHECK(mark_line(m, 1, 0xffffffff, &places[1], &places[3]) == 9);
+    CHECK(mark_line(many, 257 * length, 0, &places[1], &places[3]) == 10);
+    CHECK(mark_line(many, 257 * length, 0xffffffff, &places[1], &places[3]) == 10);
+    CHECK(mark_line(many, 257 * length - 1, 0, &places[1], &places[3]) == 9);
+    for (k = 0; k < 5; k++) CHECK(places[k] == mark + k);
+
+    for (j = 0; j < 5; j++) {
+        CHECK(mark_line(m, size, (uint32_t)j, &places[1], &places[3]) == 0);
+        CHECK(places[1] == bounds[j] && places[3] == bounds[j + 1]);
+    }
+    for (j = 0; j < 6; j++) {
+        places[1] = places[3] = mark;
+        CHECK(mark_line(m, size, beyond[j], &places[1], &places[3]) == 0);
+        CHECK(places[1] == size && places[3] == size);
+        CHECK(mark_line(NULL, 0, beyond[j], &places[1], &places[3]) == 0);
+        CHECK(places[1] == 0 && places[3] == 0);
+    }
+    for (j = 0; j <= 256; j++) {
+        CHECK(mark_line(many, 256 * length, (uint32_t)j, &places[1], &places[3]) == 0);
+        CHECK(places[1] == j * length);
+        CHECK(places[3] == (j < 256 ? j + 1 : j) * length);
+    }
+    for (k = 0; k < 5; k += 2) CHECK(places[k] == mark + k);
+
+    /* The places may stand in the other order. */
+    CHECK(mark_line(m, size, 1, &places[3], &places[1]) == 0);
+    CHECK(places[3] == 20 && places[1] == 39);
+    return 0;
+}
+
 int main(void) {
     return run_answers() || kept_answers() || tabulate_answers() || review_answers() ||
-           full_review_answers() || judge_answers() || below_zero_answers();
+           full_review_answers() || judge_answers() || below_zero_answers() ||
+           mark_line_answers();
 }

@@ -1,6 +1,6 @@
 /* Prints how many bytes of stack the deepest calls take. Each runs in a thread whose stack was filled
    with a pattern before; what the thread alone overwrites is not counted. Exits with 0 where `run`,
-   `judge`, `tabulate` and `review` take no more than the bytes given as arguments. */
+   `judge`, `tabulate`, `review` and `mark_line` take no more than the bytes given as arguments. */
 #define _POSIX_C_SOURCE 200112L
 #include "rewrites.h"
 
@@ -50,6 +50,12 @@ static void *judge(void *unused) {
     return unused;
 }
 
+static void *mark_line(void *unused) {
+    static size_t begin, end;
+    number = rewrites_mark_line(marks, marks_len, 255, &begin, &end);
+    return unused;
+}
+
 /* The bytes of its stack that a thread overwrites. */
 static size_t overwritten(void *(*body)(void *)) {
     pthread_attr_t attributes;
@@ -94,11 +100,11 @@ int main(int count, char **arguments) {
         {"EX ", "true", "", 340, 8}, {"!", "true", "", 1020, 8},  {"E[", "", "", 512, 7},
         {"(", "true", "", 1020, 7},  {"(", "", "", 1024, 7},
     };
-    size_t most[4] = {ROOM, ROOM, ROOM, ROOM};
+    size_t most[5] = {ROOM, ROOM, ROOM, ROOM, ROOM};
     size_t alone = overwritten(nothing), bytes, k;
     int fails = 0, line;
 
-    for (k = 0; k < 4 && k + 1 < (size_t)count; k++) most[k] = strtoul(arguments[k + 1], NULL, 10);
+    for (k = 0; k < 5 && k + 1 < (size_t)count; k++) most[k] = strtoul(arguments[k + 1], NULL, 10);
 
     /* 256 lines: each goes to the line before. */
     program_len = sprintf((char *)program, "read i31\n");
@@ -118,6 +124,9 @@ int main(int count, char **arguments) {
     bytes = overwritten(judge) - alone;
     printf("%7lu bytes of stack: judge, 256 marks\n", (unsigned long)bytes);
     fails += number != 0 || bytes > most[1];
+    bytes = overwritten(mark_line) - alone;
+    printf("%7lu bytes of stack: mark_line, the last of 256 marks\n", (unsigned long)bytes);
+    fails += number != 0 || bytes > most[4];
     for (k = 0; k < sizeof cases / sizeof *cases; k++) {
         condition_len = 0;
         put(cases[k].open, cases[k].depth);

@@ -2,6 +2,7 @@
 
 use std::collections::HashMap;
 use std::fmt;
+use std::ops::Range;
 
 use crate::condition::{Checker, Condition};
 use crate::program::{expression, number, variable, Expression, Operand, Program, Statement};
@@ -209,4 +210,14 @@ pub fn judge(
     text[..new_text.len()].copy_from_slice(&new_text);
     let accepted = found.iter().filter(|&&verdict| verdict == 0).count();
     Ok((marks.len() as u32, accepted as u32, new_text.len() as u32))
+}
+
+/// The call: where line `line` of a list lies, counted from 0, its byte 10 included; or the refusal, 9 or 10. A line begins
+/// where the text of the marks before it ends, and ends where the next begins, so at and beyond the number of marks both are
+/// the text's length.
+pub fn mark_line(list: &[u8], line: u32) -> Result<Range<usize>, u8> {
+    let marks = read(list)?;
+    let begin_of = |line: usize| text(&marks[..line.min(marks.len())]).len();
+    let line = line as usize;
+    Ok(begin_of(line)..begin_of(line.saturating_add(1)))
 }

@@ -12,6 +12,7 @@ use Rattle.program.specs.Reading.{statements}
 use Rattle.program.proofs.Lengths.{text-fits}
 use Rattle.marks.specs.Reading as marks
 use Rattle.marks.specs.declared.Mark.{Mark}
+use Rattle.marks.proofs.Walk.{lined}
 use Rattle.verdicts.specs.Judging.{VerdictsOf, SomeJudged, RewritingOf}
 use Rattle.verdicts.specs.declared.Rewriting.{Rewriting}
 use Rattle.demand.specs.Demand.{Demand3}
@@ -40,6 +41,7 @@ module _ {t u : List ℕ} {P : List Statement} {ms : List Mark} (p : Taken t P) 
           room = room;
           program = p;
           marks = m;
+          lined = lined (m .spells);
           counted = n;
           taken = w .counted;
           judged = j .judged;

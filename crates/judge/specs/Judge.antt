@@ -8,6 +8,7 @@ use Rattle.language.specs.declared.Statement.{Statement}
 use Rattle.statement_writer.specs.Writing.{Put}
 use Rattle.program.specs.Program.{text, text-room, Taken}
 use Rattle.marks.specs.Reading as marks
+use Rattle.marks.specs.Reading.{Lined}
 use Rattle.marks.specs.declared.Mark.{Mark}
 use Rattle.rewriting.specs.Verdicts.{Verdicts, acceptedCount, Rewritten}
 use Rattle.demand.specs.Demand.{Demand3}
@@ -42,6 +43,8 @@ pub record JudgeFinished (t u : List ℕ) (o q : Lent) (count accepted bytes : �
   pub room : Room (o .verdicts) (o .new)
   pub program : Taken t P
   pub marks : marks.Taken u ms
+  -- document 02, Wish 4: each mark has its line, so byte j is the verdict of a named part of the text u
+  pub lined : Lined u ms
   -- "The answer gives the number of marks, of accepted marks and of bytes of new text."
   pub counted : count ≡ length ms
   pub taken : accepted ≡ acceptedCount ms (q .verdicts)

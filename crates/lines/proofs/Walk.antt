@@ -4,10 +4,10 @@ use mathlib.Core.List.{List, [], _∷_, _++_}
 use Prim.Native.Nat.{ℕ, suc, _+_, _-_, _≤_, _<_}
 use native.Mathlib.Omega.{arith}
 use native.Mathlib.Numerals.{add-one}
-use lib.ListN.{length, take, drop, getD, length-append, length-drop}
-use lib.Seq.{drop-cons}
+use lib.ListN.{length, take, drop, getD, length-append, length-drop, take-append-drop}
+use lib.Seq.{drop-cons, drop-append-seam, take-all}
 use Rattle.lines.specs.Lines.{text, Spells, LineOf, NoLine}
-use Rattle.lines.proofs.Texts.{text-parts, valid-at, Unambiguous}
+use Rattle.lines.proofs.Texts.{text-append, text-parts, text-take, valid-at, Unambiguous}
 
 module _ {A : Type 0} (spell : A → List ℕ) (Valid : A → Type 0) where
   -- line j of the list xs, counted from 0, begins at `at` of the text t; after the last line, j is the number of lines
@@ -88,3 +88,25 @@ module _ {A : Type 0} {spell : A → List ℕ} {Valid : A → Type 0} where
 
         pub line-next : Begins spell Valid t xs (j + 1) k
         line-next = record { spells = b .spells; rest = rw add-one (same-line x .1); upto = let h = line-inside in omega arith; within = l .within }
+
+-- ---- where the lines of a text lie
+
+module _ {A : Type 0} {spell : A → List ℕ} {Valid : A → Type 0} {t : List ℕ} {xs : List A} (s : Spells spell Valid t xs) where
+  -- the text from where the first j lines end
+  rest-at : (j : ℕ) → drop (length (text spell (take j xs))) t ≡ text spell (drop j xs)
+  rest-at j =
+      ap (drop (length (text spell (take j xs)))) (s .lines ∙ ap (text spell) (sym (take-append-drop j xs)) ∙ text-append spell (take j xs) (drop j xs))
+      ∙ drop-append-seam (text spell (take j xs)) (text spell (drop j xs))
+
+  pub line-at : (d : A) (j : ℕ) → j < length xs → LineOf spell Valid t (length (text spell (take j xs))) (getD xs j d) (length (text spell (take (suc j) xs)))
+  unfolding text
+  line-at d j h =
+      record {
+        stands = rest-at j ∙ ap (text spell) (drop-cons xs j d h) ∙ ap (λ (r : List ℕ). spell (getD xs j d) ++ 10 ∷ r) (sym (rest-at (suc j)));
+        within = omega (arith, text-take spell xs (suc j), ap length (s .lines));
+        valid = valid-at Valid xs j d (s .valid) h;
+      }
+
+  -- all lines end where the text does
+  pub lines-end : (j : ℕ) → length xs ≤ j → length (text spell (take j xs)) ≡ length t
+  lines-end j h = ap (λ (ys : List A). length (text spell ys)) (take-all j xs h) ∙ sym (ap length (s .lines))

@@ -1,15 +1,17 @@
 -- Which refusal a list of marks gets, and what it means that a line and that a list were read right.
 use mathlib.Core.Path.{_≡_}
 use mathlib.Core.List.{List}
-use Prim.Native.Nat.{ℕ, _≤_, _<_}
-use lib.ListN.{length, drop}
+use Prim.Native.Nat.{ℕ, suc, _≤_, _<_}
+use lib.ListN.{length, take, drop}
 use Rattle.lines.specs.Lines as lines
-use Rattle.marks.specs.Marks.{spellMark, ValidMark, Spells}
+use Rattle.marks.specs.Marks.{spellMark, ValidMark, text, Spells, markAt}
 use Rattle.marks.specs.declared.Mark.{Mark}
 use Rattle.marks.specs.declared.Refusal.{Refusal}
 use Rattle.marks.specs.declared.Refusal.the-variants.{Misspelled, LineCount}
 use Rattle.marks.specs.declared.Checked.{Checked}
 use Rattle.marks.specs.declared.Checked.the-variants as checked
+use Rattle.marks.specs.declared.Span.{Span}
+use Rattle.marks.specs.declared.Span.the-variants as span
 use Rattle.marks.specs.declared.read.MarkRead.{MarkRead}
 use Rattle.marks.specs.declared.read.MarkRead.the-variants as markRead
 
@@ -37,7 +39,26 @@ pub record Taken (t : List ℕ) (ms : List Mark) : Type 0 where
   pub spells : Spells t ms
   pub few : length ms ≤ most
 
--- each answer, and what it says of the text: n is the number of marks
+-- document 02, Wish 4: "where in that text the line that spells it begins and ends". Line j, counted from 0, begins where those before it end, and
+-- ends, its byte 10 included, where the next begins; at and beyond the number of marks both are the text's length
+abbrev pub beginOf : List Mark → ℕ → ℕ
+beginOf ms j = length (text (take j ms))
+
+abbrev pub endOf : List Mark → ℕ → ℕ
+endOf ms j = beginOf ms (suc j)
+
+-- "the lines following without a gap from the first byte to the last"
+pub record Lined (t : List ℕ) (ms : List Mark) : Type 0 where
+  pub first : beginOf ms 0 ≡ 0
+  pub line : (j : ℕ) → j < length ms → lines.LineOf spellMark ValidMark t (beginOf ms j) (markAt ms j) (endOf ms j)
+  pub last : beginOf ms (length ms) ≡ length t
+
+-- each answer, and what it says of the text: n is the number of marks, and each has its line
 abbrev pub ListRead : List ℕ → Checked → Type 0
-ListRead t (checked.Taken n) = (ms : List Mark) × Taken t ms × (n ≡ length ms)
+ListRead t (checked.Taken n) = (ms : List Mark) × Taken t ms × (n ≡ length ms) × Lined t ms
 ListRead t (checked.Refused r) = Refused t r
+
+-- the same for one line: it begins at b and ends at e
+abbrev pub SpanRead : List ℕ → ℕ → Span → Type 0
+SpanRead t j (span.Found b e) = (ms : List Mark) × Taken t ms × Lined t ms × (b ≡ beginOf ms j) × (e ≡ endOf ms j)
+SpanRead t j (span.Refused r) = Refused t r

@@ -27,6 +27,12 @@ pub enum Checked {
     Refused(Refusal),
 }
 
+// Where a line of a list that is taken begins and ends, its byte 10 included, or why the list is not.
+pub enum Span {
+    Found(usize, usize),
+    Refused(Refusal),
+}
+
 pub fn number_of(r: Refusal) -> u8
     ensures { λ n. ⌜ n ≡ number r ⌝ }
 {

@@ -1,14 +1,17 @@
 // The readers of marks: each takes what stands at a position of a text, and answers the position after it.
 ghost use mathlib.Core.Path.{_≡_};
+ghost use mathlib.Core.List.{List};
 ghost use Prim.Native.Nat.{_≤_};
 ghost use lib.ListN.{length, drop};
 ghost use Rattle.tokens.specs.Parsing.{parsedVariable, variableEnd};
-ghost use Rattle.marks.specs.Reading.{MarkLineRead, ListRead};
+ghost use Rattle.marks.specs.Reading.{beginOf, Taken, MarkLineRead, ListRead, SpanRead};
+ghost use Rattle.marks.specs.declared.Mark.{Mark as MarkOf};
 ghost use Rattle.marks.specs.Parsing.{parseFront, parseRm, parseRpl, parseMark, parseMarkLine, parsedMark, markEnd};
 use crate::Checked;
 use crate::MOST;
 use crate::Mark;
 use crate::Refusal;
+use crate::Span;
 use statement_reader::ExpressionRead;
 use statement_reader::OperandRead;
 use tokens::NumberRead;
@@ -125,4 +128,39 @@ pub fn check(s: &[u8]) -> Checked
         return Checked::Refused(Refusal::LineCount);
     }
     Checked::Taken(count as u32)
+}
+
+// Where line j of a list that is taken begins, or its end where there is none: each line is read where it stands.
+fn begin_of(s: &[u8], j: usize) -> usize
+    ensures { λ r. ⌜ ((ms : List MarkOf) → Taken (now (s .entry)) ms → r ≡ beginOf ms j) ⌝ }
+{
+    let mut i: usize = 0;
+    let mut at: usize = 0;
+    while i < j {
+        if s.len() <= at {
+            return at;
+        }
+        let MarkRead::Found(_, k) = line(s, at) else {
+            return at;
+        };
+        i += 1;
+        at = k;
+    }
+    at
+}
+
+// Where line j, counted from 0, begins and ends, or the first refusal that applies to the list.
+pub fn span(s: &[u8], j: u32) -> Span
+    ensures { λ r. ⌜ SpanRead (now (s .entry)) j r ⌝ }
+{
+    let checked = check(s);
+    match checked {
+        Checked::Refused(refusal) => Span::Refused(refusal),
+        Checked::Taken(_) => {
+            let at = j as usize;
+            let begin = begin_of(s, at);
+            let end = begin_of(s, at + 1);
+            Span::Found(begin, end)
+        }
+    }
 }

@@ -6,6 +6,9 @@ use lib.IntN.{ℤ}
 use Rattle.machine.specs.declared.Answer.{Answer}
 use Rattle.machine.specs.declared.Answer.the-variants.{Ended, Spent}
 use Rattle.run.specs.Run.{RunAnswers}
+use Rattle.mark_line.specs.MarkLine.{MarkLineAnswers}
+use Rattle.mark_line.specs.declared.MarkLineAnswer.{MarkLineAnswer}
+use Rattle.mark_line.specs.declared.MarkLineAnswer.the-variants as mark-line
 use Rattle.judge.specs.Judge.{Lent, JudgeAnswers}
 use Rattle.judge.specs.declared.JudgeAnswer.{JudgeAnswer}
 use Rattle.judge.specs.declared.JudgeAnswer.the-variants as judge
@@ -111,3 +114,19 @@ pub record ReviewExported (t u old new : List ℕ) (r : ℕ) (o q : ReviewPlaces
   pub beside : Told
   pub answers : ReviewAnswers t u old new answer beside
   pub returned : ReviewReturned answer beside r o q
+
+-- the places lent to `rewrites_mark_line`
+pub record MarkLinePlaces : Type 0 where
+  pub begin : ℕ
+  pub end : ℕ
+
+-- 0 is a result, which sets both; any other number is the refusal, which keeps both
+abbrev pub MarkLineReturned : MarkLineAnswer → ℕ → MarkLinePlaces → MarkLinePlaces → Type 0
+MarkLineReturned (mark-line.Refused n) r o q = (r ≡ n) × (q ≡ o)
+MarkLineReturned (mark-line.Found b e) r o q = (r ≡ 0) × (q ≡ record { begin = b; end = e })
+
+-- the number and the places are those of the one answer of `mark_line`
+pub record MarkLineExported (u : List ℕ) (j r : ℕ) (o q : MarkLinePlaces) : Type 0 where
+  pub answer : MarkLineAnswer
+  pub answers : MarkLineAnswers u j answer
+  pub returned : MarkLineReturned answer r o q

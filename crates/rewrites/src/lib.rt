@@ -1,5 +1,5 @@
 // The calls for C and Rust hosts: include/rewrites.h declares them.
-ghost use Rattle.rewrites.specs.Exports.{RunExported, TabulateExported, JudgeExported};
+ghost use Rattle.rewrites.specs.Exports.{RunExported, TabulateExported, JudgeExported, MarkLineExported};
 ghost use mathlib.Core.Path.{_≡_};
 ghost use Prim.Native.Nat.{_≤_};
 ghost use lib.ListN.{length};
@@ -9,6 +9,7 @@ use judge::JudgeAnswer;
 use language::KEPT;
 use machine::Answer;
 use machine::VALUES;
+use mark_line::MarkLineAnswer;
 use review::ReviewAnswer;
 use run::RunAnswer;
 use sharing::MOST_LINES;
@@ -145,6 +146,26 @@ pub extern "C" fn rewrites_review(
             copy(&first_of, size, first);
             *tables = m;
             *lines = n;
+            0
+        }
+    }
+}
+
+#[no_mangle]
+pub extern "C" fn rewrites_mark_line(
+    marks: &[u8],
+    line: u32,
+    begin: &mut usize,
+    end: &mut usize,
+) -> u8
+    ensures { λ r. ⌜ MarkLineExported (now (marks .entry)) line r (record { begin = now (begin .entry); end = now (end .entry) }) (record { begin = now (begin .exit); end = now (end .exit) }) ⌝ }
+{
+    let answer = mark_line::mark_line(marks, line);
+    match answer {
+        MarkLineAnswer::Refused(number) => number,
+        MarkLineAnswer::Found(b, e) => {
+            *begin = b;
+            *end = e;
             0
         }
     }

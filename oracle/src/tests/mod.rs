@@ -4,6 +4,7 @@ mod constants;
 mod document;
 mod generated;
 mod kept;
+mod mark_lines;
 mod naive;
 mod open_points;
 mod review;

@@ -20,7 +20,7 @@ program-taken c = rw (c .enum-told .given .1) at (c .before .before .read .ensur
 
 -- and the list of marks
 marks-taken : (c : tie.After-checked2) → (ms : List Mark) × marks.Taken (c .before .before .before .before .before .before .before .before .before .before .before .before .before .args .marks .now) ms × (c .checked2 .given .0 .0 ≡ length ms)
-marks-taken c = rw (c .checked2 .given .1) at (c .before .before .check .ensures)
+marks-taken c = let told = rw (c .checked2 .given .1) at (c .before .before .check .ensures) in (told .0, told .1, told .2)
 
 returns : tie.Need-returns
 returns c = (inl (inl (c .if1 .taken), refl), refl)

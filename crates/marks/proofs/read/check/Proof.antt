@@ -3,7 +3,7 @@ use borrow.Author.Needs.{needs}
 use Rattle.lines.proofs.Reading.{SoFar, none-yet, one-more, no-lines, whole}
 use Rattle.marks.specs.Marks.{spellMark, ValidMark}
 use Rattle.marks.proofs.Spelling.{marks-unambiguous}
-use Rattle.marks.proofs.Walk.{no-line, line-of, line-further}
+use Rattle.marks.proofs.Walk.{no-line, line-of, line-further, lined}
 use lib.ListN.{length}
 use native.Mathlib.Omega.{arith}
 use Prim.Native.Nat.{_-_}
@@ -37,7 +37,10 @@ returns-2 : tie.Need-returns-2 Inv-loop μ-loop
 returns-2 c = let i = c .before .before .loop .inv in (i .read, whole i (c .before .loop-test .left), omega (arith, i .counted))
 
 returns-3 : tie.Need-returns-3 Inv-loop μ-loop
-returns-3 c = let i = c .before .before .loop .inv in (i .read, record { spells = whole i (c .before .loop-test .left); few = omega (arith, i .counted) }, i .counted)
+returns-3 c =
+    let i = c .before .before .loop .inv in
+    let s = whole i (c .before .loop-test .left) in
+    (i .read, record { spells = s; few = omega (arith, i .counted) }, i .counted, lined s)
 
 pub check-spec : {M : Type 1} → statement M
 check-spec =
