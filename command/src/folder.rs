@@ -2,7 +2,7 @@
 
 use crate::fault::Fault;
 use crate::files::{self, shown, Text, Unread};
-use crate::output::{reason, Output};
+use crate::output::{reason, Output, Unwritten};
 use crate::status::Status;
 use serde::Serialize;
 use std::fs;
@@ -100,5 +100,23 @@ impl<'a> Folder<'a> {
     pub fn report<A>(&self, call: &'static str, answer: Option<A>) -> Report<'_, A> {
         let Folder { name, status, faults, .. } = self;
         Report { call, folder: name, status: *status, faults, answer }
+    }
+
+    /// Says what went wrong, and prints the answer: with `json` as an object, else its text where there is one.
+    pub fn print<A: Serialize>(
+        &self,
+        call: &'static str,
+        json: bool,
+        answer: Option<A>,
+        text: impl Fn(&A) -> String,
+        output: &mut Output,
+    ) -> Result<Status, Unwritten> {
+        self.say(output);
+        if json {
+            output.print_json(&self.report(call, answer))?;
+        } else if let Some(answer) = answer {
+            output.print(text(&answer).as_bytes())?;
+        }
+        Ok(self.status)
     }
 }

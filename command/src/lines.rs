@@ -75,12 +75,6 @@ impl Arguments {
     pub fn run(&self, output: &mut Output) -> Result<Status, Unwritten> {
         let mut folder = Folder::new(&self.folder);
         let answer = self.answer(&mut folder);
-        folder.say(output);
-        if self.json {
-            output.print_json(&folder.report("lines", answer))?;
-        } else if let Some(answer) = answer {
-            output.print(answer.text().as_bytes())?;
-        }
-        Ok(folder.status)
+        folder.print("lines", self.json, answer, |answer| answer.text(), output)
     }
 }

@@ -135,12 +135,6 @@ impl Arguments {
     pub fn run(&self, output: &mut Output) -> Result<Status, Unwritten> {
         let mut folder = Folder::new(&self.folder);
         let answer = self.outcome(&mut folder);
-        folder.say(output);
-        if self.json {
-            output.print_json(&folder.report("run", answer))?;
-        } else if let Some(answer) = answer {
-            output.print(answer.ending.text().as_bytes())?;
-        }
-        Ok(folder.status)
+        folder.print("run", self.json, answer, |answer| answer.ending.text(), output)
     }
 }
