@@ -25,7 +25,7 @@ use Rattle.lockstep.specs.Rules.{IsVariable, Takes, Fits, published}
 use Rattle.rewriting.specs.Verdicts.{number, Inside, Named, place, Judged}
 use Rattle.rewriting.specs.Verdicts as rewriting
 use Rattle.rewriting.specs.declared.Verdict.{Verdict}
-use Rattle.rewriting.specs.declared.Verdict.the-variants.{Accepted, Missing, Repeated, Unfit, Unmet}
+use Rattle.rewriting.specs.declared.Verdict.the-variants.{Accepted, Missing, Repeated, Unfit, MayFault, Unmet}
 use Rattle.cases.proofs.Atoms.{decides-or, decides-and, decides-leb, shows, shows-decides, holds, holds-decides}
 use Rattle.cases.proofs.Label.{label, labelled}
 

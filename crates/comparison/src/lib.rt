@@ -136,6 +136,17 @@ pub fn steps(
                 to = line(out, to, k, place, s, t, &*values, &*others);
                 place = n;
             }
+            Next::Fault(_) => {
+                to = line(out, to, k, place, s, t, &old, &other);
+                *values = old;
+                *others = other;
+                return Progress {
+                    bytes: to,
+                    at: place,
+                    done: k,
+                    ended: true,
+                };
+            }
             Next::Finish(_) => {
                 to = line(out, to, k, place, s, t, &old, &other);
                 *values = old;

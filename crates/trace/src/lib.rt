@@ -145,6 +145,15 @@ pub fn steps(
                 *values = new;
                 place = t;
             }
+            Next::Fault(_) => {
+                to = line(out, to, k, place, s, &*values, &*values);
+                return Progress {
+                    bytes: to,
+                    at: place,
+                    done: k,
+                    ended: true,
+                };
+            }
             Next::Finish(_) => {
                 to = line(out, to, k, place, s, &*values, &*values);
                 return Progress {

@@ -2,8 +2,12 @@
 use native.Mathlib.Omega.{arith}
 use borrow.Author.Tests.{eq-eqb, ne-eqb}
 use borrow.Author.Needs.{needs}
+use Rattle.machine.proofs.Quotient.{divisor-positive}
 use Rattle.machine.proofs.apply_operator.Statement.{statement}
 use Rattle.machine.proofs.apply_operator.Tie as tie
+
+divide-requires : tie.Need-divide-requires
+divide-requires c κs = divisor-positive _ (rw (c .enum-told6 .given .1) at (c .before .before .pre))
 
 returns : tie.Need-returns
 returns c = rw (c .before .enum-told .given .1) (c .wrapping-add-u32 .ensures)
@@ -26,6 +30,9 @@ returns-6 c = rw (c .before .enum-told5 .given .1) (rw (eq-eqb _ _ (c .if2 .take
 returns-7 : tie.Need-returns-7
 returns-7 c = rw (c .before .enum-told5 .given .1) (rw (ne-eqb _ _ (c .if2 .left)))
 
+returns-8 : tie.Need-returns-8
+returns-8 c = rw (c .before .enum-told6 .given .1) (c .divide .ensures)
+
 pub apply-operator-spec : {M : Type 1} → statement M
 apply-operator-spec =
     tie.close
@@ -39,10 +46,13 @@ apply-operator-spec =
     (λ c. search needs)
     (λ c κs. search needs)
     (λ c. search needs)
+    (λ c. search needs)
+    divide-requires
     returns
     returns-2
     returns-3
     returns-4
     returns-5
     returns-6
-    returns-7)
+    returns-7
+    returns-8)
