@@ -40,7 +40,7 @@ operand-self (Constant n) x vs e = absurd e
 -- what can't fault gives a value
 pub harmless-gives : (vs : List ℕ) (e : Expression) → Harmless e → (v : ℕ) × (value vs e ≡ Value v)
 harmless-gives vs (Single a) h = (operandValue vs a, refl)
-harmless-gives vs (Binary a o b) h = (apply o (operandValue vs a) (operandValue vs b), ap (λ (x : Bool). given x _) (safe-operator o b h))
+harmless-gives vs (Binary a o b) h = let v = apply o (operandValue vs a) (operandValue vs b) in (v, ap (λ (x : Bool). given x v) (safe-operator o b h))
   where
     safe-operator : (o : Operator) (b : Operand) → Safe o b → faults o (operandValue vs b) ≡ false
     safe-operator Add b h = refl

@@ -25,7 +25,7 @@ use program::Program;
 pub const VALUES: usize = language::VARIABLES as usize;
 
 // What an expression gives.
-enum Evaluated {
+pub enum Evaluated {
     Value(u32),
     Fault,
 }
