@@ -45,11 +45,11 @@ fn fault(out: &mut [u8], at: usize, n: u32, k: u32) -> usize
     requires { ⌜ at + fault-room ≤ length (now out) ⌝ }
     ensures { λ r. ⌜ Put (now (out .entry)) at (faultLine n k) (now (out .exit)) r × (r ≤ at + fault-room) ⌝ }
 {
-    let k1 = statement_writer::word(out, at, b"fault at ");
-    let k2 = statement_writer::number(out, k1, n);
-    let k3 = statement_writer::word(out, k2, b" steps ");
-    let k4 = statement_writer::number(out, k3, k);
-    statement_writer::byte(out, k4, 10)
+    let told = statement_writer::word(out, at, b"fault at ");
+    let there = statement_writer::number(out, told, n);
+    let after = statement_writer::word(out, there, b" steps ");
+    let end = statement_writer::number(out, after, k);
+    statement_writer::byte(out, end, 10)
 }
 
 // `spent at 4`

@@ -46,10 +46,10 @@ pub extern "C" fn rewrites_run(
                     *kept = eight;
                     0
                 }
-                Answer::Fault(n, k) => {
+                Answer::Fault(n, taken) => {
                     *ended = 2;
                     *statement = n;
-                    *steps = k;
+                    *steps = taken;
                     0
                 }
                 Answer::Spent(n) => {
