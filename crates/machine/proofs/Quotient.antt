@@ -66,8 +66,3 @@ bits-quotient a b f g e = quot-fits (toZ w32 a) (toZ w32 b) (sfits-toZ {w = w32}
     not-end p q =
         let h = rw (least-bits a f p, minus-one-bits b g q) at e in
         let z : _≡_ {A = Bool} true false = h in let y : _≡_ {A = ℕ} 0 1 = cc in omega arith
-
--- a divisor on which no division faults
-pub divisor-positive : (b : ℕ) → eqb b 0 ≡ false → 0 < b
-divisor-positive zero e = absurd (let z : _≡_ {A = Bool} true false = e in let w : _≡_ {A = ℕ} 0 1 = cc in omega arith)
-divisor-positive (suc b) e = zero-lt-suc b

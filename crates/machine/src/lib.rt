@@ -4,14 +4,14 @@ ghost use Prim.Native.Nat.{_*_, _%_, _^_, _<_, _+_};
 ghost use lib.ListN.{length};
 ghost use mir.Syntax.{w32};
 ghost use mir.Val.{toZ, ofZ};
-ghost use mathlib.Core.Bool.{false, _&&_};
+ghost use mathlib.Core.Bool.{_&&_};
 ghost use lib.Dec.{eqb};
 ghost use lib.Signed.{ltZ, quotZ};
 ghost use Rattle.language.specs.Spelling.{ValidOperand, ValidExpression, Valid};
 ghost use Rattle.program.specs.Program.{most, Targets, WellFormed};
 ghost use Rattle.program.specs.Reading.{statements};
 ghost use Rattle.language.specs.Kept.{kept-count, keptOf};
-ghost use Rattle.machine.specs.Machine.{apply, faults, operandValue, value, perform};
+ghost use Rattle.machine.specs.Machine.{apply, faults, given as givenBy, operandValue, value, perform};
 ghost use Rattle.machine.specs.Answer.{stateOf, Answers};
 use language::Expression;
 use language::FIRST_KEPT;
@@ -112,31 +112,34 @@ fn divide(a: u32, b: u32) -> u32
     bits_of(q)
 }
 
-// Whether the operator faults on the right operand's value.
-fn is_fault(o: Operator, b: u32) -> bool
-    ensures { λ r. ⌜ r ≡ faults o b ⌝ }
+// What the operator gives: a fault where it divides by zero.
+fn apply_operator(o: Operator, a: u32, b: u32) -> Evaluated
+    ensures { λ r. ⌜ r ≡ givenBy (faults o b) (apply o a b) ⌝ }
 {
     match o {
-        Operator::Add => false,
-        Operator::Subtract => false,
-        Operator::Multiply => false,
-        Operator::Less => false,
-        Operator::Equal => false,
-        Operator::Divide => b == 0,
-    }
-}
-
-fn apply_operator(o: Operator, a: u32, b: u32) -> u32
-    requires { ⌜ faults o b ≡ false ⌝ }
-    ensures { λ r. ⌜ r ≡ apply o a b ⌝ }
-{
-    match o {
-        Operator::Add => std::num::wrapping_add_u32(a, b),
-        Operator::Subtract => std::num::wrapping_sub_u32(a, b),
-        Operator::Multiply => wrapping_multiply(a, b),
-        Operator::Less => { if less(a, b) { 1 } else { 0 } }
-        Operator::Equal => { if a == b { 1 } else { 0 } }
-        Operator::Divide => divide(a, b),
+        Operator::Add => Evaluated::Value(std::num::wrapping_add_u32(a, b)),
+        Operator::Subtract => Evaluated::Value(std::num::wrapping_sub_u32(a, b)),
+        Operator::Multiply => Evaluated::Value(wrapping_multiply(a, b)),
+        Operator::Less => {
+            if less(a, b) {
+                Evaluated::Value(1)
+            } else {
+                Evaluated::Value(0)
+            }
+        }
+        Operator::Equal => {
+            if a == b {
+                Evaluated::Value(1)
+            } else {
+                Evaluated::Value(0)
+            }
+        }
+        Operator::Divide => {
+            if b == 0 {
+                return Evaluated::Fault;
+            }
+            Evaluated::Value(divide(a, b))
+        }
     }
 }
 
@@ -162,10 +165,7 @@ fn evaluate(values: &[u32; VALUES], e: Expression) -> Evaluated
         Expression::Binary(a, o, b) => {
             let x = load(values, a);
             let y = load(values, b);
-            if is_fault(o, y) {
-                return Evaluated::Fault;
-            }
-            Evaluated::Value(apply_operator(o, x, y))
+            apply_operator(o, x, y)
         }
     }
 }

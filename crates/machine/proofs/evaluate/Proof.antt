@@ -1,5 +1,5 @@
 -- `evaluate` meets its contract: each arm is its clause of `value`.
-use mathlib.Core.Path.{ap, sym, _∙_}
+use mathlib.Core.Path.{ap}
 use borrow.Author.Needs.{needs}
 use Rattle.machine.specs.declared.Evaluated.the-variants.{Value}
 use Rattle.machine.proofs.evaluate.Statement.{statement}
@@ -15,22 +15,12 @@ load-requires-3 : tie.Need-load-requires-3
 load-requires-3 c κs = (rw (c .before .before .e2 .given .1) at (c .before .before .before .before .pre)) .1
 
 returns : tie.Need-returns
-returns c =
-    let b = c .before .before in
-    rw (b .before .before .before .e2 .given .1) (rw (← b .load3 .ensures, ← c .before .is-fault .ensures, c .if1 .taken))
-
-apply-operator-requires : tie.Need-apply-operator-requires
-apply-operator-requires c κs = sym (c .before .is-fault .ensures) ∙ c .if1 .left
+returns c = rw (c .before .before .e .given .1) (ap Value (c .load .ensures))
 
 returns-2 : tie.Need-returns-2
-returns-2 c = rw (c .before .before .e .given .1) (ap Value (c .load .ensures))
-
-returns-3 : tie.Need-returns-3
-returns-3 c =
-    let b = c .before .before .before in
-    rw (b .before .before .before .e2 .given .1)
-    (rw (← b .before .load2 .ensures, ← b .load3 .ensures, ← c .before .before .is-fault .ensures, c .before .if1 .left)
-    (ap Value (c .apply-operator .ensures)))
+returns-2 c =
+    let b = c .before in
+    rw (b .before .before .before .e2 .given .1) (rw (← b .before .load2 .ensures, ← b .load3 .ensures) (c .apply-operator .ensures))
 
 pub evaluate-spec : {M : Type 1} → statement M
 evaluate-spec =
@@ -43,6 +33,4 @@ evaluate-spec =
     load-requires-3
     (λ c κs. search needs)
     returns
-    apply-operator-requires
-    returns-2
-    returns-3)
+    returns-2)
