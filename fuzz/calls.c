@@ -6,15 +6,19 @@
    - a program is misspelled exactly where a line of it is, and is written as it was read;
    - a sign stands before no zero, and the line without it is a statement too, but for the least
      constant's;
-   - a run that is spent goes on, and one that has ended stays so; what it keeps is what it had one
-     step before;
+   - a run that is spent goes on, and one that has ended or faulted stays so; what it keeps is what it
+     had one step before;
+   - a step faults exactly where its statement divides by 0; else what it leaves of the dividend is
+     nearer to 0 than the divisor, and 0 or of the dividend's sign, but at the end of the range;
    - `use` holds at the last statement of what is written and of what the unit keeps, i24 to i31;
    - `!` in front of a condition complements its row and keeps the others;
    - a review is refused for its first line that is refused alone, its tables are those of its lines'
      parts alone, and there is one for each part that is spelled differently, in the order of endings;
-   - a mark's verdict is that of its published condition's table, and at `write` only what is written
-     is replaced;
-   - the rewritten program is taken, and both programs' runs agree, in all nine values where they end;
+   - a mark that drops fits where its statement stands, and is refused for a fault exactly where it
+     then divides by a variable or by 0; at `write` only what is written is replaced;
+   - the verdict of another that fits is that of its published condition's table;
+   - the rewritten program is taken, and both programs' runs agree, in all nine values where they end,
+     in statement and steps where they fault;
    - the lines of a list that is taken, one after another, are the list.
    `fuzz/run` builds it and runs it; `host/tests/fuzz.rs` runs it on the seeds. */
 #define _DEFAULT_SOURCE
@@ -128,6 +132,9 @@ static size_t lines_of(struct text text) {
 
 /* Runs */
 
+/* How a run stands when it is told. */
+enum { SPENT, ENDED, FAULT };
+
 struct run {
     uint32_t ended, steps, statement, left[VARIABLES], kept[KEPT];
     int32_t value;
@@ -153,19 +160,24 @@ static uint8_t run(struct text program, const uint32_t values[VARIABLES], uint32
     for (size_t k = 0; k < 7; k += 2) REQUIRE(places[k] == UNSET);
     REQUIRE(left[0] == UNSET && left[VARIABLES + 1] == UNSET);
     REQUIRE(kept[0] == UNSET && kept[KEPT + 1] == UNSET);
-    if (number != 0 || places[1] == 1)
+    if (number != 0 || places[1] != SPENT)
         for (size_t k = 1; k <= VARIABLES; k++) REQUIRE(left[k] == UNSET);
-    if (number != 0 || places[1] == 0)
+    if (number != 0 || places[1] != ENDED)
         for (size_t k = 1; k <= KEPT; k++) REQUIRE(kept[k] == UNSET);
     if (number != 0) {
         REQUIRE(places[1] == UNSET && value.word == UNSET && places[3] == UNSET && places[5] == UNSET);
         return number;
     }
-    REQUIRE(places[1] <= 1);
-    if (places[1] == 1) {
-        REQUIRE(places[5] == UNSET && places[3] >= 2 && places[3] <= budget);
+    REQUIRE(places[1] <= FAULT);
+    if (places[1] != ENDED) REQUIRE(value.word == UNSET);
+    if (places[1] == SPENT) {
+        REQUIRE(places[3] == UNSET);
     } else {
-        REQUIRE(value.word == UNSET && places[3] == UNSET);
+        REQUIRE(places[3] >= 2 && places[3] <= budget);
+    }
+    if (places[1] == ENDED) {
+        REQUIRE(places[5] == UNSET);
+    } else {
         REQUIRE(places[5] >= 1 && places[5] <= lines_of(program));
     }
     answer->ended = places[1];
@@ -177,12 +189,72 @@ static uint8_t run(struct text program, const uint32_t values[VARIABLES], uint32
     return 0;
 }
 
-/* Whether both runs have ended alike, in all nine values, or stand before one statement. */
+/* Whether both runs have ended alike, in all nine values, faulted at one statement after the same
+   steps, or stand before one statement. */
 static int agree(const struct run *a, const struct run *b) {
     if (a->ended != b->ended) return 0;
-    if (!a->ended) return a->statement == b->statement;
+    if (a->ended == SPENT) return a->statement == b->statement;
+    if (a->ended == FAULT) return a->statement == b->statement && a->steps == b->steps;
     return a->value == b->value && a->steps == b->steps &&
            memcmp(a->kept, b->kept, sizeof a->kept) == 0;
+}
+
+/* Copies a line of a program that is taken, counted from 1, without its byte 10. */
+static void copy_line(struct text program, size_t n, char line[64]) {
+    size_t start = 0, length = 0;
+
+    for (; n > 1; start++) n -= program.bytes[start] == 10;
+    while (program.bytes[start + length] != 10) length++;
+    REQUIRE(length < 64);
+    memcpy(line, program.bytes + start, length);
+    line[length] = 0;
+}
+
+/* The number that an operand stands for. */
+static int64_t value_of(const char *operand, const uint32_t values[VARIABLES]) {
+    union {
+        uint32_t word;
+        int32_t value;
+    } value;
+
+    if (operand[0] != 'i') return strtoll(operand, NULL, 10);
+    value.word = values[strtoul(operand + 1, NULL, 10)];
+    return value.value;
+}
+
+static int64_t absolute(int64_t number) { return number < 0 ? -number : number; }
+
+/* A step of a run. Where it performs a division it faults, or leaves a quotient. */
+static void check_step(struct text program, const struct run *before, const struct run *after) {
+    char line[64], dividend[16], divisor[16];
+    unsigned variable;
+    int64_t a, b, quotient, rest;
+
+    copy_line(program, before->statement, line);
+    if (sscanf(line, "i%u := %15[-i0-9] / %15s", &variable, dividend, divisor) != 3) {
+        REQUIRE(after->ended != FAULT);
+        return;
+    }
+    a = value_of(dividend, before->left);
+    b = value_of(divisor, before->left);
+    met(OF_CALLS, 80 + (a > 0) + 2 * (a < 0) + 3 * ((b > 0) + 2 * (b < 0)));
+    REQUIRE(after->ended == (b == 0 ? FAULT : SPENT));
+    if (b == 0) {
+        REQUIRE(after->statement == before->statement);
+        return;
+    }
+    REQUIRE(after->statement == before->statement + 1);
+    snprintf(dividend, sizeof dividend, "i%u", variable);
+    quotient = value_of(dividend, after->left);
+    if (a == INT32_MIN && b == -1) {
+        REQUIRE(quotient == INT32_MIN);
+        met(OF_CALLS, 95);
+        return;
+    }
+    rest = a - quotient * b;
+    REQUIRE(absolute(rest) < absolute(b) && (rest == 0 || (rest < 0) == (a < 0)));
+    for (size_t k = 0; k < VARIABLES; k++)
+        REQUIRE(k == variable || after->left[k] == before->left[k]);
 }
 
 static void check_runs(struct text program, const uint32_t values[VARIABLES], uint32_t input,
@@ -199,13 +271,14 @@ static void check_runs(struct text program, const uint32_t values[VARIABLES], ui
             break;
         }
         REQUIRE(!after.ended || after.steps == b);
-        if (after.ended) {
+        check_step(program, &before, &after);
+        if (after.ended == ENDED) {
             REQUIRE(memcmp(after.kept, before.left + FIRST_KEPT, sizeof after.kept) == 0);
             met(OF_CALLS, 66 + (memcmp(after.kept, values + FIRST_KEPT, sizeof after.kept) == 0));
         }
         before = after;
     }
-    met(OF_CALLS, 64 + before.ended);
+    met(OF_CALLS, 68 + before.ended);
 }
 
 /* Programs */
@@ -584,6 +657,21 @@ static int is_true(struct text program, const char *line, size_t n) {
     return holds(answer.words + 4 * (answer.parts - 1), n);
 }
 
+/* Whether a mark that drops stands beside its statement, and whether it then divides by a variable or
+   by 0. It is one of a list that is taken, and the program has its statement. */
+static int fits_assignment(struct text program, const char *line, size_t n, int *may_fault) {
+    char statement[64], made[80], variable[4], right[64], divisor[16];
+
+    *may_fault = 0;
+    if (sscanf(line, "%*[0-9]: mark(rm, %3[i0-9], %63[^)])", variable, right) != 2) return 0;
+    snprintf(made, sizeof made, "%s := %s", variable, right);
+    copy_line(program, n, statement);
+    if (strcmp(statement, made) != 0) return 0;
+    *may_fault = sscanf(right, "%*[-i0-9] / %15s", divisor) == 1 &&
+                 (divisor[0] == 'i' || strcmp(divisor, "0") == 0);
+    return 1;
+}
+
 /* Whether a mark on `write` fits: it replaces the written variable by a variable. */
 static int fits_write(struct text program, const char *line) {
     unsigned variable;
@@ -617,9 +705,14 @@ static void check_verdicts(struct text program, struct text marks, const struct 
         } else if (named[n]) {
             REQUIRE(verdict == 12);
         } else {
-            REQUIRE(verdict == 0 || verdict == 13 || verdict == 14);
+            int may_fault, fits = fits_assignment(program, line, n, &may_fault);
+
+            REQUIRE(verdict == 0 || verdict == 13 || verdict == 14 || verdict == 18);
+            REQUIRE((verdict == 18) == may_fault);
+            if (strstr(line, "mark(rm, ") != NULL) REQUIRE((verdict != 13) == fits);
             if (n == lines) REQUIRE((verdict != 13) == fits_write(program, line));
-            if (verdict != 13 && j < 40) REQUIRE(is_true(program, line, n) == (verdict == 0));
+            if (verdict != 13 && verdict != 18 && j < 40)
+                REQUIRE(is_true(program, line, n) == (verdict == 0));
             if (verdict != 13) met_text(OF_MARKS, (uint8_t *)line, length);
             named[n] = 1;
         }

@@ -22,7 +22,8 @@ extern "C" {
 
 /* Runs the shift program that the text spells, from 32 given values and one input value, under a
    budget of 0 to 1,000,000 steps. One step performs one statement. Statements are numbered from 1.
-   Takes at most 64 KiB of stack.
+   `A / B` is signed and rounded toward zero, -2147483648 / -1 giving -2147483648; a B of 0 ends the
+   run with a fault. Takes at most 64 KiB of stack.
 
    Returns 0, and sets
    *ended = 1, *value, *steps and kept, where the run ends within the budget: the value that `write`
@@ -30,6 +31,8 @@ extern "C" {
               unit keeps for its next pass. *statement and left stay as they were.
    *ended = 0, *statement and left, where the budget is spent: the statement and the 32 values after
               that many steps. *value, *steps and kept stay as they were.
+   *ended = 2, *statement and *steps, where a statement divides by 0 within the budget: that statement,
+              and the steps taken, its own counted. *value, left and kept stay as they were.
 
    Returns the number of a refusal, and keeps all:
    15: the budget is over 1,000,000.
@@ -98,7 +101,7 @@ uint8_t rewrites_review(const uint8_t *program, size_t program_len, const uint8_
 
 /* Judges each mark of a list on the program, and writes the program with the accepted marks made. A
    list has zero to 256 lines, each ended by byte 10: `n: mark(rm, X, E)` or `n: mark(rpl, X, A)`.
-   rm  fits where statement n is `X := E`.
+   rm  fits where statement n is `X := E`. Where E is `A / B`, B must be a constant other than 0.
        Condition: `!EX E[!def(X) U use(X)]`. Made: `skip`.
    rpl fits where n uses X, and A is a variable if n is an `if` or a `write`; at `write` it fits only
        for the X that is written.
@@ -106,8 +109,8 @@ uint8_t rewrites_review(const uint8_t *program, size_t program_len, const uint8_
        Made: A for every use of X in n.
    Each mark is judged on the given program. Accepted marks are all made together, refused ones
    aren't. The new program has the same line count. Started alike, it runs alike: to the same value and
-   the same kept values in the same steps, or spent at the same statement. The values left then may
-   differ. Takes at most 128 KiB of stack.
+   the same kept values in the same steps, to a fault at the same statement in the same steps, or spent
+   at the same statement. The values left then may differ. Takes at most 128 KiB of stack.
 
    Returns 0, and sets
    verdicts    byte j for line j, counted from 0: 0 for a mark that is accepted, else the first that
@@ -115,6 +118,7 @@ uint8_t rewrites_review(const uint8_t *program, size_t program_len, const uint8_
                11: n is 0 or above N, the count of statements.
                12: an earlier line names n, accepted or not.
                13: the mark doesn't fit.
+               18: it is an rm, and n divides by anything but a constant other than 0.
                14: its condition is false at n.
                All further bytes are kept.
    text        the new program, from byte 0 on. All further bytes are kept.

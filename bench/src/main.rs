@@ -74,11 +74,13 @@ fn print_heading(title: &str, last: &str) {
 
 fn print_runs(worst: &mut Worst) {
     print_heading("Runs of 1,000,000 steps, in microseconds", "    ns/step");
-    let loops: [(&str, &[&str]); 7] = [
+    let loops: [(&str, &[&str]); 9] = [
         ("skip", &["skip", "skip", "skip", "skip"]),
         ("copies", &["i1 := i0", "i2 := 7", "i3 := i2", "i4 := i1"]),
         ("sums and differences", &["i1 := i1 + i0", "i2 := i2 - 1"]),
         ("products", &["i1 := i1 * i0", "i2 := i1 * 7"]),
+        ("quotients by constants", &["i1 := i0 / 3", "i2 := i1 / -1"]),
+        ("quotients by variables", &["i1 := 1000 / i0", "i2 := i1 / i0"]),
         ("comparisons", &["i1 := i2 < i0", "i2 := i1 = 0"]),
         ("jumps", &["if i1 goto 3 else 4", "skip", "if i0 goto 5 else 2", "skip"]),
         ("all of them", &["i1 := i1 + i0", "i2 := i1 * 7", "i3 := i2 < i1", "skip", "i4 := i3"]),

@@ -164,6 +164,10 @@ fn words(verdict: Verdict, mark: &Mark, first: usize, statements: &[&[u8]]) -> S
             let statement = String::from_utf8_lossy(statement);
             format!("doesn't fit: statement {n} is `{}`", statement.trim_end())
         }
+        Verdict::MayFault => {
+            let divisor = mark.divisor().unwrap_or_default();
+            format!("may fault: statement {n} divides by {divisor}")
+        }
         Verdict::Unmet => format!("condition false at {n}"),
     }
 }

@@ -33,6 +33,11 @@ impl<'a> Mark<'a> {
             _ => format!("AY A[((!def({x}) & trans({a})) & !entry) B stmt({x} := {a})]"),
         }
     }
+
+    /// What its right side divides by, if it is a division.
+    pub fn divisor(&self) -> Option<&'a str> {
+        self.right.split_once(" / ").map(|(_, divisor)| divisor)
+    }
 }
 
 /// The marks of a list that was taken.
@@ -48,6 +53,7 @@ pub fn name(verdict: Verdict) -> &'static str {
         Verdict::Missing => "missing",
         Verdict::Repeated => "repeated",
         Verdict::Unfit => "unfit",
+        Verdict::MayFault => "may_fault",
         Verdict::Unmet => "unmet",
     }
 }
@@ -59,6 +65,7 @@ pub struct Counts {
     pub missing: usize,
     pub repeated: usize,
     pub unfit: usize,
+    pub may_fault: usize,
     pub unmet: usize,
 }
 
@@ -70,12 +77,13 @@ impl Counts {
             missing: count(Verdict::Missing),
             repeated: count(Verdict::Repeated),
             unfit: count(Verdict::Unfit),
+            may_fault: count(Verdict::MayFault),
             unmet: count(Verdict::Unmet),
         }
     }
 
     pub fn marks(&self) -> usize {
-        self.accepted + self.missing + self.repeated + self.unfit + self.unmet
+        self.accepted + self.missing + self.repeated + self.unfit + self.may_fault + self.unmet
     }
 
     /// The counts in words. A reason that no mark was refused for is left out.
@@ -85,6 +93,7 @@ impl Counts {
             ("no such statement", self.missing),
             ("named before", self.repeated),
             ("doesn't fit", self.unfit),
+            ("may fault", self.may_fault),
             ("condition false", self.unmet),
         ];
         for (reason, count) in refused.into_iter().filter(|(_, count)| *count > 0) {
@@ -100,6 +109,7 @@ impl AddAssign for Counts {
         self.missing += other.missing;
         self.repeated += other.repeated;
         self.unfit += other.unfit;
+        self.may_fault += other.may_fault;
         self.unmet += other.unmet;
     }
 }

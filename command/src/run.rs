@@ -45,6 +45,7 @@ struct Answer {
 enum Ending {
     Ended { value: i32, steps: u32, kept: [i32; KEPT] },
     Spent { statement: u32, left: [i32; VARIABLES] },
+    Fault { statement: u32, steps: u32 },
 }
 
 impl From<Outcome> for Ending {
@@ -56,6 +57,7 @@ impl From<Outcome> for Ending {
             Outcome::Spent { statement, values } => {
                 Ending::Spent { statement, left: values.map(|value| value as i32) }
             }
+            Outcome::Fault { statement, steps } => Ending::Fault { statement, steps },
         }
     }
 }
@@ -75,6 +77,7 @@ impl Ending {
                 }
                 text
             }
+            Ending::Fault { statement, steps } => format!("fault at {statement} steps {steps}\n"),
         }
     }
 }

@@ -126,10 +126,11 @@ fn texts_of_marks_are_their_lines() {
     }
 }
 
-/// A mark that fits is accepted exactly where the condition that is shown for it is true.
+/// A mark that fits, and can't drop a fault, is accepted exactly where the condition that is shown for it is
+/// true.
 #[test]
 fn conditions_of_marks_decide_their_verdicts() {
-    let mut met = [0; 15];
+    let mut met = [0; 19];
     for mut random in cases(500) {
         let program = generate::program(&mut random, 40);
         let given = program.text();
@@ -138,6 +139,9 @@ fn conditions_of_marks_decide_their_verdicts() {
         rewrites::judge(&given, &list, &mut verdicts, &mut text).expect("a list that is taken");
         for (mark, verdict) in marks::of(&list).iter().zip(verdicts) {
             met[usize::from(verdict)] += 1;
+            let divides_by = mark.divisor().filter(|_| verdict == 18);
+            let may_be_0 = |divisor: &str| divisor == "0" || divisor.starts_with('i');
+            assert_eq!(divides_by.map_or(false, may_be_0), verdict == 18, "{}", mark.text);
             if verdict == 0 || verdict == 14 {
                 let mut table = [0; TABLE_WORDS];
                 let answer = tabulate(&given, mark.condition().as_bytes(), &mut table);
@@ -147,7 +151,7 @@ fn conditions_of_marks_decide_their_verdicts() {
             }
         }
     }
-    assert!([0, 11, 12, 13, 14].iter().all(|&verdict| met[verdict] > 50), "{met:?}");
+    assert!([0, 11, 12, 13, 14, 18].iter().all(|&verdict| met[verdict] > 50), "{met:?}");
 }
 
 #[test]

@@ -237,6 +237,48 @@ fn marks_on_what_is_kept() {
     }
 }
 
+/// Marks that drop a division: the text, the words and the JSON of those that may lose a fault.
+#[test]
+fn marks_on_divisions() {
+    let given = b"read i0\ni1 := i0 / i2\ni1 := i0 / 0\ni1 := i0 / -1\ni1 := i0 / 2\nwrite i1\n";
+    let marks = b"2: mark(rm, i1, i0 / i2)\n3: mark(rm, i1, i0 / 0)\n4: mark(rm, i1, i0 / -1)\n\
+        5: mark(rm, i1, i0 / 2)\n2: mark(rm, i1, i0 / i2)\n";
+    let base = folder("divisions", &[("given", given), ("marks", marks)]);
+    let output = run_in(&base, &["check", "--text", "."]);
+    assert_eq!((status(&output), &output.stdout), (0, &check::check(given, marks)));
+    let counts = "marks 5, accepted 1, named before 1, may fault 2, condition false 1";
+    let output = run_in(&base, &["check", "--explain", "."]);
+    let expected = format!(
+        "\
+.: {counts}
+  line 1: 2: mark(rm, i1, i0 / i2): may fault: statement 2 divides by i2
+    condition !EX E[!def(i1) U use(i1)]
+  line 2: 3: mark(rm, i1, i0 / 0): may fault: statement 3 divides by 0
+    condition !EX E[!def(i1) U use(i1)]
+  line 3: 4: mark(rm, i1, i0 / -1): accepted
+    condition !EX E[!def(i1) U use(i1)]
+  line 4: 5: mark(rm, i1, i0 / 2): condition false at 5
+    condition !EX E[!def(i1) U use(i1)]
+  line 5: 2: mark(rm, i1, i0 / i2): named before: line 1 names 2
+    condition !EX E[!def(i1) U use(i1)]
+total: folders 1; {counts}
+"
+    );
+    assert_eq!((status(&output), printed(&output)), (0, expected));
+    let output = run_in(&base, &["check", "--json", ".", "."]);
+    let json = printed(&output);
+    for words in [
+        "\"counts\":{\"accepted\":1,\"missing\":0,\"repeated\":1,\"unfit\":0,\"may_fault\":2,\"unmet\":1}",
+        "\"counts\":{\"accepted\":2,\"missing\":0,\"repeated\":2,\"unfit\":0,\"may_fault\":4,\"unmet\":2}",
+        "\"verdict\":18,\"name\":\"may_fault\",\"words\":\"may fault: statement 3 divides by 0\"",
+    ] {
+        assert!(json.contains(words), "{json}");
+    }
+    let told = told_again(&output.stdout);
+    assert_eq!(told[0].as_bytes(), check::check(given, marks));
+    assert_eq!(told[2], "total 2 2 0 0 10 2 status 0\n");
+}
+
 #[test]
 fn the_longest_report() {
     let longest = "i31 := -2147483648 + -2147483648\n".repeat(254);

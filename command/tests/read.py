@@ -5,7 +5,7 @@ import json
 import pathlib
 import sys
 
-VERDICTS = {"accepted": 0, "missing": 11, "repeated": 12, "unfit": 13, "unmet": 14}
+VERDICTS = {"accepted": 0, "missing": 11, "repeated": 12, "unfit": 13, "may_fault": 18, "unmet": 14}
 FAULT = {"refusal", "file", "line", "whose", "words", "expected", "found"}
 REPORT = {"call", "folder", "status", "faults"}
 TOTAL = {"call", "status", "folders", "results", "refused", "unread", "marks", "accepted", "counts"}
@@ -18,6 +18,7 @@ CONDITION = {"line", "condition", "table", "parts", "satisfied", "first", "state
 START = {"input", "budget", "values", "outcome"}
 ENDED = START | {"value", "steps", "kept"}
 SPENT = START | {"statement", "left"}
+FAULTED = START | {"statement", "steps"}
 LINES = {"marks", "bytes", "lines"}
 LINE = {"line", "begin", "end", "mark"}
 
@@ -96,6 +97,9 @@ def run(thing):
         assert len(thing["kept"]) == 8 and all(map(whole, thing["kept"]))
         kept = " ".join(map(str, thing["kept"]))
         return "ended {value} steps {steps} kept ".format(**thing) + kept + "\n"
+    if thing["outcome"] == "fault":
+        has(thing, REPORT | FAULTED)
+        return "fault at {statement} steps {steps}\n".format(**thing)
     has(thing, REPORT | SPENT)
     assert thing["outcome"] == "spent" and len(thing["left"]) == 32
     lines = ["i%d = %d\n" % (x, value) for x, value in enumerate(thing["left"])]
@@ -145,7 +149,7 @@ def told(thing):
 
 
 described = pathlib.Path(__file__).parents[2].joinpath("docs/REFERENCE.md").read_text()
-for names in (VERDICTS, FAULT, REPORT, TOTAL, CHECK, MARK, TABULATE, ROW, REVIEW, CONDITION, ENDED, SPENT, LINES, LINE):
+for names in (VERDICTS, FAULT, REPORT, TOTAL, CHECK, MARK, TABULATE, ROW, REVIEW, CONDITION, ENDED, SPENT, FAULTED, LINES, LINE):
     for name in names:
         assert "`%s`" % name in described, name
 

@@ -16,6 +16,7 @@ use oracle::generate::{self, Random};
 use oracle::{desk, folder as random_folder};
 use rewrites::{Outcome, FIRST_KEPT, KEPT, VARIABLES};
 use shell::{example, folder, printed, run_in, said, status, told_again};
+use std::fs;
 
 const CASES: u64 = 1_000;
 
@@ -25,7 +26,7 @@ fn random(case: u64) -> Random {
 
 #[test]
 fn runs_are_as_by_the_oracle() {
-    let classes = ["ended", "spent", "start", "2", "3", "4", "5", "15"];
+    let classes = ["ended", "spent", "fault", "start", "2", "3", "4", "5", "15"];
     let mut met = Tally::new("runs", classes);
     let mut kept = Tally::new("kept values", ["zeros", "others"]);
     let (mut json, mut texts) = (Vec::new(), Vec::new());
@@ -56,7 +57,8 @@ fn runs_are_as_by_the_oracle() {
             None => {
                 assert_eq!(printed(&output), expected, "case {case}");
                 assert_eq!((status(&output), said(&output).as_str()), (0, ""), "case {case}");
-                met.met(if expected.starts_with("ended") { "ended" } else { "spent" });
+                let word = expected.split(' ').next().unwrap_or_default();
+                met.met(classes.into_iter().find(|&class| class == word).unwrap_or("?"));
                 if let Some((_, values)) = expected.split_once(" kept ") {
                     kept.met(if values == "0 0 0 0 0 0 0 0\n" { "zeros" } else { "others" });
                 }
@@ -201,6 +203,57 @@ fn runs_tell_what_is_kept() {
         let text: Vec<String> = words("--budget=3");
         let output = printed(&run_in(&base, &text));
         assert!(output.starts_with("spent at 4\n") && !output.contains("kept"), "{output}");
+    }
+}
+
+/// A division by 0 ends a run: its text and its JSON, which have neither a value nor what is kept.
+#[test]
+fn runs_tell_of_faults() {
+    let base = folder("fault", &[("given", b"read i0\ni1 := 10 / i0\nwrite i1\n")]);
+    for budget in ["2", "3", "1000000"] {
+        let words = ["run", ".", "--input=0", "--budget", budget];
+        let output = run_in(&base, &words);
+        assert_eq!((status(&output), said(&output)), (0, String::new()));
+        assert_eq!(printed(&output), "fault at 2 steps 2\n");
+        let output = run_in(&base, &[&words[..], &["--json"]].concat());
+        let end = "\"outcome\":\"fault\",\"statement\":2,\"steps\":2}\n";
+        assert!(printed(&output).ends_with(end), "{}", printed(&output));
+        assert!(printed(&output).contains("\"status\":0,\"faults\":[],"), "{}", printed(&output));
+        assert_eq!(told_again(&output.stdout), ["fault at 2 steps 2\n"]);
+    }
+    let output = run_in(&base, &["run", ".", "--input=0", "--budget=1"]);
+    assert!(printed(&output).starts_with("spent at 2\ni0 = 0\n"));
+    let output = run_in(&base, &["run", ".", "--input=-3"]);
+    assert_eq!(printed(&output), "ended -3 steps 3 kept 0 0 0 0 0 0 0 0\n");
+}
+
+/// The example that divides, and its program with the accepted marks made: both fault at each divisor that is 0.
+#[test]
+fn both_programs_of_an_example_fault_alike() {
+    let creeper = example("creeper");
+    let start = fs::read(creeper.join("start")).expect("a file is read");
+    let made = folder("made", &[("start", &start)]);
+    let new = made.join("given");
+    let output = run_in(&creeper, &["check", ".", "-o", &new.to_string_lossy()]);
+    assert_eq!(
+        printed(&output).lines().next(),
+        Some(
+            ".: marks 15, accepted 4, no such statement 1, named before 1, doesn't fit 1, \
+             may fault 2, condition false 6"
+        )
+    );
+    for (setting, expected) in [
+        ("i31=0", "ended 30 steps 14 kept 0 0 0 0 0 0 0 0\n"),
+        ("i2=4000", "ended 4 steps 15 kept 0 0 0 0 0 0 0 0\n"),
+        ("i1=0", "fault at 6 steps 6\n"),
+        ("i2=0", "fault at 8 steps 8\n"),
+        ("i12=0", "fault at 9 steps 9\n"),
+        ("i14=0", "fault at 11 steps 11\n"),
+    ] {
+        for base in [&creeper, &made] {
+            let output = run_in(base, &["run", ".", "--set", setting]);
+            assert_eq!((status(&output), printed(&output).as_str()), (0, expected), "{setting}");
+        }
     }
 }
 

@@ -6,8 +6,9 @@
 //!
 //! A program is ASCII text, one statement a line, each line ended by byte 10. The first statement
 //! is `read X`, the last `write X`; between them stand `X := A`, `X := A o A` with `+`, `-`, `*`,
-//! `<` or `=` for o, `if X goto n else m` and `skip`. X is a variable, `i0` to `i31`; A is one, or a
-//! constant from -2147483648 to 2147483647, such as `-40`.
+//! `/`, `<` or `=` for o, `if X goto n else m` and `skip`. X is a variable, `i0` to `i31`; A is one, or
+//! a constant from -2147483648 to 2147483647, such as `-40`. A quotient is signed and rounded toward
+//! zero; a division by 0 ends the run with a fault.
 //!
 //! ```
 //! use rewrites::{run, Outcome, Refusal, KEPT};
@@ -141,6 +142,13 @@ pub enum Outcome {
         /// The values of `i0` to `i31` after the last step.
         values: [u32; VARIABLES],
     },
+    /// A statement divided by 0 within the budget, which ended the run. Nothing is written or kept.
+    Fault {
+        /// The statement, numbered from 1, that divided.
+        statement: u32,
+        /// The steps taken, its own among them.
+        steps: u32,
+    },
 }
 
 /// What the tabulation of a condition answers beside the table.
@@ -196,14 +204,22 @@ pub enum Verdict {
     Repeated = 12,
     /// The mark doesn't fit.
     Unfit = 13,
+    /// It is an `rm`, and n divides by anything but a constant other than 0.
+    MayFault = 18,
     /// Its condition is false at n.
     Unmet = 14,
 }
 
 impl Verdict {
     /// Every verdict, in the order in which they apply.
-    pub const ALL: [Verdict; 5] =
-        [Verdict::Accepted, Verdict::Missing, Verdict::Repeated, Verdict::Unfit, Verdict::Unmet];
+    pub const ALL: [Verdict; 6] = [
+        Verdict::Accepted,
+        Verdict::Missing,
+        Verdict::Repeated,
+        Verdict::Unfit,
+        Verdict::MayFault,
+        Verdict::Unmet,
+    ];
 
     /// The number that is the verdict's byte.
     pub fn number(self) -> u8 {
@@ -217,6 +233,7 @@ impl Verdict {
     ///
     /// assert_eq!(Verdict::from_byte(0), Some(Verdict::Accepted));
     /// assert_eq!(Verdict::from_byte(14), Some(Verdict::Unmet));
+    /// assert_eq!(Verdict::from_byte(18), Some(Verdict::MayFault));
     /// assert_eq!(Verdict::from_byte(15), None);
     /// assert_eq!(Verdict::Unmet.to_string(), "its condition is false at n");
     /// ```
@@ -232,6 +249,7 @@ impl fmt::Display for Verdict {
             Verdict::Missing => "n is 0 or above N",
             Verdict::Repeated => "an earlier line names n, accepted or not",
             Verdict::Unfit => "the mark doesn't fit",
+            Verdict::MayFault => "it drops a division by anything but a constant other than 0",
             Verdict::Unmet => "its condition is false at n",
         })
     }
@@ -332,7 +350,8 @@ impl Error for Refusal {}
 /// value, for at most `budget` steps. Takes at most 64 KiB of stack.
 ///
 /// A run that ends tells what `write` wrote, and the values that the unit keeps for its next pass: those
-/// of the [`KEPT`] variables from [`FIRST_KEPT`] on.
+/// of the [`KEPT`] variables from [`FIRST_KEPT`] on. One that divides by 0 ends there with a fault, and
+/// tells the statement.
 ///
 /// # Errors
 ///
@@ -352,6 +371,13 @@ impl Error for Refusal {}
 /// let program = b"read i0\ni1 := i0 - -40\nwrite i1\n";
 /// let answer = run(program, &[0; 32], 2, 3);
 /// assert_eq!(answer, Ok(Outcome::Ended { value: 42, steps: 3, kept: [0; KEPT] }));
+///
+/// // Quotients are rounded toward zero. By 0 there is none: the second step ends the run.
+/// let program = b"read i0\ni1 := -7 / i0\nwrite i1\n";
+/// let answer = run(program, &[0; 32], 2, 3);
+/// assert_eq!(answer, Ok(Outcome::Ended { value: -3, steps: 3, kept: [0; KEPT] }));
+/// let answer = run(program, &[0; 32], 0, 3);
+/// assert_eq!(answer, Ok(Outcome::Fault { statement: 2, steps: 2 }));
 ///
 /// // i24 counts the passes: what one keeps is handed to the next.
 /// let program = b"read i0\ni24 := i24 + 1\nwrite i0\n";
@@ -398,11 +424,11 @@ pub fn run(
     if number != 0 {
         return Err(Refusal::returned(number));
     }
-    if ended == 1 {
-        Ok(Outcome::Ended { value, steps, kept })
-    } else {
-        Ok(Outcome::Spent { statement, values: left })
-    }
+    Ok(match ended {
+        1 => Outcome::Ended { value, steps, kept },
+        2 => Outcome::Fault { statement, steps },
+        _ => Outcome::Spent { statement, values: left },
+    })
 }
 
 /// Tabulates a condition over the statements of a program: fills the table with the statements at
@@ -547,7 +573,8 @@ pub fn review(program: &[u8], conditions: &[u8], table: &mut [u64]) -> Result<Re
 ///
 /// A list has zero to 256 lines, each ended by byte 10: `n: mark(rm, X, E)` or `n: mark(rpl, X, A)`.
 ///
-/// - `rm` fits where statement n is `X := E`. Condition: `!EX E[!def(X) U use(X)]`. Made: `skip`.
+/// - `rm` fits where statement n is `X := E`. Where E is `A / B`, B must be a constant other than 0.
+///   Condition: `!EX E[!def(X) U use(X)]`. Made: `skip`.
 /// - `rpl` fits where n uses X, and A is a variable if n is an `if` or a `write`; at `write` it fits
 ///   only for the X that is written. Condition: `AY A[((!def(X) & trans(A)) & !entry) B stmt(X := A)]`.
 ///   Made: A for every use of X in n.
@@ -558,8 +585,8 @@ pub fn review(program: &[u8], conditions: &[u8], table: &mut [u64]) -> Result<Re
 /// verdicts and of the text are kept.
 ///
 /// From every start, and under every budget that isn't refused, runs of the two programs answer the
-/// same value, the same steps and the same kept values, or 'spent' at the same statement. The values
-/// told with 'spent' may differ.
+/// same value, the same steps and the same kept values, a fault at the same statement after the same
+/// steps, or 'spent' at the same statement. The values told with 'spent' may differ.
 ///
 /// Takes at most 128 KiB of stack.
 ///
@@ -608,6 +635,15 @@ pub fn review(program: &[u8], conditions: &[u8], table: &mut [u64]) -> Result<Re
 /// for (byte, verdict) in verdicts.into_iter().zip(expected) {
 ///     assert_eq!(Verdict::from_byte(byte), Some(verdict));
 /// }
+///
+/// // Nothing uses i1 and i2. Without statement 2 a run with 0 in i3 would go on.
+/// let program = b"read i0\ni1 := i0 / i3\ni2 := i0 / 2\nwrite i0\n";
+/// let marks = b"2: mark(rm, i1, i0 / i3)\n3: mark(rm, i2, i0 / 2)\n";
+/// let answer = judge(program, marks, &mut verdicts, &mut text)?;
+/// assert_eq!(answer.accepted, 1);
+/// assert_eq!(Verdict::from_byte(verdicts[0]), Some(Verdict::MayFault));
+/// assert_eq!(Verdict::from_byte(verdicts[1]), Some(Verdict::Accepted));
+/// # Ok::<(), rewrites::Refusal>(())
 /// ```
 pub fn judge(
     program: &[u8],

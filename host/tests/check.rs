@@ -73,6 +73,22 @@ fn the_longest_report_is_printed() {
     assert!(output.stdout == check::check(given.as_bytes(), marks.as_bytes()));
 }
 
+/// Verdict 18 stands in its place among the others, and what may be dropped is.
+#[test]
+fn divisions_are_checked() {
+    let program = built("check_rewrites");
+    let given = b"read i0\ni1 := i0 / i2\ni1 := i0 / 0\ni1 := i0 / -1\ni1 := i0 / 2\nwrite i1\n";
+    let marks = b"2: mark(rm, i1, i0 / i2)\n2: mark(rm, i1, i0 / i2)\n3: mark(rm, i1, i0 / 0)\n\
+        4: mark(rm, i1, i0 / -1)\n5: mark(rm, i1, i0 / 2)\n6: mark(rm, i1, i0 / 0)\n\
+        7: mark(rm, i1, i0 / 0)\n";
+    let expected = "marks 7 accepted 1\n2 18\n2 12\n3 18\n4 0\n5 14\n6 13\n7 11\n\
+        read i0\ni1 := i0 / i2\ni1 := i0 / 0\nskip\ni1 := i0 / 2\nwrite i1\n";
+    let output = in_folder(&program, "divisions", &[("given", given), ("marks", marks)], &[]);
+    assert_eq!(shown(&output.stderr), "");
+    assert_eq!(String::from_utf8_lossy(&output.stdout), expected);
+    assert!(output.stdout == check::check(given, marks));
+}
+
 /// Each sign that is misspelled, in either file.
 #[test]
 fn misspelled_signs_are_refused() {

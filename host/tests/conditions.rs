@@ -607,6 +607,55 @@ fn conditions_of_marks_on_what_is_kept() {
     assert_words(&program, "!EX E[!def(i23) U use(i23)]", &[0, 15, 0, 0, 0, 15]);
 }
 
+// Divisions
+
+#[test]
+fn a_division_steps_to_the_next_line_whatever_divides() {
+    for divisor in ["0", "i5", "1", "-1", "-2147483648"] {
+        let line = format!("i1 := i0 / {}", divisor);
+        let program = text(&["read i0", &line, "i2 := 1", "write i2"]);
+        assert_words(&program, "EX node(3)", &[4, 2]);
+        assert_words(&program, "AX node(3)", &[4, 2]);
+        assert_words(&program, "AY node(2)", &[2, 4]);
+        assert_words(&program, "A[true U exit]", &[15, 8, 15]);
+        assert_words(&program, "AF exit", &[8, 15]);
+        assert_words(&program, "EG !exit", &[8, 7, 0]);
+    }
+}
+
+#[test]
+fn a_division_defines_and_uses_as_other_operators_do() {
+    let program = text(&["read i0", "i1 := i0 / 0", "i2 := 1", "write i2"]);
+    assert_words(&program, "def(i1)", &[2]);
+    assert_words(&program, "use(i0)", &[2]);
+    assert_words(&program, "use(i1)", &[0]);
+    // Statements 2 and 3 define i1 and i2.
+    assert_words(&program, "trans(i1 / i2)", &[9]);
+    assert_words(&program, "trans(i0 / 0)", &[14]);
+    assert_words(&program, "trans(1 / 0)", &[15]);
+    let program = text(&["read i0", "i1 := i2 / i3", "i1 := i3 / i2", "write i1"]);
+    assert_words(&program, "use(i2)", &[6]);
+    assert_words(&program, "use(i3)", &[6]);
+    assert_words(&program, "use(i1)", &[8]);
+}
+
+#[test]
+fn stmt_tells_divisions_apart() {
+    #[rustfmt::skip]
+    let program = text(&[
+        "read i0", "i1 := i0 / i2", "i1 := i2 / i0", "i1 := i0 / 0", "i1 := i0 * i2", "i1 := i0 - 0",
+        "i1 := i0 / -1", "write i1",
+    ]);
+    assert_words(&program, "stmt(i1 := i0 / i2)", &[2]);
+    assert_words(&program, "stmt(i1 := i2 / i0)", &[4]);
+    assert_words(&program, "stmt(i1 := i0 / 0)", &[8]);
+    assert_words(&program, "stmt(i1 := i0 * i2)", &[16]);
+    assert_words(&program, "stmt(i1 := i0 - 0)", &[32]);
+    assert_words(&program, "stmt(i1 := i0 / -1)", &[64]);
+    assert_words(&program, "stmt(i1 := i0 / 1)", &[0]);
+    assert_words(&program, "stmt(i2 := i0 / i2)", &[0]);
+}
+
 // Parts, lengths and spelling
 
 /// `true` after so many `!`.
@@ -689,7 +738,9 @@ const MISSPELLED: &[&str] = &[
     "node(1 )", "node (1)", "node(2147483648)", "node(99999999999999999999)", "def()", "def(0)",
     "def(i32)", "def(i00)", "def(i01)", "def(i1", "def(i 1)", "use(7)", "use(i)", "use(i1 )",
     "use(I1)", "stmt()", "stmt(", "stmt", "stmt(skip", "stmt(skip )", "stmt(skip\n)", "stmt( skip)",
-    "stmt(i0:=1)", "stmt(i0 := )", "stmt(i0 := -0)", "stmt(i0 := 1 / 2)", "stmt(i0 := 1 + 2 + 3)",
+    "stmt(i0:=1)", "stmt(i0 := )", "stmt(i0 := -0)", "stmt(i0 := 1 % 2)", "stmt(i0 := 1 + 2 + 3)",
+    "stmt(i0 := 1/2)", "stmt(i0 := 1 / 2 / 3)", "stmt(i0 := / 2)", "stmt(i0 := 1 /)", "stmt(i0 / 2 := 1)",
+    "trans(i0/i1)", "trans(i0 / i1 / i2)", "trans(/ i1)", "trans(i0 /)", "trans(i0 / -0)", "def(i0 / 2)",
     "stmt(i0 := 2147483648)", "stmt(1 := i0)", "stmt(if i0 goto 1)", "stmt(if 1 goto 2 else 3)",
     "stmt(true)", "stmt(if i0 goto 2 else 2147483648)", "stmt(read 1)", "stmt(write)", "trans()",
     "trans(i0 := 1)", "trans(true)", "trans(i0+i1)", "trans(i0 +)", "trans(i0 & i1)",

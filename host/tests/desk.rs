@@ -64,16 +64,17 @@ fn class(output: &str) -> &'static str {
 fn ending(output: &str) -> Option<&'static str> {
     let line = output.lines().find(|line| {
         let line = line.strip_prefix("given ").unwrap_or(line);
-        line.starts_with("ended ") || line.starts_with("spent at ")
+        ["ended ", "spent at ", "fault at "].iter().any(|words| line.starts_with(words))
     })?;
     Some(match line.split_once(" kept ") {
         Some((_, "0 0 0 0 0 0 0 0")) => "ended, kept zeros",
         Some(_) => "ended, kept others",
+        None if line.contains("fault at ") => "fault",
         None => "spent",
     })
 }
 
-const ENDINGS: [&str; 3] = ["ended, kept zeros", "ended, kept others", "spent"];
+const ENDINGS: [&str; 4] = ["ended, kept zeros", "ended, kept others", "spent", "fault"];
 
 const OF_PROGRAMS: [&str; 5] = ["result", "refused 2", "refused 3", "refused 4", "refused 5"];
 const OF_STARTS: [&str; 2] = ["refused start", "refused 15"];
@@ -136,6 +137,75 @@ fn comparisons_are_as_by_the_oracle() {
     }
     met.report();
     endings.report();
+}
+
+// Faults
+
+/// A line for the step that faults, in which nothing is changed, and the line of the outcome.
+#[test]
+fn faults_are_printed() {
+    let runner = built("run_program");
+    let given = b"read i0\ni1 := 10 / i0\nwrite i1\n";
+    let outcome = "fault at 2 steps 2\n";
+    let trace = "      1    1  read i0                           i0 = 0\n\
+                 \x20     2    2  i1 := 10 / i0                   \n";
+    for (start, is_traced) in [("0\n2\n7\n7\n", false), ("0\n1000000\n7\n7\n", true)] {
+        let files = [("given", &given[..]), ("start", start.as_bytes())];
+        let words: &[&str] = if is_traced { &["given", "start", "trace"] } else { &[] };
+        let expected = if is_traced { format!("{trace}{outcome}") } else { outcome.to_string() };
+        assert_eq!(desk::run(given, start.as_bytes(), is_traced), expected);
+        same(0, &printed(&runner, "fault", &files, words), &expected, &files);
+    }
+    // One step before it.
+    let start = "0\n1\n";
+    let files = [("given", &given[..]), ("start", start.as_bytes())];
+    let expected = desk::run(given, start.as_bytes(), false);
+    assert!(expected.starts_with("spent at 2\n"));
+    same(1, &printed(&runner, "fault", &files, &[]), &expected, &files);
+}
+
+/// Both programs fault, one by `0` in place of the variable that holds it.
+#[test]
+fn faults_are_compared() {
+    let comparer = built("compare_runs");
+    let given = b"read i0\ni3 := 9\ni1 := 0\ni2 := i0 / i1\nwrite i2\n";
+    let list = b"2: mark(rm, i3, 9)\n4: mark(rpl, i1, 0)\n";
+    let expected = "marks 2 accepted 2\n\
+         \x20     1    1  read i0                           read i0                         \n\
+         \x20     2    2  i3 := 9                           skip                              i3 9 0\n\
+         \x20     3    3  i1 := 0                           i1 := 0                           i3 9 0\n\
+         \x20     4    4  i2 := i0 / i1                     i2 := i0 / 0                      i3 9 0\n\
+         given fault at 4 steps 4\nrewritten fault at 4 steps 4\nstatements and outcome agree\n";
+    for budget in ["4", "1000000"] {
+        let start = format!("5\n{budget}\n");
+        let files = [("given", &given[..]), ("marks", &list[..]), ("start", start.as_bytes())];
+        assert_eq!(desk::compare(given, list, start.as_bytes()), expected);
+        same(0, &printed(&comparer, "faults", &files, &[]), expected, &files);
+    }
+}
+
+/// The longest line of a fault: three digits of a statement, after the most steps.
+#[test]
+fn the_longest_fault_is_printed() {
+    let (runner, comparer) = (built("run_program"), built("compare_runs"));
+    // `read`, 249,999 rounds of 4 steps, then `if` to the division.
+    let mut given =
+        "read i0\nif i0 goto 3 else 254\ni0 := i0 - 1\nskip\nif i1 goto 2 else 2\n".to_string();
+    given += &"skip\n".repeat(249);
+    given += "i1 := i1 / i0\nwrite i1\n";
+    let (given, start) = (given.as_bytes(), b"249999\n1000000\n-2147483648\n");
+    let expected = "fault at 255 steps 1000000\n";
+    assert_eq!(desk::run(given, start, false), expected);
+    let files = [("given", given), ("start", &start[..])];
+    same(0, &printed(&runner, "longest_fault", &files, &[]), expected, &files);
+    let start = b"0\n1000000\n";
+    let expected = desk::compare(given, b"", start);
+    let line = "fault at 255 steps 4\n";
+    assert!(
+        expected.ends_with(&format!("given {line}rewritten {line}statements and outcome agree\n"))
+    );
+    let files = [("given", given), ("marks", &b""[..]), ("start", &start[..])];
+    same(1, &printed(&comparer, "longest_faults", &files, &[]), &expected, &files);
 }
 
 // The longest statement fills its column

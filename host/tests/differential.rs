@@ -14,7 +14,7 @@ use coverage::Tally;
 use lent::{Lent, Text};
 use oracle::condition::{self, Atom, Condition, Demand, Direction, Part, Quantifier};
 use oracle::generate::{self, Damage, Random, WrongSign};
-use oracle::machine::{self, kept_of, Outcome, Values};
+use oracle::machine::{self, kept_of, Outcome, Run, State, Values};
 use oracle::marks::{self, Judge, Kind, Mark};
 use oracle::program::{is_kept, Expression, Operand, Operator, Program, Statement, LARGEST, LEAST};
 use oracle::review::{self, Reviewed, MOST_TABLES};
@@ -218,6 +218,11 @@ fn put_outcome(places: &mut Lent<u32>, outcome: Outcome) {
             places[STATEMENT] = statement;
             places[LEFT..LEFT + VARIABLES].copy_from_slice(&values);
         }
+        Outcome::Fault { statement, steps } => {
+            places[ENDED] = 2;
+            places[STATEMENT] = statement;
+            places[STEPS] = steps;
+        }
     }
 }
 
@@ -271,25 +276,119 @@ fn statement_kind(statement: &Statement) -> &'static str {
         Statement::Branch { .. } => "if",
         Statement::Assign(_, Expression::Single(Operand::Variable(_))) => "copy",
         Statement::Assign(_, Expression::Single(Operand::Constant(_))) => "constant",
-        Statement::Assign(_, Expression::Pair(_, operator, _)) => match operator {
-            Operator::Plus => "+",
-            Operator::Minus => "-",
-            Operator::Times => "*",
-            Operator::Less => "<",
-            Operator::Equal => "=",
-        },
+        Statement::Assign(_, Expression::Pair(_, operator, _)) => operator_kind(*operator),
+    }
+}
+
+fn operator_kind(operator: Operator) -> &'static str {
+    match operator {
+        Operator::Plus => "+",
+        Operator::Minus => "-",
+        Operator::Times => "*",
+        Operator::Divide => "/",
+        Operator::Less => "<",
+        Operator::Equal => "=",
+    }
+}
+
+const OPERATORS: [&str; 6] = ["+", "-", "*", "/", "<", "="];
+
+#[rustfmt::skip]
+const STATEMENT_KINDS: [&str; 13] = [
+    "read", "write", "skip", "if", "if with one target", "copy", "constant",
+    "+", "-", "*", "/", "<", "=",
+];
+
+/// The operands of a division.
+fn division(right: &Expression) -> Option<(Operand, Operand)> {
+    match *right {
+        Expression::Pair(a, Operator::Divide, b) => Some((a, b)),
+        _ => None,
     }
 }
 
 #[rustfmt::skip]
-const STATEMENT_KINDS: [&str; 12] = [
-    "read", "write", "skip", "if", "if with one target", "copy", "constant", "+", "-", "*", "<", "=",
+const QUOTIENTS: [&str; 16] = [
+    "+ / +", "+ / -", "- / +", "- / -", "0 / +", "0 / -", "a remainder above zero",
+    "a remainder below zero", "0 of a number below zero", "0 of a divisor below zero",
+    "the end of the range", "the least by another", "by the least", "by -1", "+ / 0 or - / 0", "0 / 0",
 ];
+
+/// What is told by a division of two numbers.
+fn quotient_kinds(a: i32, b: i32) -> Vec<&'static str> {
+    if b == 0 {
+        return vec![if a == 0 { "0 / 0" } else { "+ / 0 or - / 0" }];
+    }
+    let signs = match (a.signum(), b.signum()) {
+        (1, 1) => "+ / +",
+        (1, _) => "+ / -",
+        (-1, 1) => "- / +",
+        (-1, _) => "- / -",
+        (_, 1) => "0 / +",
+        _ => "0 / -",
+    };
+    let (wide_a, wide_b) = (i64::from(a), i64::from(b));
+    let is_smaller = wide_a.abs() < wide_b.abs();
+    let kinds = [
+        (signs, true),
+        ("a remainder above zero", wide_a % wide_b > 0),
+        ("a remainder below zero", wide_a % wide_b < 0),
+        ("0 of a number below zero", a < 0 && b > 0 && is_smaller),
+        ("0 of a divisor below zero", a > 0 && b < 0 && is_smaller),
+        ("the end of the range", (a, b) == (i32::MIN, -1)),
+        ("the least by another", a == i32::MIN && b != -1),
+        ("by the least", b == i32::MIN),
+        ("by -1", b == -1),
+    ];
+    kinds.into_iter().filter(|(_, is_met)| *is_met).map(|(kind, _)| kind).collect()
+}
+
+/// Counts the divisions of a run's first steps.
+fn quotients_met(
+    program: &Program,
+    values: Values,
+    input: u32,
+    budget: u32,
+    met: &mut Tally<&'static str>,
+) {
+    let mut run = Run::start(program, values, input);
+    for _ in 0..budget.min(60) {
+        if let State::Before { statement, values } = *run.state() {
+            if let Some(Statement::Assign(_, right)) = program.statement(statement) {
+                let value = |operand| match operand {
+                    Operand::Variable(x) => values[usize::from(x)] as i32,
+                    Operand::Constant(bits) => bits as i32,
+                };
+                let kinds = division(right).map(|(a, b)| quotient_kinds(value(a), value(b)));
+                kinds.into_iter().flatten().for_each(|kind| met.met(kind));
+            }
+        }
+        run.step();
+    }
+}
+
+#[rustfmt::skip]
+const FAULTS: [&str; 5] = [
+    "by the second step", "by a later step", "by the last of the budget", "before the budget is spent",
+    "after a step back",
+];
+
+/// Where a run faulted.
+fn fault_kinds(statement: u32, steps: u32, budget: u32) -> [&'static str; 3] {
+    [
+        if steps == 2 { "by the second step" } else { "by a later step" },
+        if steps == budget { "by the last of the budget" } else { "before the budget is spent" },
+        // Otherwise each step goes at least one line on.
+        if steps > statement { "after a step back" } else { "" },
+    ]
+}
 
 #[test]
 fn runs_are_as_by_the_oracle() {
     let mut refusals = Tally::new("refusals of run", [15, 2, 3, 4, 5]);
-    let mut outcomes = Tally::new("outcomes of run", ["ended", "spent"]);
+    let mut outcomes = Tally::new("outcomes of run", ["ended", "spent", "fault"]);
+    let mut faults = Tally::new("faults of run", FAULTS);
+    let mut quotients = Tally::new("divisions of programs run", QUOTIENTS);
     let mut values = Tally::new("values", [i32::MIN, -1, 0, 1, i32::MAX]);
     let mut sizes = Tally::new("sizes of programs run", 2..=256);
     let mut kinds = Tally::new("statements of programs run", STATEMENT_KINDS);
@@ -333,8 +432,14 @@ fn runs_are_as_by_the_oracle() {
                         set.for_each(|k| kept_set.met(FIRST_KEPT + k));
                     }
                     Outcome::Spent { .. } => outcomes.met("spent"),
+                    Outcome::Fault { statement, steps } => {
+                        outcomes.met("fault");
+                        let kinds = fault_kinds(statement, steps, budget);
+                        kinds.into_iter().for_each(|kind| faults.met(kind));
+                    }
                 }
                 let program = Program::read(&text).expect("a program that was run is taken");
+                quotients_met(&program, values_given, input, budget, &mut quotients);
                 sizes.met(program.count());
                 program.statements().iter().for_each(|s| kinds.met(statement_kind(s)));
                 program.statements().iter().for_each(|s| constants.met_in(s));
@@ -343,6 +448,8 @@ fn runs_are_as_by_the_oracle() {
     }
     refusals.report();
     outcomes.report();
+    faults.report();
+    quotients.report();
     values.report();
     sizes.report();
     kinds.report();
@@ -502,6 +609,8 @@ fn tables_are_as_by_the_oracle() {
     let mut condition_signs = Signs::new("wrong signs of conditions", 7);
     let mut of_stmt = Constants::new("constants of stmt");
     let mut of_trans = Constants::new("constants of trans");
+    let mut stmt_operators = Tally::new("operators of stmt", OPERATORS);
+    let mut trans_operators = Tally::new("operators of trans", OPERATORS);
     let mut uses = Tally::new("use at write", USES_AT_WRITE);
     for (case, mut random) in cases("tabulate") {
         let random = &mut random;
@@ -544,8 +653,14 @@ fn tables_are_as_by_the_oracle() {
                 asked.parts().iter().for_each(|part| kinds.met(part_kind(part)));
                 for part in asked.parts() {
                     match part {
-                        Part::Atom(Atom::Stmt(statement)) => of_stmt.met_in(statement),
-                        Part::Atom(Atom::Trans(e)) => of_trans.met(e),
+                        Part::Atom(Atom::Stmt(statement)) => {
+                            of_stmt.met_in(statement);
+                            stmt_operators.met(statement_kind(statement));
+                        }
+                        Part::Atom(Atom::Trans(e)) => {
+                            of_trans.met(e);
+                            trans_operators.met(statement_kind(&Statement::Assign(0, *e)));
+                        }
                         Part::Atom(Atom::Use(x)) => uses.met(use_at_write(&program, *x)),
                         _ => {}
                     }
@@ -571,6 +686,8 @@ fn tables_are_as_by_the_oracle() {
     condition_signs.met.report();
     of_stmt.0.report();
     of_trans.0.report();
+    stmt_operators.report();
+    trans_operators.report();
     uses.report();
 }
 
@@ -796,10 +913,12 @@ fn judgement_agrees(
     })
 }
 
-/// What a run tells that a rewriting must leave as it is: its nine values and its steps, or its statement.
+/// What a run tells that a rewriting must leave as it is: its nine values and its steps, the statement and the steps
+/// of its fault, or its statement.
 #[derive(Debug, PartialEq)]
 enum Stand {
     Ended { value: u32, steps: u32, kept: Vec<u32> },
+    Faulted { statement: u32, steps: u32 },
     Before(u32),
 }
 
@@ -819,12 +938,13 @@ fn stand(
             steps: places[STEPS],
             kept: places[KEPT_ONES..KEPT_ONES + KEPT].to_vec(),
         },
+        2 => Stand::Faulted { statement: places[STATEMENT], steps: places[STEPS] },
         _ => Stand::Before(places[STATEMENT]),
     }
 }
 
 /// Runs the given and the rewritten program by growing budgets, step by step first, until both have
-/// ended.
+/// ended or faulted.
 fn runs_stay(random: &mut Random, case: &str, given: &[u8], new: &[u8], runs: &mut Tally<&str>) {
     let mut places = Lent::new(random, RUN_WORDS, |bits| bits as u32);
     let by_steps = if given.len() < 1_000 { 30 } else { 6 };
@@ -845,15 +965,20 @@ fn runs_stay(random: &mut Random, case: &str, given: &[u8], new: &[u8], runs: &m
                 escaped(new)
             );
             runs.met("budgets");
-            if let Stand::Ended { kept, .. } = one {
-                runs.met("ended");
-                if kept != kept_of(&values) {
-                    runs.met("kept other values");
+            match one {
+                Stand::Ended { kept, .. } => {
+                    runs.met("ended");
+                    if kept != kept_of(&values) {
+                        runs.met("kept other values");
+                    }
+                    break;
                 }
-                break;
-            }
-            if budget == far {
-                runs.met("spent");
+                Stand::Faulted { .. } => {
+                    runs.met("fault");
+                    break;
+                }
+                Stand::Before(_) if budget == far => runs.met("spent"),
+                Stand::Before(_) => {}
             }
         }
     }
@@ -910,6 +1035,53 @@ fn mark_on_kept(program: &Program, mark: &Mark, verdict: u8) -> Option<&'static 
     }
 }
 
+#[rustfmt::skip]
+const MARKS_ON_DIVISIONS: [&str; 14] = [
+    "rm by a constant accepted", "rm by a constant refused 14", "rm by a constant below zero accepted",
+    "rm by a variable refused 18, unused", "rm by a variable refused 18, used",
+    "rm by 0 refused 18, unused", "rm by 0 refused 18, used", "rm refused 13", "rm refused 12",
+    "rpl of a dividend accepted", "rpl of a divisor by a variable accepted",
+    "rpl of a divisor by 0 accepted", "rpl of a divisor by another constant accepted",
+    "rpl of a divisor refused 14",
+];
+
+/// What became of a mark on a statement that divides.
+fn mark_on_division(program: &Program, mark: &Mark, verdict: u8) -> Option<&'static str> {
+    let (a, b) = match program.statement(mark.number)? {
+        Statement::Assign(_, right) => division(right)?,
+        _ => return None,
+    };
+    let is_used = || {
+        let condition = mark.condition().text();
+        let mut table = [0; TABLE_WORDS];
+        let answer = condition::tabulate(&program.text(), &condition, &mut table);
+        let (parts, _, _) = answer.expect("a published condition is taken");
+        let at = mark.number as usize - 1;
+        table[4 * (parts as usize - 1) + at / 64] >> (at % 64) & 1 == 0
+    };
+    Some(match (mark.kind, b, verdict) {
+        (Kind::Remove(_), Operand::Constant(LEAST..), 0) => "rm by a constant below zero accepted",
+        (Kind::Remove(_), _, 0) => "rm by a constant accepted",
+        (Kind::Remove(_), _, 12) => "rm refused 12",
+        (Kind::Remove(_), _, 13) => "rm refused 13",
+        (Kind::Remove(_), _, 14) => "rm by a constant refused 14",
+        (Kind::Remove(_), Operand::Variable(_), 18) if is_used() => {
+            "rm by a variable refused 18, used"
+        }
+        (Kind::Remove(_), Operand::Variable(_), 18) => "rm by a variable refused 18, unused",
+        (Kind::Remove(_), Operand::Constant(_), 18) if is_used() => "rm by 0 refused 18, used",
+        (Kind::Remove(_), Operand::Constant(_), 18) => "rm by 0 refused 18, unused",
+        (Kind::Replace(by), _, 0) if b.mentions(mark.variable) => match by {
+            Operand::Variable(_) => "rpl of a divisor by a variable accepted",
+            Operand::Constant(0) => "rpl of a divisor by 0 accepted",
+            Operand::Constant(_) => "rpl of a divisor by another constant accepted",
+        },
+        (Kind::Replace(_), _, 0) if a.mentions(mark.variable) => "rpl of a dividend accepted",
+        (Kind::Replace(_), _, 14) if b.mentions(mark.variable) => "rpl of a divisor refused 14",
+        _ => return None,
+    })
+}
+
 /// Whether one of two right sides is a constant, and the other takes its negative from 0.
 fn is_written_otherwise(one: &Expression, other: &Expression) -> bool {
     match (*one, *other) {
@@ -928,7 +1100,7 @@ fn is_written_otherwise(one: &Expression, other: &Expression) -> bool {
 #[test]
 fn judgements_are_as_by_the_oracle_and_keep_runs() {
     let mut refusals = Tally::new("refusals of judge", [1, 2, 3, 4, 5, 9, 10]);
-    let mut verdicts = Tally::new("verdicts", [0, 11, 12, 13, 14]);
+    let mut verdicts = Tally::new("verdicts", [0, 11, 12, 13, 18, 14]);
     let mut accepted = Tally::new("marks accepted", MARK_KINDS);
     let mut sizes = Tally::new("sizes of programs judged", 2..=256);
     let mut counts = Tally::new("marks of a list", 0..=256);
@@ -937,9 +1109,10 @@ fn judgements_are_as_by_the_oracle_and_keep_runs() {
     let mut text_rooms = rooms("bytes of new text", TEXT_BYTES);
     let mut of_programs = damages("damages of programs judged");
     let mut of_lists = damages("damages of marks");
-    let classes = ["budgets", "ended", "kept other values", "spent"];
+    let classes = ["budgets", "ended", "kept other values", "fault", "spent"];
     let mut runs = Tally::new("runs of both programs", classes);
     let mut on_kept = Tally::new("marks on what is kept", MARKS_ON_KEPT);
+    let mut on_divisions = Tally::new("marks on divisions", MARKS_ON_DIVISIONS);
     let mut program_signs = Signs::new("wrong signs of programs judged", 2);
     let mut mark_signs = Signs::new("wrong signs of marks", 9);
     let mut of_rm = Constants::new("constants of rm");
@@ -1004,6 +1177,9 @@ fn judgements_are_as_by_the_oracle_and_keep_runs() {
                     if let Some(class) = mark_on_kept(&program, mark, verdict) {
                         on_kept.met(class);
                     }
+                    if let Some(class) = mark_on_division(&program, mark, verdict) {
+                        on_divisions.met(class);
+                    }
                     match mark.kind {
                         Kind::Remove(e) => {
                             of_rm.met(&e);
@@ -1051,6 +1227,7 @@ fn judgements_are_as_by_the_oracle_and_keep_runs() {
     of_rm.0.report();
     of_rpl.0.report();
     on_kept.report();
+    on_divisions.report();
     otherwise.report();
     too_small.report();
     enough.report();
@@ -1188,6 +1365,8 @@ fn runs_under_each_small_budget_are_as_by_the_oracle() {
         "read i0\ni1 := i1 * 3\ni0 := i0 - i1\nif i9 goto 2 else 5\nwrite i0\n",
         // Fibonacci's numbers, past 32 bits.
         "read i0\ni1 := i2 + i3\ni2 := i3\ni3 := i1\nif i0 goto 2 else 6\nwrite i1\n",
+        // A fault when i0 has been counted down.
+        "read i0\ni1 := i2 / i0\ni0 := i0 - 1\nif i3 goto 2 else 2\nwrite i1\n",
     ];
     for program in programs {
         for input in 0..10 {
@@ -1197,6 +1376,53 @@ fn runs_under_each_small_budget_are_as_by_the_oracle() {
             }
         }
     }
+}
+
+/// Each of some numbers by each, as variables and as constants.
+#[test]
+fn quotients_at_the_edges_are_as_by_the_oracle() {
+    let random = &mut Random::new(7);
+    let mut met = Tally::new("divisions at the edges", QUOTIENTS);
+    let edges = [i32::MIN, i32::MIN + 1, -7, -2, -1, 0, 1, 2, 7, 65_536, i32::MAX - 1, i32::MAX];
+    for a in edges {
+        for b in edges {
+            let mut values = generate::values(random);
+            (values[1], values[2]) = (a as u32, b as u32);
+            let rights = [
+                "i1 / i2".to_string(),
+                format!("{a} / i2"),
+                format!("i1 / {b}"),
+                format!("{a} / {b}"),
+            ];
+            for right in rights {
+                let text = format!("read i0\ni3 := {right}\nwrite i3\n");
+                let answer = run_from_agrees(random, &right, text.as_bytes(), values, 5, 3);
+                assert_eq!(answer == Ok(Outcome::Fault { statement: 2, steps: 2 }), b == 0);
+            }
+            quotient_kinds(a, b).into_iter().for_each(|kind| met.met(kind));
+        }
+    }
+    met.report();
+}
+
+/// Each divisor, dropped where nothing uses the quotient and where it is written.
+#[test]
+fn every_divisor_is_dropped_as_by_the_oracle() {
+    let random = &mut Random::new(8);
+    let mut verdicts = Tally::new("verdicts of dropped divisions", [0, 14, 18]);
+    let variables = (0..VARIABLES).map(|x| format!("i{x}"));
+    let constants = ["0", "1", "-1", "2", "-2", "256", "65536", "2147483647", "-2147483648"];
+    for divisor in variables.chain(constants.map(str::to_string)) {
+        for written in [1, 9] {
+            let program = format!("read i0\ni9 := i1 / {divisor}\nwrite i{written}\n");
+            let list = format!("2: mark(rm, i9, i1 / {divisor})\n");
+            let rooms = (VERDICT_BYTES, TEXT_BYTES);
+            let judged =
+                judgement_agrees(random, &list, program.as_bytes(), list.as_bytes(), rooms);
+            judged.expect("the list is taken").verdicts.iter().for_each(|&v| verdicts.met(v));
+        }
+    }
+    verdicts.report();
 }
 
 #[test]
@@ -1316,11 +1542,14 @@ const EACH_KIND: &[u8] = b"read i0\ni1 := i0\ni2 := i1 + 7\nif i2 goto 5 else 6\
 /// A program with constants below zero in each place.
 const BELOW_ZERO: &[u8] = b"read i0\ni1 := -2147483648\ni2 := -1 - -40\ni2 := i1 - -7\nwrite i2\n";
 
+/// A program with divisions.
+const DIVIDING: &[u8] = b"read i0\ni1 := i0 / i2\ni2 := -7 / -2\ni1 := 1 / 0\nwrite i2\n";
+
 #[test]
 fn programs_edited_by_one_byte_are_as_by_the_oracle() {
     let random = &mut Random::new(2);
     let mut numbers = Tally::new("answers to edited programs", [0, 2, 5]);
-    for text in edits(EACH_KIND).chain(edits(BELOW_ZERO)) {
+    for text in edits(EACH_KIND).chain(edits(BELOW_ZERO)).chain(edits(DIVIDING)) {
         numbers.met(run_agrees(random, "edit", &text, 5, 20).err().unwrap_or(0));
     }
     numbers.report();
@@ -1330,8 +1559,9 @@ fn programs_edited_by_one_byte_are_as_by_the_oracle() {
 fn conditions_edited_by_one_byte_are_as_by_the_oracle() {
     let random = &mut Random::new(3);
     let mut numbers = Tally::new("answers to edited conditions", [0, 7]);
-    let conditions: [&[u8]; 4] = [
+    let conditions: [&[u8]; 5] = [
         b"AY A[((!def(i2) & trans(7)) & !entry) B stmt(i2 := 7)]",
+        b"(trans(i1 / i2) & stmt(i3 := i1 / 0))",
         b"(trans(-7) & stmt(i2 := -2147483648 - -1))",
         b"E[EX exit S (node(4) | AM !stmt(if i0 goto 6 else 8))]",
         b"!A[EF use(i3) W (false | true)]",
@@ -1349,15 +1579,17 @@ fn conditions_edited_by_one_byte_are_as_by_the_oracle() {
 fn marks_edited_by_one_byte_are_as_by_the_oracle() {
     let random = &mut Random::new(4);
     let mut numbers = Tally::new("answers to edited marks", [0, 9]);
-    let mut verdicts = Tally::new("verdicts of edited marks", [0, 11, 12, 13, 14]);
+    let mut verdicts = Tally::new("verdicts of edited marks", [0, 11, 12, 13, 14, 18]);
     let list = b"4: mark(rpl, i2, 7)\n3: mark(rm, i2, 7)\n4: mark(rm, i3, i1 + i2)\n";
     let below_zero = b"4: mark(rpl, i2, -2147483648)\n3: mark(rm, i2, -7 - -40)\n";
+    let dividing = b"2: mark(rm, i1, i0 / i2)\n3: mark(rm, i2, -7 / -2)\n4: mark(rm, i1, 1 / 0)\n";
     let rooms = (VERDICT_BYTES, TEXT_BYTES);
-    for text in edits(list).chain(edits(below_zero)) {
+    let of_p = edits(list).chain(edits(below_zero)).map(|text| (P.as_bytes(), text));
+    for (program, text) in of_p.chain(edits(dividing).map(|text| (DIVIDING, text))) {
         for line in [0, 1, 2, 3, u32::MAX] {
             let _ = mark_line_agrees(random, "edit", &text, line);
         }
-        let answer = judgement_agrees(random, "edit", P.as_bytes(), &text, rooms);
+        let answer = judgement_agrees(random, "edit", program, &text, rooms);
         numbers.met(answer.as_ref().err().copied().unwrap_or(0));
         if let Ok(judged) = answer {
             judged.verdicts.iter().for_each(|&verdict| verdicts.met(verdict));

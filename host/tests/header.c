@@ -92,6 +92,50 @@ static int kept_answers(void) {
     return 0;
 }
 
+/* Divisions: a quotient, a fault, and what may be dropped. */
+static int division_answers(void) {
+    static const char given[] = "read i0\ni1 := 10 / i0\nwrite i1\n";
+    static const char dropped[] = "read i0\ni1 := i0 / i2\ni3 := i0 / 2\nwrite i0\n";
+    static const char rewritten[] = "read i0\ni1 := i0 / i2\nskip\nwrite i0\n";
+    static const char list[] = "2: mark(rm, i1, i0 / i2)\n3: mark(rm, i3, i0 / 2)\n";
+    static const char forward[] = "EX node(3)";
+    static uint8_t verdicts[256], text[8704];
+    const uint8_t *p = (const uint8_t *)given, *d = (const uint8_t *)dropped;
+    const uint32_t values[32] = {0};
+    uint64_t table[256] = {0};
+    uint32_t ended = 11, steps = 12, statement = 13, left[32], kept[8], first, second, third;
+    int32_t value = -15;
+    size_t k;
+
+    for (k = 0; k < 32; k++) left[k] = 14;
+    for (k = 0; k < 8; k++) kept[k] = 16;
+    CHECK(rewrites_run(p, strlen(given), values, 0, 2, &ended, &value, &steps, &statement, left,
+                       kept) == 0);
+    CHECK(ended == 2 && statement == 2 && steps == 2 && value == -15);
+    for (k = 0; k < 32; k++) CHECK(left[k] == 14);
+    for (k = 0; k < 8; k++) CHECK(kept[k] == 16);
+
+    /* One step before, and by another divisor. */
+    CHECK(rewrites_run(p, strlen(given), values, 0, 1, &ended, &value, &steps, &statement, left,
+                       kept) == 0);
+    CHECK(ended == 0 && statement == 2 && steps == 2 && value == -15 && left[0] == 0 && left[1] == 0);
+    CHECK(rewrites_run(p, strlen(given), values, (uint32_t)-3, 3, &ended, &value, &steps, &statement,
+                       left, kept) == 0);
+    CHECK(ended == 1 && value == -3 && steps == 3 && kept[0] == 0);
+
+    /* A division steps to the next line. */
+    CHECK(rewrites_tabulate(p, strlen(given), (const uint8_t *)forward, strlen(forward), table, 256,
+                            &first, &second, &third) == 0);
+    CHECK(first == 2 && second == 2 && third == 2 && table[0] == 4 && table[4] == 6);
+
+    CHECK(rewrites_judge(d, strlen(dropped), (const uint8_t *)list, strlen(list), verdicts, 256, text,
+                         8704, &first, &second, &third) == 0);
+    CHECK(first == 2 && second == 1 && third == strlen(rewritten));
+    CHECK(verdicts[0] == 18 && verdicts[1] == 0);
+    CHECK(memcmp(text, rewritten, strlen(rewritten)) == 0);
+    return 0;
+}
+
 static int tabulate_answers(void) {
     uint8_t (*const tabulate)(const uint8_t *, size_t, const uint8_t *, size_t, uint64_t *, size_t,
                               uint32_t *, uint32_t *, uint32_t *) = rewrites_tabulate;
@@ -335,7 +379,7 @@ static int mark_line_answers(void) {
 }
 
 int main(void) {
-    return run_answers() || kept_answers() || tabulate_answers() || review_answers() ||
-           full_review_answers() || judge_answers() || below_zero_answers() ||
+    return run_answers() || kept_answers() || division_answers() || tabulate_answers() ||
+           review_answers() || full_review_answers() || judge_answers() || below_zero_answers() ||
            mark_line_answers();
 }

@@ -136,7 +136,8 @@ fn p() -> Vec<&'static str> {
 
 // Runs side by side
 
-/// The same value, steps and kept values, or spent at the same statement.
+/// The same value, steps and kept values, a fault at the same statement after the same steps, or spent at
+/// the same statement.
 fn alike(given: Outcome, new: Outcome) -> bool {
     match (given, new) {
         (Outcome::Spent { statement: n, .. }, Outcome::Spent { statement: m, .. }) => n == m,
@@ -388,12 +389,15 @@ const MISSPELLED: &[&str] = &[
     "4: mark(rm, i2, 07)", "4: mark(rm, i2, 2147483648)",
     "4: mark(rpl, i2, 2147483648)", "4: mark(rpl, i2, 4294967303)", "4: mark(rm, i2 := 7)",
     "4: mark(rm, i2, i2 := 7)", "4: mark(rm, i2, (7))", "4: mark(rm, i2, 7, 7)",
-    "4: mark(rm, i2, i1+i2)", "4: mark(rm, i2, i1 +i2)", "4: mark(rm, i2, i1 / i2)",
+    "4: mark(rm, i2, i1+i2)", "4: mark(rm, i2, i1 +i2)", "4: mark(rm, i2, i1 % i2)",
+    "4: mark(rm, i2, i1/i2)", "4: mark(rm, i2, i1 /i2)", "4: mark(rm, i2, i1 / i2 / i3)",
+    "4: mark(rm, i2, / i2)", "4: mark(rm, i2, i1 /)", "4: mark(rm, i2, i1 / -0)",
     "4: mark(rm, i2, i1 <= i2)", "4: mark(rm, i2, i1 + i2 + i3)", "4: mark(rm, i2, + i1)",
     "4: mark(rm, i2, i1 +)", "4: mark(rm, i2, skip)", "4: mark(rpl, i2, )", "4: mark(rpl, i2, é)",
     "4: mark(rm, i2, 7) 4: mark(rm, i2, 7)", "4: mark(rm, i2, 7)4: mark(rm, i2, 7)", "# rm",
     // `rpl` takes no two operands.
     "4: mark(rpl, i2, 3 + 4)", "4: mark(rpl, i2, i0 - 1)", "4: mark(rpl, i1, i0 + 0)",
+    "4: mark(rpl, i2, 14 / 2)", "4: mark(rpl, i1, i0 / 1)",
 ];
 
 #[test]
@@ -444,7 +448,7 @@ fn spelled_marks_of_each_kind_are_taken() {
     for a in ["0", "1", "10", "2147483647", "i0", "i31"] {
         assert_number(&text(&[format!("4: mark(rm, i2, {})", a)]), 0);
         assert_number(&text(&[format!("4: mark(rpl, i2, {})", a)]), 0);
-        for o in ["+", "-", "*", "<", "="] {
+        for o in ["+", "-", "*", "/", "<", "="] {
             assert_number(&text(&[format!("4: mark(rm, i2, {} {} i9)", a, o)]), 0);
             assert_number(&text(&[format!("4: mark(rm, i2, 5 {} {})", o, a)]), 0);
         }
@@ -814,6 +818,137 @@ fn refusal_13_comes_before_14() {
     assert_judged(&program, &[("2: mark(rm, i1, i0)", 14)], &[]);
     // No copy of 7 comes to 3, which takes no constant.
     assert_judged(&program, &[("3: mark(rpl, i1, 7)", 13)], &[]);
+}
+
+// Divisions
+
+/// The verdict of the `rm` of a right side that nothing uses, and of one that is written.
+fn assert_dropped(right: &str, unused: u8, written: u8) {
+    let (line, mark) = (format!("i1 := {}", right), format!("2: mark(rm, i1, {})", right));
+    let made: &[(usize, &str)] = if unused == 0 { &[(2, "skip")] } else { &[] };
+    assert_judged(&["read i0", &line, "write i0"], &[(&mark, unused)], made);
+    assert_judged(&["read i0", &line, "write i1"], &[(&mark, written)], &[]);
+}
+
+#[test]
+fn a_division_is_dropped_only_by_a_constant_other_than_0() {
+    for right in ["i0 / i2", "i0 / 0", "0 / 0", "5 / i0", "i2 / i2", "i1 / i1", "7 / i31"] {
+        assert_dropped(right, 18, 18);
+    }
+    for divisor in ["2", "-1", "1", "-2147483648", "2147483647", "-2", "256", "65536"] {
+        assert_dropped(&format!("i0 / {}", divisor), 0, 14);
+        assert_dropped(&format!("-2147483648 / {}", divisor), 0, 14);
+    }
+    // What other operators take may be 0.
+    for right in ["i0 * 0", "i0 + 0", "i0 - i2", "0 < 0", "i0 = 0", "0 = i2", "0", "i2"] {
+        assert_dropped(right, 0, 14);
+    }
+}
+
+#[test]
+fn refusals_11_12_and_13_come_before_18() {
+    let program = ["read i0", "i1 := i0 / i2", "i3 := i0 / 0", "write i0"];
+    let second = [
+        ("2: mark(rm, i1, i0 / i2)", 18),
+        ("2: mark(rm, i1, i0 / i2)", 12),
+        ("3: mark(rm, i3, i0 / i2)", 13),
+        ("3: mark(rm, i3, i0 / 0)", 12),
+        ("0: mark(rm, i3, i0 / 0)", 11),
+        ("5: mark(rm, i3, i0 / 0)", 11),
+    ];
+    assert_judged(&program, &second, &[]);
+    // The mark is a division, and the statement another or none.
+    for unfit in [
+        "2: mark(rm, i1, i2 / i0)",
+        "2: mark(rm, i1, i0 / i3)",
+        "2: mark(rm, i3, i0 / i2)",
+        "2: mark(rm, i1, i0 / 0)",
+        "2: mark(rm, i1, i0 * i2)",
+        "2: mark(rm, i1, i0)",
+        "3: mark(rm, i3, i0 / 1)",
+        "1: mark(rm, i0, i0 / 0)",
+        "4: mark(rm, i0, i0 / 0)",
+    ] {
+        assert_judged(&program, &[(unfit, 13)], &[]);
+    }
+    // The statement is a division, and the mark drops no right side of it.
+    assert_judged(&program, &[("2: mark(rpl, i3, 0)", 13), ("3: mark(rpl, i0, 0)", 14)], &[]);
+}
+
+#[test]
+fn refusal_18_comes_before_14() {
+    // Both would apply: i1 is written, kept or tested.
+    let programs: [&[&str]; 4] = [
+        &["read i0", "i1 := i0 / i2", "write i1"],
+        &["read i0", "i1 := i0 / i2", "if i1 goto 2 else 4", "write i0"],
+        &["read i0", "i1 := i0 / i2", "i3 := i1", "write i3"],
+        &["read i1", "i1 := i0 / i2", "i2 := i1 - 1", "if i2 goto 2 else 5", "write i0"],
+    ];
+    for program in programs {
+        assert_judged(program, &[("2: mark(rm, i1, i0 / i2)", 18)], &[]);
+        assert!(!holds(program, "!EX E[!def(i1) U use(i1)]", 2));
+    }
+    let kept = ["read i0", "i24 := i0 / i1", "i25 := i0 / 3", "write i0"];
+    let marks = [("2: mark(rm, i24, i0 / i1)", 18), ("3: mark(rm, i25, i0 / 3)", 14)];
+    assert_judged_in_any_order(&kept, &marks, &[]);
+}
+
+#[test]
+fn refusal_18_is_given_where_no_step_comes() {
+    let program = ["read i0", "if i0 goto 4 else 4", "i1 := i0 / 0", "write i0"];
+    assert_judged(&program, &[("3: mark(rm, i1, i0 / 0)", 18)], &[]);
+    let program = ["read i0", "if i0 goto 4 else 4", "i1 := i0 / 3", "write i0"];
+    assert_judged(&program, &[("3: mark(rm, i1, i0 / 3)", 0)], &[(3, "skip")]);
+}
+
+/// Without the division the run would go on.
+#[test]
+fn a_division_that_is_dropped_would_lose_its_fault() {
+    let program = ["read i0", "i1 := i0 / i2", "write i0"];
+    assert_judged(&program, &[("2: mark(rm, i1, i0 / i2)", 18)], &[]);
+    assert!(holds(&program, "!EX E[!def(i1) U use(i1)]", 2));
+    let wrong = text(&changed(&program, &[(2, "skip")]));
+    let outcome = |program: &[u8]| run(program, &[0; 32], 5, 9);
+    assert_eq!(outcome(&text(&program)), Ok(Outcome::Fault { statement: 2, steps: 2 }));
+    let kept = [0; KEPT];
+    assert_eq!(outcome(&wrong), Ok(Outcome::Ended { value: 5, steps: 3, kept }));
+}
+
+#[test]
+fn rpl_puts_anything_for_a_dividend_or_a_divisor() {
+    // 0 for a divisor that holds it: both programs fault at 3.
+    let program = ["read i0", "i1 := 0", "i2 := i0 / i1", "write i2"];
+    let marks = [("3: mark(rpl, i1, 0)", 0), ("2: mark(rm, i1, 0)", 14)];
+    assert_judged_in_any_order(&program, &marks, &[(3, "i2 := i0 / 0")]);
+    let new = text(&changed(&program, &[(3, "i2 := i0 / 0")]));
+    for program in [text(&program), new] {
+        for budget in [3, 4, 1_000_000] {
+            let answer = run(&program, &given(), 5, budget);
+            assert_eq!(answer, Ok(Outcome::Fault { statement: 3, steps: 3 }));
+        }
+        assert!(matches!(run(&program, &given(), 5, 2), Ok(Outcome::Spent { statement: 3, .. })));
+    }
+    let both = ["read i0", "i1 := i3", "i2 := i1 / i1", "write i2"];
+    assert_judged(&both, &[("3: mark(rpl, i1, i3)", 0)], &[(3, "i2 := i3 / i3")]);
+    let by_minus_1 = ["read i0", "i1 := -1", "i2 := i0 / i1", "write i2"];
+    assert_judged(&by_minus_1, &[("3: mark(rpl, i1, -1)", 0)], &[(3, "i2 := i0 / -1")]);
+    let dividend = ["read i0", "i1 := 7", "i2 := i1 / i0", "write i2"];
+    assert_judged(&dividend, &[("3: mark(rpl, i1, 7)", 0)], &[(3, "i2 := 7 / i0")]);
+    // A division is no copy.
+    let no_copy = ["read i0", "i1 := i0 / 1", "write i1"];
+    assert_judged(&no_copy, &[("3: mark(rpl, i1, i0)", 14)], &[]);
+}
+
+#[test]
+fn a_divisor_that_was_replaced_is_not_looked_at_again() {
+    // Each mark is judged on the given program, which divides by i1.
+    let program = ["read i0", "i1 := 2", "i2 := i0 / i1", "i2 := 9", "write i2"];
+    let marks = [("3: mark(rpl, i1, 2)", 0), ("3: mark(rm, i2, i0 / 2)", 12)];
+    assert_judged(&program, &marks, &[(3, "i2 := i0 / 2")]);
+    assert_judged(&program, &[("3: mark(rm, i2, i0 / i1)", 18)], &[]);
+    // The rewritten program may drop it.
+    let new = changed(&program, &[(3, "i2 := i0 / 2")]);
+    assert_judged(&new, &[("3: mark(rm, i2, i0 / 2)", 0)], &[(3, "skip")]);
 }
 
 // The condition of `rm`
@@ -1539,6 +1674,7 @@ fn verdicts_print_their_words() {
         (11, "n is 0 or above N"),
         (12, "an earlier line names n, accepted or not"),
         (13, "the mark doesn't fit"),
+        (18, "it drops a division by anything but a constant other than 0"),
         (14, "its condition is false at n"),
     ];
     let printed = Verdict::ALL.map(|v| (v.number(), v.to_string()));
@@ -1620,7 +1756,7 @@ fn published(mark: &str) -> String {
 #[test]
 fn a_mark_that_fits_is_accepted_where_tabulate_shows_its_condition_true() {
     let mut random = Random::new(0x9b05_688c_2b3e_6c1f);
-    let (mut met, mut unmet) = (0, 0);
+    let (mut met, mut unmet, mut may_fault) = (0, 0, 0);
     for _ in 0..2000 {
         let size = 3 + random.below(30);
         let program = generate::program(&mut random, size);
@@ -1635,11 +1771,16 @@ fn a_mark_that_fits_is_accepted_where_tabulate_shows_its_condition_true() {
             if matches!(verdicts[0], 11 | 13) {
                 continue;
             }
+            if verdicts[0] == 18 {
+                // Of such a mark more is asked.
+                may_fault += 1;
+                continue;
+            }
             let n = mark.split(':').next().and_then(|n| n.parse().ok()).expect("a number");
             let holds = holds(&lines, &published(&mark), n);
             assert_eq!(verdicts[0], if holds { 0 } else { 14 }, "{}", mark);
             *(if holds { &mut met } else { &mut unmet }) += 1;
         }
     }
-    assert!(met > 1000 && unmet > 1000, "{} {}", met, unmet);
+    assert!(met > 1000 && unmet > 1000 && may_fault > 50, "{} {} {}", met, unmet, may_fault);
 }

@@ -240,6 +240,24 @@ fn operators_and_atoms_are_told_apart() {
     assert_eq!(tables(&String::from_utf8_lossy(&text(&atoms))), atoms.len() as u32);
 }
 
+/// The same of the operators of right sides.
+#[test]
+fn operators_of_right_sides_are_told_apart() {
+    let mut atoms = Vec::new();
+    for operator in ["+", "-", "*", "/", "<", "="] {
+        atoms.push(format!("trans(i1 {operator} i2)"));
+        atoms.push(format!("stmt(i3 := i1 {operator} i2)"));
+    }
+    let others = ["trans(i2 / i1)", "trans(i1 / 2)", "trans(i1 / 0)", "stmt(i3 := i2 / i1)"];
+    atoms.extend(others.map(str::to_string));
+    let once = text(&atoms);
+    for conditions in [once.clone(), once.repeat(2)] {
+        assert_eq!(tables(&String::from_utf8_lossy(&conditions)), atoms.len() as u32);
+    }
+    let lines = [line(0, 1, 6, 1), line(1, 1, 6, 1), line(0, 1, 6, 1)];
+    assert_on_p("trans(i1 / i2)\ntrans(i1 * i2)\ntrans(i1 / i2)\n", &[249, 249], &lines);
+}
+
 #[test]
 fn rows_have_a_bit_for_each_of_256_statements() {
     let program = text(&lines(256));

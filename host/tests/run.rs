@@ -34,6 +34,10 @@ fn spent(statement: u32, values: [u32; 32]) -> Result<Outcome, Refusal> {
     Ok(Outcome::Spent { statement, values })
 }
 
+fn fault(statement: u32, steps: u32) -> Result<Outcome, Refusal> {
+    Ok(Outcome::Fault { statement, steps })
+}
+
 /// The number of the refusal, or 0 where the program is taken; it doesn't depend on the budget.
 fn number(text: &[u8]) -> u8 {
     let numbers = [0, 1, 300].map(|budget| match run(text, &given(), 0, budget) {
@@ -1088,6 +1092,166 @@ fn statements_that_no_step_reaches_are_not_performed() {
     assert_eq!(run_lines(&program, 5, 9), ended(5, 3));
 }
 
+// Division
+
+#[test]
+fn quotients_are_signed_and_rounded_toward_zero() {
+    const MINUS_7: u32 = -7_i32 as u32;
+    operator_gives(
+        "/",
+        &[
+            (7, 2, 3),
+            (MINUS_7, 2, -3),
+            (7, MINUS_2, -3),
+            (MINUS_7, MINUS_2, 3),
+            (MINUS_1, 2, 0),
+            (1, MINUS_2, 0),
+            (8, 2, 4),
+            (MINUS_7, 7, -1),
+            (0, MINUS_7, 0),
+            (0, LEAST, 0),
+            (MINUS_1, MINUS_1, 1),
+            (2, 3, 0),
+            (100, 7, 14),
+            (65536, 256, 256),
+            (1_000_000_007, 10_007, 99_930),
+        ],
+    );
+}
+
+#[test]
+fn quotients_at_the_ends_of_the_range() {
+    operator_gives(
+        "/",
+        &[
+            (LEAST, MINUS_1, i32::MIN),
+            (LEAST, 1, i32::MIN),
+            (LEAST, MOST, -1),
+            (LEAST, LEAST, 1),
+            (LEAST, 2, -1_073_741_824),
+            (LEAST, MINUS_2, 1_073_741_824),
+            (LEAST + 1, MINUS_1, i32::MAX),
+            (LEAST + 1, LEAST, 0),
+            (MOST, MINUS_1, -2_147_483_647),
+            (MOST, 1, i32::MAX),
+            (MOST, MOST, 1),
+            (MOST, LEAST, 0),
+            (MOST, 2, 1_073_741_823),
+            (1, LEAST, 0),
+            (1, MOST, 0),
+            (MINUS_1, LEAST, 0),
+            (MINUS_1, MOST, 0),
+        ],
+    );
+}
+
+#[test]
+fn a_slash_is_taken_where_the_other_operators_are() {
+    for right in ["i0 / i1", "1 / i1", "i0 / 1", "7 / 2", "i0 / 0", "-7 / -2", "i31 / i31"] {
+        assert_number(&text(&["read i0", &format!("i1 := {}", right), "write i0"]), 0);
+    }
+    // The longest statement.
+    let mut program = vec!["i31 := -2147483648 / -2147483648"; 256];
+    program[0] = "read i31";
+    program[255] = "write i31";
+    assert_eq!(run(&text(&program), &given(), 5, 256), ended_with(1, 256, &[(31, 1)]));
+}
+
+#[test]
+fn other_slashes_are_refused_2() {
+    #[rustfmt::skip]
+    let right_sides = [
+        "i0 / i1 / i2", "i0/i1", "/ i1", "i0 /i1", "i0/ i1", "/i1", "/", " / ", " / i1", "i0 /",
+        "i0 / ", "i0 // i1", "i0 / / i1", "i0  / i1", "i0 /  i1", "i0 / i1 ", "i0 / i1 /",
+        "i0 / i1 + i2", "i0 + i1 / i2", "i0 / -0", "i0 / +1", "i0 / - 1", "i0 / -i1", "i0 / i32",
+        "i0 / 01", "i0 / 2147483648", "i0 / -2147483649", "i0 \\ i1", "i0 % i1", "i0 : i1",
+        "i0 ÷ i1", "i0 ∕ i1", "(i0 / i1)", "i0\t/ i1", "i0 /\ti1", "i0 \0 i1", "i0 / i1\r",
+    ];
+    for right in right_sides {
+        assert_number(&text(&["read i0", &format!("i1 := {}", right), "write i0"]), 2);
+    }
+    for line in ["i1 / i0 := 2", "i1 /= 2", "read i0 / 2", "if i0 / 2 goto 2 else 3", "skip / 2"] {
+        assert_number(&text(&["read i0", line, "write i0"]), 2);
+    }
+}
+
+#[test]
+fn a_zero_divisor_is_a_fault() {
+    for a in [5, 0, 1, MINUS_1, LEAST, MOST] {
+        let values = given_but(&[(1, a), (2, 0)]);
+        for left in ["i1".to_string(), (a as i32).to_string()] {
+            for right in ["i2", "0"] {
+                let line = format!("i3 := {} / {}", left, right);
+                let program = text(&["read i0", &line, "write i3"]);
+                assert_eq!(run(&program, &values, 7, 9), fault(2, 2), "{}", line);
+            }
+        }
+    }
+    // The dividend, the divisor and the assigned variable may be one.
+    assert_eq!(run_lines(&["read i0", "i0 := i0 / i0", "write i0"], 0, 9), fault(2, 2));
+    assert_eq!(run_lines(&["read i0", "i0 := i0 / i0", "write i0"], LEAST, 9), ended(1, 3));
+}
+
+#[test]
+fn the_step_that_faults_is_counted() {
+    let program = ["read i0", "i1 := 10 / i0", "write i1"];
+    assert_eq!(run_lines(&program, 0, 0), spent(1, given()));
+    assert_eq!(run_lines(&program, 0, 1), spent(2, given_but(&[(0, 0)])));
+    for budget in [2, 3, 4, 1_000_000] {
+        assert_eq!(run_lines(&program, 0, budget), fault(2, 2));
+    }
+    assert_eq!(run_lines(&program, 4, 2), spent(3, given_but(&[(0, 4), (1, 2)])));
+    assert_eq!(run_lines(&program, 4, 3), ended(2, 3));
+}
+
+#[test]
+fn a_fault_may_come_after_any_number_of_steps() {
+    // Rounds of three steps, the last division by 0.
+    let program = ["read i0", "i1 := 10 / i0", "i0 := i0 - 1", "if i9 goto 2 else 2", "write i1"];
+    for input in [0, 1, 2, 7, 100] {
+        let steps = 2 + 3 * input;
+        assert_eq!(run_lines(&program, input, 1_000_000), fault(2, steps));
+        assert_eq!(run_lines(&program, input, steps), fault(2, steps));
+        assert!(matches!(
+            run_lines(&program, input, steps - 1),
+            Ok(Outcome::Spent { statement: 2, .. })
+        ));
+    }
+    // Up to the largest budget: `read`, 249,999 rounds of 4 steps, then `if`, `skip` and the division.
+    let program = text(&[
+        "read i0",
+        "if i0 goto 3 else 6",
+        "i0 := i0 - 1",
+        "skip",
+        "if i1 goto 2 else 2",
+        "skip",
+        "i0 := i1 / i0",
+        "write i0",
+    ]);
+    assert_eq!(run(&program, &given(), 249_999, 1_000_000), fault(7, 1_000_000));
+    assert_eq!(run(&program, &given(), 249_999, 999_999), spent(7, given_but(&[(0, 0)])));
+}
+
+#[test]
+fn a_fault_is_told_at_the_statement_that_divides() {
+    // Any line between the first and the last.
+    for n in [2, 3, 128, 255] {
+        let mut program = lines(256);
+        program[n - 1] = "i1 := i2 / 0".to_string();
+        assert_eq!(run(&text(&program), &given(), 5, 300), fault(n as u32, n as u32));
+    }
+    // The first that a run comes to, whatever stands before it.
+    let program = ["read i0", "if i0 goto 4 else 3", "i1 := 1 / 0", "i1 := 2 / 0", "write i1"];
+    assert_eq!(run_lines(&program, 0, 9), fault(3, 3));
+    assert_eq!(run_lines(&program, 1, 9), fault(4, 3));
+}
+
+#[test]
+fn a_division_that_no_step_reaches_is_no_fault() {
+    let program = ["read i0", "if i0 goto 4 else 4", "i1 := 1 / 0", "write i0"];
+    assert_eq!(run_lines(&program, 5, 9), ended(5, 3));
+}
+
 // What is kept
 
 #[test]
@@ -1270,6 +1434,21 @@ fn a_spent_run_sets_statement_and_values_and_keeps_the_rest() {
     let kept = kept(left);
     let expected = Lent { ended: 1, value: 9, steps: 2, kept, ..LENT };
     assert_eq!(lend(b"read i24\nwrite i24\n", 9, 2), (0, expected));
+}
+
+#[test]
+fn a_faulting_run_sets_statement_and_steps_and_keeps_the_rest() {
+    let program = b"read i24\ni25 := 7\ni1 := i25 / i24\nwrite i1\n";
+    let expected = Lent { ended: 2, statement: 3, steps: 3, ..LENT };
+    assert_eq!(lend(program, 0, 3), (0, expected.clone()));
+    assert_eq!(lend(program, 0, 1_000_000), (0, expected));
+    // One step before, and by another divisor.
+    let left = given_but(&[(24, 0), (25, 7)]);
+    let expected = Lent { ended: 0, statement: 3, left, ..LENT };
+    assert_eq!(lend(program, 0, 2), (0, expected));
+    let kept = kept(given_but(&[(24, MINUS_2), (25, 7)]));
+    let expected = Lent { ended: 1, value: -3, steps: 4, kept, ..LENT };
+    assert_eq!(lend(program, MINUS_2, 4), (0, expected));
 }
 
 // Refusals

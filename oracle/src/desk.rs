@@ -157,7 +157,7 @@ fn walk(program: &Program, start: &Start) -> Vec<(u32, Values, Values)> {
         run.step();
         let after = match *run.state() {
             State::Before { values, .. } => values,
-            State::Ended { .. } => values,
+            State::Ended { .. } | State::Faulted { .. } => values,
         };
         steps.push((statement, values, after));
     }
@@ -177,6 +177,11 @@ fn head(step: usize, at: u32, statement: &str) -> String {
 fn ended(value: i32, steps: u32, kept: &Kept) -> String {
     let kept: String = kept.iter().map(|&value| format!(" {}", value as i32)).collect();
     format!("ended {value} steps {steps} kept{kept}\n")
+}
+
+/// The line of a run that a fault ended: the statement that divided by 0, and the steps, its own counted.
+fn fault(statement: u32, steps: u32) -> String {
+    format!("fault at {statement} steps {steps}\n")
 }
 
 /// What the runner prints for a program and a start, with every step if `trace` says so.
@@ -208,6 +213,7 @@ pub fn run(program: &[u8], start: &[u8], trace: bool) -> String {
                 text += &format!("i{x} = {}\n", value as i32);
             }
         }
+        Outcome::Fault { statement, steps } => text += &fault(statement, steps),
     }
     text
 }
@@ -248,6 +254,7 @@ pub fn compare(program: &[u8], list: &[u8], start: &[u8]) -> String {
                 format!("{name} {}", ended(value, steps, &kept))
             }
             Outcome::Spent { statement, .. } => format!("{name} spent at {statement}\n"),
+            Outcome::Fault { statement, steps } => format!("{name} {}", fault(statement, steps)),
         };
     }
     text + "statements and outcome agree\n"

@@ -173,11 +173,28 @@ impl Style {
             let other = if random.chance(20) { used } else { self.operand(random) };
             let right = match random.below(4) {
                 0 => Expression::Single(used),
-                1 => Expression::Pair(other, operator(random), used),
-                _ => Expression::Pair(used, operator(random), other),
+                1 => joined(random, other, used),
+                _ => joined(random, used, other),
             };
             lines.push(Statement::Assign(self.variable(random), right));
         }
+    }
+
+    /// A division of any operand, often at an end of its range, by a divisor of any kind: a constant, or a variable
+    /// that has just been set to it.
+    fn division(&self, random: &mut Random, lines: &mut Vec<Statement>) {
+        let a = match random.below(4) {
+            0 => Operand::Constant(random.pick(&[LEAST, LEAST + 1, u32::MAX, 0, LARGEST])),
+            _ => self.operand(random),
+        };
+        let mut by = Operand::Constant(divisor(random));
+        if random.chance(50) {
+            let y = self.variable(random);
+            lines.push(Statement::Assign(y, Expression::Single(by)));
+            by = Operand::Variable(y);
+        }
+        let right = Expression::Pair(a, Operator::Divide, by);
+        lines.push(Statement::Assign(self.variable(random), right));
     }
 }
 
@@ -201,6 +218,24 @@ fn constant(random: &mut Random) -> u32 {
     }
 }
 
+/// A divisor's bits: 1, -1, an end of the range, a small number on either side of 0, any constant, and now and then 0.
+fn divisor(random: &mut Random) -> u32 {
+    match random.below(16) {
+        0 => 0,
+        1 | 2 => 1,
+        3 | 4 => u32::MAX,
+        5 | 6 => LEAST,
+        7 => LARGEST,
+        8..=10 => 2 + random.below(10) as u32,
+        11..=13 => u32::MAX - 1 - random.below(10) as u32,
+        _ => constant(random),
+    }
+}
+
+fn divides(e: &Expression) -> bool {
+    matches!(e, Expression::Pair(_, Operator::Divide, _))
+}
+
 /// The other way to write a constant below zero: `0 - 40` for `-40`, and `-40` for `0 - 40`.
 fn written_otherwise(e: Expression) -> Expression {
     match e {
@@ -221,9 +256,21 @@ fn operator(random: &mut Random) -> Operator {
         Operator::Plus,
         Operator::Minus,
         Operator::Times,
+        Operator::Divide,
         Operator::Less,
         Operator::Equal,
     ])
+}
+
+/// Two operands with an operator between them. What divides is mostly a constant, hardly ever 0, so that most runs go
+/// on.
+fn joined(random: &mut Random, a: Operand, b: Operand) -> Expression {
+    match operator(random) {
+        Operator::Divide if random.chance(60) => {
+            Expression::Pair(a, Operator::Divide, Operand::Constant(divisor(random)))
+        }
+        operator => Expression::Pair(a, operator, b),
+    }
 }
 
 /// Any expression over all variables.
@@ -239,11 +286,11 @@ fn expression(random: &mut Random) -> Expression {
     if random.chance(50) {
         Expression::Single(a)
     } else {
-        Expression::Pair(a, operator(random), b)
+        joined(random, a, b)
     }
 }
 
-/// A program of 2 to 256 statements with loops, copies, dead assignments and unreachable statements.
+/// A program of 2 to 256 statements with loops, copies, divisions, dead assignments and unreachable statements.
 pub fn program(random: &mut Random, size: usize) -> Program {
     let style = Style::new(random);
     let mut lines = vec![Statement::Read(style.variable(random))];
@@ -253,7 +300,7 @@ pub fn program(random: &mut Random, size: usize) -> Program {
             lines.push(style.branch(random, at, size));
             continue;
         }
-        match random.below(11) {
+        match random.below(13) {
             0 => lines.push(Statement::Skip),
             // A loop that counts down.
             1 if style.branches > 0 && at + 2 < size => {
@@ -280,16 +327,14 @@ pub fn program(random: &mut Random, size: usize) -> Program {
                 expression(random),
             )),
             4 => {
-                let right = Expression::Pair(
-                    style.operand(random),
-                    operator(random),
-                    style.operand(random),
-                );
+                let (a, b) = (style.operand(random), style.operand(random));
+                let right = joined(random, a, b);
                 lines.push(Statement::Assign(style.variable(random), right));
             }
             5 if style.branches > 0 && at + 4 <= size => {
                 style.kept_on_both_arms(random, at, &mut lines);
             }
+            6 | 7 => style.division(random, &mut lines),
             _ => style.copies(random, &mut lines),
         }
     }
@@ -592,10 +637,14 @@ fn fitting_by_any(random: &mut Random, program: &Program, number: u32) -> Option
     (!used.is_empty()).then(|| Mark { number, variable: random.pick(&used), kind })
 }
 
-/// A mark that fits an assignment to a kept variable and drops it.
-fn dropping_kept(random: &mut Random, program: &Program) -> Option<Mark> {
+/// A mark that fits an assignment of this kind and drops it.
+fn dropping(
+    random: &mut Random,
+    program: &Program,
+    is_wanted: impl Fn(u8, &Expression) -> bool,
+) -> Option<Mark> {
     let drop = |(at, statement): (usize, &Statement)| match *statement {
-        Statement::Assign(variable, e) if is_kept(variable) => {
+        Statement::Assign(variable, e) if is_wanted(variable, &e) => {
             Some(Mark { number: at as u32 + 1, variable, kind: Kind::Remove(e) })
         }
         _ => None,
@@ -614,8 +663,8 @@ fn any_mark(random: &mut Random, program: &Program, number: u32) -> Mark {
 }
 
 /// A list of marks for a program. In most lists most are such that they are accepted by themselves, if there are
-/// such; the others fit only, drop what is kept, name a statement again, name one that the program lacks, replace a
-/// kept variable at `write`, or are any.
+/// such; the others fit only, drop what is kept, drop a division, name a statement again, name one that the program
+/// lacks, replace a kept variable at `write`, or are any.
 pub fn marks(random: &mut Random, program: &Program, count: usize) -> Vec<Mark> {
     let judge = Judge::new(program);
     let mut unnamed: Vec<u32> = (1..=program.count()).collect();
@@ -638,8 +687,9 @@ pub fn marks(random: &mut Random, program: &Program, count: usize) -> Vec<Mark> 
                     break good;
                 }
             },
-            68 | 69 => dropping_kept(random, program),
-            70..=82 => fitting(random, program, somewhere).pop(),
+            68 | 69 => dropping(random, program, |x, _| is_kept(x)),
+            70..=72 => dropping(random, program, |_, e| divides(e)),
+            73..=82 => fitting(random, program, somewhere).pop(),
             83..=88 if !list.is_empty() => {
                 let number = random.pick(&list).number;
                 program.statement(number).and_then(|_| fitting(random, program, number).pop())
@@ -863,7 +913,7 @@ fn damage_lines(random: &mut Random, kind: Damage, lines: &mut Vec<Vec<u8>>) {
 
 /// Does one damage to a text, which may leave it well spelled.
 pub fn damage_by(random: &mut Random, kind: Damage, text: &mut Vec<u8>) {
-    let bytes = b"\n\r\t\0 0123456789iEAX!&|()[]:=<+-*,skiprdgoto\x80\xff";
+    let bytes = b"\n\r\t\0 0123456789iEAX!&|()[]:=<+-*/,skiprdgoto\x80\xff";
     let byte = random.pick(bytes);
     if text.is_empty() {
         text.push(byte);
@@ -918,15 +968,15 @@ fn soup(random: &mut Random, pieces: &[&str], most: usize) -> String {
 }
 
 #[rustfmt::skip]
-const STATEMENT_PIECES: [&str; 27] = [
+const STATEMENT_PIECES: [&str; 28] = [
     "skip", "read", "write", "if", "goto", "else", " ", " ", " ", ":=", ":", "=", "i", "i0", "i1",
-    "i31", "i32", "0", "2", "2147483647", "2147483648", "+", "-", "*", "<", "-2", "-0",
+    "i31", "i32", "0", "2", "2147483647", "2147483648", "+", "-", "*", "/", "<", "-2", "-0",
 ];
 
 #[rustfmt::skip]
-const EXPRESSION_PIECES: [&str; 20] = [
-    "i0", "i31", "i32", "0", "7", "2147483647", "2147483648", " ", " + ", " - ", " * ", " < ", " = ", "-",
-    "-7", "-40", "-0", "-2147483648", "-2147483649", " - -",
+const EXPRESSION_PIECES: [&str; 23] = [
+    "i0", "i31", "i32", "0", "7", "2147483647", "2147483648", " ", " + ", " - ", " * ", " / ", " < ", " = ", "-",
+    "/", " / 0", "-7", "-40", "-0", "-2147483648", "-2147483649", " - -",
 ];
 
 /// A program of three lines, the middle one of pieces of statements in any order, now and then a statement.
@@ -940,10 +990,11 @@ pub fn statement_soup(random: &mut Random) -> Vec<u8> {
 }
 
 #[rustfmt::skip]
-const CONDITION_PIECES: [&str; 41] = [
+const CONDITION_PIECES: [&str; 43] = [
     "true", "false", "entry", "exit", "node(", "stmt(", "def(", "use(", "trans(", "i0", "i31", "1",
     "skip", "i0 := 1", ")", ")", ")", "!", "(", " & ", " | ", "EX ", "AF ", "EG ", "AY ", "ER ",
     "AM ", "E[", "A[", " U ", " W ", " S ", " B ", "]", "]", " ", "true", "-1", "-0", "i0 := -1", "-",
+    "i0 := 1 / i0", "/",
 ];
 
 /// Pieces of conditions in any order, now and then such that they spell one.
@@ -982,9 +1033,9 @@ pub fn nested_condition(random: &mut Random) -> Vec<u8> {
 }
 
 #[rustfmt::skip]
-const MARK_PIECES: [&str; 26] = [
+const MARK_PIECES: [&str; 28] = [
     "1", "2", "0", "257", ":", " ", "mark", "(", "rm", "rpl", ",", ", ", "i0", "i1", "i32", "7",
-    " + ", "+", ")", "2147483648", "-7", "-0", "-2147483648", "-2147483649", " - ", "-",
+    " + ", "+", ")", "2147483648", "-7", "-0", "-2147483648", "-2147483649", " - ", "-", " / ", "/",
 ];
 
 /// A line of pieces of marks in any order, now and then a mark.

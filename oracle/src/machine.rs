@@ -17,8 +17,20 @@ pub const LARGEST_BUDGET: u32 = 1_000_000;
 /// What a run under a budget answers.
 #[derive(Clone, Copy, Debug, PartialEq, Eq)]
 pub enum Outcome {
-    Ended { value: i32, steps: u32, kept: Kept },
-    Spent { statement: u32, values: Values },
+    Ended {
+        value: i32,
+        steps: u32,
+        kept: Kept,
+    },
+    Spent {
+        statement: u32,
+        values: Values,
+    },
+    /// A statement divided by 0; its step is counted.
+    Fault {
+        statement: u32,
+        steps: u32,
+    },
 }
 
 /// Where a run stands between two steps.
@@ -26,6 +38,7 @@ pub enum Outcome {
 pub enum State {
     Before { statement: u32, values: Values },
     Ended { value: i32, kept: Kept },
+    Faulted { statement: u32 },
 }
 
 /// A run of a program without a budget.
@@ -48,22 +61,24 @@ fn operand_value(operand: Operand, values: &Values) -> u32 {
     }
 }
 
-/// The value of an expression, worked out in 64 bits and cut to the low 32.
-fn value(expression: &Expression, values: &Values) -> u32 {
+/// The value of an expression, worked out in 64 bits and cut to the low 32; none where it divides by 0.
+fn value(expression: &Expression, values: &Values) -> Option<u32> {
     let (a, operator, b) = match *expression {
-        Expression::Single(a) => return operand_value(a, values),
+        Expression::Single(a) => return Some(operand_value(a, values)),
         Expression::Pair(a, operator, b) => {
             (operand_value(a, values), operator, operand_value(b, values))
         }
     };
     let (wide_a, wide_b) = (i64::from(a as i32), i64::from(b as i32));
-    match operator {
+    Some(match operator {
         Operator::Plus => (wide_a + wide_b) as u32,
         Operator::Minus => (wide_a - wide_b) as u32,
         Operator::Times => (wide_a * wide_b) as u32,
+        // The least number by -1 is 2147483648, whose low 32 bits are the least number's.
+        Operator::Divide => wide_a.checked_div(wide_b)? as u32,
         Operator::Less => u32::from(wide_a < wide_b),
         Operator::Equal => u32::from(a == b),
-    }
+    })
 }
 
 impl<'a> Run<'a> {
@@ -75,15 +90,21 @@ impl<'a> Run<'a> {
         &self.state
     }
 
-    /// Performs one statement; a run that has ended stays so.
+    /// Performs one statement; a run that has ended, or is over by a fault, stays so.
     pub fn step(&mut self) {
         let (at, values) = match &mut self.state {
             State::Before { statement, values } => (statement, values),
-            State::Ended { .. } => return,
+            State::Ended { .. } | State::Faulted { .. } => return,
         };
         match self.program.statements()[*at as usize - 1] {
             Statement::Read(x) => values[usize::from(x)] = self.input,
-            Statement::Assign(x, ref right) => values[usize::from(x)] = value(right, values),
+            Statement::Assign(x, ref right) => match value(right, values) {
+                Some(value) => values[usize::from(x)] = value,
+                None => {
+                    self.state = State::Faulted { statement: *at };
+                    return;
+                }
+            },
             Statement::Skip => {}
             Statement::Branch { tested, then, other } => {
                 *at = if values[usize::from(tested)] != 0 { then } else { other };
@@ -106,6 +127,7 @@ pub fn run_program(program: &Program, values: Values, input: u32, budget: u32) -
     loop {
         match *run.state() {
             State::Ended { value, kept } => return Outcome::Ended { value, steps, kept },
+            State::Faulted { statement } => return Outcome::Fault { statement, steps },
             State::Before { statement, values } if steps == budget => {
                 return Outcome::Spent { statement, values };
             }
@@ -124,11 +146,13 @@ pub fn run(program: &[u8], values: Values, input: u32, budget: u32) -> Result<Ou
     Ok(run_program(&Program::read(program)?, values, input, budget))
 }
 
-/// Whether two runs stand at the same place: before one statement, or ended with one value and the same kept ones.
+/// Whether two runs stand at the same place: before one statement, ended with one value and the same kept ones, or
+/// over by a fault at one statement.
 pub fn same_place(one: &State, other: &State) -> bool {
     match (one, other) {
         (State::Before { statement: a, .. }, State::Before { statement: b, .. }) => a == b,
-        (State::Ended { .. }, State::Ended { .. }) => one == other,
+        (State::Ended { .. }, State::Ended { .. })
+        | (State::Faulted { .. }, State::Faulted { .. }) => one == other,
         _ => false,
     }
 }

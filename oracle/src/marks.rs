@@ -148,6 +148,9 @@ impl<'a> Judge<'a> {
         if !mark.fits(statement) {
             return 13;
         }
+        if matches!(mark.kind, Kind::Remove(e) if e.may_fault()) {
+            return 18;
+        }
         let condition = mark.condition();
         let mut checker = Checker::new(self.program, &self.steps, &condition);
         if checker.whole_holds(mark.number as usize - 1) {

@@ -39,6 +39,7 @@ pub enum Operator {
     Plus,
     Minus,
     Times,
+    Divide,
     Less,
     Equal,
 }
@@ -91,6 +92,7 @@ fn operator(word: &[u8]) -> Option<Operator> {
         b"+" => Some(Operator::Plus),
         b"-" => Some(Operator::Minus),
         b"*" => Some(Operator::Times),
+        b"/" => Some(Operator::Divide),
         b"<" => Some(Operator::Less),
         b"=" => Some(Operator::Equal),
         _ => None,
@@ -148,6 +150,15 @@ impl Expression {
         match self {
             Expression::Single(a) => a.mentions(x),
             Expression::Pair(a, _, b) => a.mentions(x) || b.mentions(x),
+        }
+    }
+
+    /// Whether there are values with which it has none: it divides, and not by a constant other than 0.
+    pub fn may_fault(&self) -> bool {
+        match *self {
+            Expression::Pair(_, Operator::Divide, Operand::Variable(_)) => true,
+            Expression::Pair(_, Operator::Divide, Operand::Constant(divisor)) => divisor == 0,
+            _ => false,
         }
     }
 
@@ -265,6 +276,7 @@ impl fmt::Display for Operator {
             Operator::Plus => "+",
             Operator::Minus => "-",
             Operator::Times => "*",
+            Operator::Divide => "/",
             Operator::Less => "<",
             Operator::Equal => "=",
         })

@@ -9,12 +9,13 @@ use Rattle.language.specs.Kept.{kept-count}
 use Rattle.language.proofs.Lengths.{constant-most}
 use Rattle.statement_writer.proofs.Series.{Parts}
 use Rattle.machine.specs.declared.Answer.{Answer}
-use Rattle.machine.specs.declared.Answer.the-variants.{Ended, Spent}
+use Rattle.machine.specs.declared.Answer.the-variants.{Ended, Fault, Spent}
 use Rattle.answer_line.specs.AnswerLine.{spacedValues, spaced-room, answer-room, lineRoom}
 
 -- each line has room where the longest has
 pub line-most : (a : Answer) → lineRoom a ≤ answer-room
 line-most (Ended v k) = omega arith
+line-most (Fault n k) = omega arith
 line-most (Spent n) = omega arith
 
 -- a value after a space, for each that is kept

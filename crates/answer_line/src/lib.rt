@@ -3,7 +3,7 @@ ghost use Prim.Native.Nat.{_≤_, _+_, _*_};
 ghost use lib.ListN.{length};
 ghost use Rattle.statement_writer.specs.Writing.{Put};
 ghost use Rattle.language.specs.Kept.{kept-count};
-ghost use Rattle.answer_line.specs.AnswerLine.{spacedValues, spentLine, answerLine, spaced-room, answer-room, spent-room, lineRoom};
+ghost use Rattle.answer_line.specs.AnswerLine.{spacedValues, faultLine, spentLine, answerLine, spaced-room, answer-room, fault-room, spent-room, lineRoom};
 use language::KEPT;
 use language::NUMBER_DIGITS;
 use machine::Answer;
@@ -40,6 +40,18 @@ fn ended(out: &mut [u8], at: usize, v: i32, k: u32, kept: &[u32; KEPT]) -> usize
     statement_writer::byte(out, k6, 10)
 }
 
+// `fault at 2 steps 2`
+fn fault(out: &mut [u8], at: usize, n: u32, k: u32) -> usize
+    requires { ⌜ at + fault-room ≤ length (now out) ⌝ }
+    ensures { λ r. ⌜ Put (now (out .entry)) at (faultLine n k) (now (out .exit)) r × (r ≤ at + fault-room) ⌝ }
+{
+    let told = statement_writer::word(out, at, b"fault at ");
+    let there = statement_writer::number(out, told, n);
+    let after = statement_writer::word(out, there, b" steps ");
+    let end = statement_writer::number(out, after, k);
+    statement_writer::byte(out, end, 10)
+}
+
 // `spent at 4`
 fn spent(out: &mut [u8], at: usize, n: u32) -> usize
     requires { ⌜ at + spent-room ≤ length (now out) ⌝ }
@@ -57,6 +69,7 @@ pub fn write(out: &mut [u8], at: usize, a: Answer, kept: &[u32; KEPT]) -> usize
 {
     match a {
         Answer::Ended(v, k) => ended(out, at, v, k, kept),
+        Answer::Fault(n, k) => fault(out, at, n, k),
         Answer::Spent(n) => spent(out, at, n),
     }
 }

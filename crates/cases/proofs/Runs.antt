@@ -8,12 +8,13 @@ use mir.Val.{toZ}
 use Rattle.language.specs.Kept.{keptOf}
 use Rattle.language.specs.declared.Statement.{Statement}
 use Rattle.machine.specs.declared.Answer.the-variants.{Ended, Spent}
-use Rattle.machine.specs.Machine.{written, State, before, ended, after}
+use Rattle.machine.specs.Machine.{written, faulted, State, before, ended, after}
 use Rattle.machine.specs.Answer.{Answers}
 
 -- the step from p to q ends the run with the value and the kept ones
 abbrev pub Ending : State → State → ℤ → List ℕ → Type 0
 Ending (before s us) (ended (written v hs)) value ks = (value ≡ toZ w32 v) × (hs ≡ ks)
+Ending (before s us) (ended (faulted t)) value ks = ⊥
 Ending (before s us) (before t vs) value ks = ⊥
 Ending (ended v) q value ks = ⊥
 
@@ -32,6 +33,7 @@ module _ (P : List Statement) (vs : List ℕ) (input : ℕ) where
       go (before s us) (ended (written v hs)) e f h budget enough =
           let over = f ∙ ap (λ (l : List ℕ). ended (written v l)) (h .1) in
           (v, record { last = s; left = us; steps = k; counted = refl; stands = e; over = over }, enough, h .0, refl)
+      go (before s us) (ended (faulted t)) e f h budget enough = absurd h
       go (before s us) (before t ws) e f h budget enough = absurd h
       go (ended v) q e f h budget enough = absurd h
 

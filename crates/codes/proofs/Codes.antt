@@ -8,7 +8,7 @@ use borrow.Author.Tests.{ne-eqb}
 use Rattle.language.specs.declared.Operand.{Operand}
 use Rattle.language.specs.declared.Operand.the-variants.{Variable, Constant}
 use Rattle.language.specs.declared.Operator.{Operator}
-use Rattle.language.specs.declared.Operator.the-variants.{Add, Subtract, Multiply, Less, Equal}
+use Rattle.language.specs.declared.Operator.the-variants.{Add, Subtract, Multiply, Less, Equal, Divide}
 use Rattle.language.specs.declared.Expression.{Expression}
 use Rattle.language.specs.declared.Expression.the-variants.{Single, Binary}
 use Rattle.language.specs.declared.Statement.{Statement}
@@ -44,7 +44,8 @@ statementBy (suc (suc (suc (suc (suc zero))))) x a b = Assign x (Binary (operand
 statementBy (suc (suc (suc (suc (suc (suc zero)))))) x a b = Assign x (Binary (operandOf a) Subtract (operandOf b))
 statementBy (suc (suc (suc (suc (suc (suc (suc zero))))))) x a b = Assign x (Binary (operandOf a) Multiply (operandOf b))
 statementBy (suc (suc (suc (suc (suc (suc (suc (suc zero)))))))) x a b = Assign x (Binary (operandOf a) Less (operandOf b))
-statementBy (suc (suc (suc (suc (suc (suc (suc (suc (suc k))))))))) x a b = Assign x (Binary (operandOf a) Equal (operandOf b))
+statementBy (suc (suc (suc (suc (suc (suc (suc (suc (suc zero))))))))) x a b = Assign x (Binary (operandOf a) Equal (operandOf b))
+statementBy (suc (suc (suc (suc (suc (suc (suc (suc (suc (suc k)))))))))) x a b = Assign x (Binary (operandOf a) Divide (operandOf b))
 
 abbrev statementOf : Code → Statement
 statementOf c = statementBy (c .kind) (c .first) (c .second) (c .third)
@@ -55,6 +56,7 @@ binary-back x a Subtract b = rw (operand-back a, operand-back b)
 binary-back x a Multiply b = rw (operand-back a, operand-back b)
 binary-back x a Less b = rw (operand-back a, operand-back b)
 binary-back x a Equal b = rw (operand-back a, operand-back b)
+binary-back x a Divide b = rw (operand-back a, operand-back b)
 
 statement-back : (s : Statement) → statementOf (statementCode s) ≡ s
 statement-back (Read x) = refl

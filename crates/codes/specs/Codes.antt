@@ -4,7 +4,7 @@ use Prim.Native.Nat.{ℕ, _+_, _*_}
 use Rattle.language.specs.declared.Operand.{Operand}
 use Rattle.language.specs.declared.Operand.the-variants.{Variable, Constant}
 use Rattle.language.specs.declared.Operator.{Operator}
-use Rattle.language.specs.declared.Operator.the-variants.{Add, Subtract, Multiply, Less, Equal}
+use Rattle.language.specs.declared.Operator.the-variants.{Add, Subtract, Multiply, Less, Equal, Divide}
 use Rattle.language.specs.declared.Expression.{Expression}
 use Rattle.language.specs.declared.Expression.the-variants.{Single, Binary}
 use Rattle.language.specs.declared.Statement.{Statement}
@@ -22,6 +22,7 @@ operatorCode Subtract = 6
 operatorCode Multiply = 7
 operatorCode Less = 8
 operatorCode Equal = 9
+operatorCode Divide = 10
 
 abbrev pub assignCode : ℕ → Expression → Code
 assignCode x (Single a) = record { kind = 4; first = x; second = operandCode a; third = 0 }

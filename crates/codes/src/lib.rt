@@ -38,6 +38,7 @@ fn operator_code(o: Operator) -> u64
         Operator::Multiply => 7,
         Operator::Less => 8,
         Operator::Equal => 9,
+        Operator::Divide => 10,
     }
 }
 

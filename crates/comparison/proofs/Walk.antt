@@ -18,7 +18,7 @@ use Rattle.program.proofs.Held.{held, at-held}
 use Rattle.machine.specs.Machine.{Final, State, before, ended, perform, after}
 use Rattle.machine.specs.Answer.{stateOf}
 use Rattle.machine.specs.declared.Next.{Next}
-use Rattle.machine.specs.declared.Next.the-variants.{Goto, Finish}
+use Rattle.machine.specs.declared.Next.the-variants.{Goto, Finish, Fault}
 use Rattle.machine.proofs.Runs.{Stands, step-after, step-inside}
 use Rattle.lockstep.specs.Lockstep.{Together}
 use Rattle.lockstep.proofs.Answers.{ended-beside}
@@ -32,6 +32,7 @@ use Rattle.comparison.specs.declared.Progress.{Progress}
 together-goto : (t : ℕ) (b : Next) (us zs : List ℕ) → Together (before t us) (stateOf b zs) → b ≡ Goto t
 together-goto t (Goto u) us zs h = ap Goto (sym (h .0))
 together-goto t (Finish w) us zs h = absurd h
+together-goto t (Fault w) us zs h = absurd h
 
 -- the lines of the steps after the first k, up to step j, stand in r up to `to`, and both runs stand before place s
 pub record SoFar (P Q : List Statement) (start : List ℕ) (input k j s : ℕ) (vs ws o r : List ℕ) (to : ℕ) : Type 0 where

@@ -12,10 +12,10 @@ use desk::columns::STATEMENT_COLUMNS;
 use language::CONSTANT_ROOM;
 use language::Statement;
 use language::VARIABLE_ROOM;
-use machine::Next;
 use machine::VALUES;
 use program::Program;
 use trace::HEAD_ROOM;
+use trace::Onward;
 
 // A variable and its two values have room in this many bytes, and a line in this many.
 const PAIR_ROOM: usize = 2 + VARIABLE_ROOM + 1 + CONSTANT_ROOM + 1 + CONSTANT_ROOM;
@@ -131,12 +131,13 @@ pub fn steps(
         let next = machine::step(s, place, input, values);
         machine::step(t, place, input, others);
         k += 1;
-        match next {
-            Next::Goto(n) => {
+        let way = trace::way_on(next);
+        match way {
+            Onward::To(n) => {
                 to = line(out, to, k, place, s, t, &*values, &*others);
                 place = n;
             }
-            Next::Finish(_) => {
+            Onward::Ended => {
                 to = line(out, to, k, place, s, t, &old, &other);
                 *values = old;
                 *others = other;

@@ -10,7 +10,7 @@ use Rattle.base.specs.Pick.{pick}
 use Rattle.language.specs.declared.Operand.{Operand}
 use Rattle.language.specs.declared.Operand.the-variants.{Variable, Constant}
 use Rattle.language.specs.declared.Operator.{Operator}
-use Rattle.language.specs.declared.Operator.the-variants.{Add, Subtract, Multiply, Less, Equal}
+use Rattle.language.specs.declared.Operator.the-variants.{Add, Subtract, Multiply, Less, Equal, Divide}
 use Rattle.language.specs.declared.Expression.{Expression}
 use Rattle.language.specs.declared.Expression.the-variants.{Single, Binary}
 use Rattle.language.specs.declared.Statement.{Statement}
@@ -72,13 +72,14 @@ abbrev pub ValidOperand : Operand → Type 0
 ValidOperand (Variable x) = ValidVariable x
 ValidOperand (Constant n) = ValidConstant n
 
--- "o is `+`, `-`, `*`, `<` or `=`"
+-- "o is `+`, `-`, `*`, `<` or `=`"; document 02: "`A / A` joins the operators"
 abbrev pub spellOperator : Operator → ℕ
 spellOperator Add = byte "+"
 spellOperator Subtract = byte "-"
 spellOperator Multiply = byte "*"
 spellOperator Less = byte "<"
 spellOperator Equal = byte "="
+spellOperator Divide = byte "/"
 
 -- "E is `A` or `A o A`"
 unfoldable pub spellExpression : Expression → List ℕ

@@ -27,6 +27,7 @@ pub enum Operator {
     Multiply,
     Less,
     Equal,
+    Divide,
 }
 
 pub enum Expression {

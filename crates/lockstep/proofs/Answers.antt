@@ -11,7 +11,7 @@ use Rattle.program.specs.Program.{WellFormed}
 use Rattle.machine.specs.Machine.{Final, State, before, ended, after}
 use Rattle.machine.specs.Answer.{Ends, Answers}
 use Rattle.machine.specs.declared.Answer.{Answer}
-use Rattle.machine.specs.declared.Answer.the-variants.{Ended, Spent}
+use Rattle.machine.specs.declared.Answer.the-variants.{Ended, Fault, Spent}
 use Rattle.machine.proofs.Unique.{answer-unique}
 use Rattle.lockstep.specs.Lockstep.{Changed, Together, Alike}
 use Rattle.lockstep.proofs.Lockstep.{together}
@@ -30,6 +30,7 @@ ended-beside (ended u) (ended r) v h e = cc
 
 alike-self : (a : Answer) → Alike a a
 alike-self (Ended v k) = (refl, refl)
+alike-self (Fault n k) = (refl, refl)
 alike-self (Spent n) = refl
 
 module _ (P Q : List Statement) (vs : List ℕ) (input : ℕ) (beside : (k : ℕ) → Together (after P vs input k) (after Q vs input k)) where
@@ -47,6 +48,7 @@ module _ (P Q : List Statement) (vs : List ℕ) (input : ℕ) (beside : (k : ℕ
 
   answers-beside : (budget : ℕ) (a : Answer) (ws ks : List ℕ) → Answers P vs input budget a ws ks → (us : List ℕ) × Answers Q vs input budget a us ks
   answers-beside budget (Ended x k) ws ks (v, e, l, is, same) = (vs, (v, ends-beside k _ e, l, is, refl))
+  answers-beside budget (Fault n k) ws ks (s, e, l, is, same, kept) = (vs, (s, ends-beside k _ e, l, is, refl, kept))
   answers-beside budget (Spent n) ws ks (s, is, stands, same) =
       let there = stands-beside (after P vs input budget) (after Q vs input budget) s ws (beside budget) stands in
       (there .0, (s, is, there .1, same))

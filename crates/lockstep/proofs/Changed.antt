@@ -93,7 +93,7 @@ change-keeps :
     (P : List Statement) (s : ℕ) (i : Statement) (X : Statement → Type 0)
     → ((m : Mark) → ValidMark m → Fits m (at P s) → X (at P s) → X (makes m (at P s))) → Change P s i → X (at P s) → X i
 change-keeps P s i X f (inl e) h = subst X (sym e) h
-change-keeps P s i X f (inr (m, v, fit, c, e)) h = subst X (sym e) (f m v fit h)
+change-keeps P s i X f (inr (m, v, fit, d, c, e)) h = subst X (sym e) (f m v fit h)
 
 pub changed-wellformed : {P Q : List Statement} → WellFormed P → Changed P Q → WellFormed Q
 changed-wellformed {P} {Q} w d = record {

@@ -1,27 +1,31 @@
 -- Statements that do the same on two lists of values: a statement and itself, where the lists agree on what it uses; a statement and
 -- the one with an operand for a variable, where the variable's value is the operand's. Assumes nothing.
 use mathlib.Core.Path.{_≡_, refl, sym, ap, ap₂}
-use mathlib.Core.Bool.{true, false}
+use mathlib.Core.Bool.{Bool, true, false}
 use mathlib.Core.Logic.{inl, inr, ⊎-elim}
 use mathlib.Core.List.{List}
 use Prim.Native.Nat.{ℕ, _<_}
 use lib.Dec.{eqb}
 use lib.ListN.{length, getD, set}
 use lib.Seq.{getD-set-same}
-use borrow.Author.Tests.{eqb-true}
+use borrow.Author.Tests.{eqb-true, ne-eqb}
 use Rattle.base.proofs.Bools.{split}
 use Rattle.language.specs.Spelling.{variables}
 use Rattle.language.specs.Kept.{keptOf}
 use Rattle.language.specs.declared.Operand.{Operand}
 use Rattle.language.specs.declared.Operand.the-variants.{Variable, Constant}
+use Rattle.language.specs.declared.Operator.{Operator}
+use Rattle.language.specs.declared.Operator.the-variants.{Add, Subtract, Multiply, Less, Equal, Divide}
 use Rattle.language.specs.declared.Expression.{Expression}
 use Rattle.language.specs.declared.Expression.the-variants.{Single, Binary}
 use Rattle.language.specs.declared.Statement.{Statement}
 use Rattle.language.specs.declared.Statement.the-variants.{Read, Write, Assign, Branch, Skip}
 use Rattle.language.proofs.Kept.{kept-agree}
-use Rattle.machine.specs.Machine.{apply, operandValue, value}
+use Rattle.machine.specs.declared.Evaluated.{Evaluated}
+use Rattle.machine.specs.declared.Evaluated.the-variants.{Value, Fault}
+use Rattle.machine.specs.Machine.{apply, faults, operandValue, given, value}
 use Rattle.truth.specs.Truth.{InOperand, In, Uses}
-use Rattle.lockstep.specs.Rules.{IsVariable, Takes, replaceOperand, replaceIn, replaceVariable, replace}
+use Rattle.lockstep.specs.Rules.{IsVariable, Takes, Safe, Harmless, replaceOperand, replaceIn, replaceVariable, replace}
 use Rattle.base.specs.Pick.{pick}
 
 -- the value stored last is the one found
@@ -32,6 +36,20 @@ stored-here vs x v y l e = rw e (getD-set-same vs x v 0 l)
 pub operand-self : (a : Operand) (x : ℕ) (vs : List ℕ) → InOperand x a → operandValue vs a ≡ getD vs x 0
 operand-self (Variable y) x vs e = ap (λ (z : ℕ). getD vs z 0) (sym e)
 operand-self (Constant n) x vs e = absurd e
+
+-- what can't fault gives a value
+pub harmless-gives : (vs : List ℕ) (e : Expression) → Harmless e → (v : ℕ) × (value vs e ≡ Value v)
+harmless-gives vs (Single a) h = (operandValue vs a, refl)
+harmless-gives vs (Binary a o b) h = let v = apply o (operandValue vs a) (operandValue vs b) in (v, ap (λ (x : Bool). given x v) (safe-operator o b h))
+  where
+    safe-operator : (o : Operator) (b : Operand) → Safe o b → faults o (operandValue vs b) ≡ false
+    safe-operator Add b h = refl
+    safe-operator Subtract b h = refl
+    safe-operator Multiply b h = refl
+    safe-operator Less b h = refl
+    safe-operator Equal b h = refl
+    safe-operator Divide (Variable x) h = absurd h
+    safe-operator Divide (Constant n) h = ne-eqb n 0 h
 
 -- j does with ws what i does with vs: the same kind of statement, to the same variable, on equal values
 pub data Like (vs ws : List ℕ) : Statement → Statement → Type 0 where
@@ -53,8 +71,9 @@ module _ (vs ws : List ℕ) where
   operand-agrees (Constant n) h = refl
 
   value-agrees : (e : Expression) → ((y : ℕ) → In y e → Same vs ws y) → value vs e ≡ value ws e
-  value-agrees (Single a) h = operand-agrees a h
-  value-agrees (Binary a o b) h = ap₂ (apply o) (operand-agrees a (λ y u. h y (inl u))) (operand-agrees b (λ y u. h y (inr u)))
+  value-agrees (Single a) h = ap Value (operand-agrees a h)
+  value-agrees (Binary a o b) h =
+      ap₂ (λ (v w : ℕ). given (faults o w) (apply o v w)) (operand-agrees a (λ y u. h y (inl u))) (operand-agrees b (λ y u. h y (inr u)))
 
   module _ (long : length vs ≡ variables) (long′ : length ws ≡ variables) where
     -- a `write` uses the kept variables too
@@ -83,8 +102,9 @@ module _ (vs ws : List ℕ) where
         other e = rw e (h y refl)
 
     expression-like : (e : Expression) → ((y : ℕ) → In y e → Same vs ws y) → value vs e ≡ value ws (replaceIn x a e)
-    expression-like (Single b) h = operand-like b h
-    expression-like (Binary b o c) h = ap₂ (apply o) (operand-like b (λ y u. h y (inl u))) (operand-like c (λ y u. h y (inr u)))
+    expression-like (Single b) h = ap Value (operand-like b h)
+    expression-like (Binary b o c) h =
+        ap₂ (λ (v w : ℕ). given (faults o w) (apply o v w)) (operand-like b (λ y u. h y (inl u))) (operand-like c (λ y u. h y (inr u)))
 
   -- where only a variable can stand
   variable-like :

@@ -20,16 +20,18 @@ use Rattle.language.specs.declared.Statement.{Statement}
 use Rattle.language.specs.declared.Statement.the-variants.{Read, Assign, Branch, Skip}
 use Rattle.program.specs.Program.{at, InPlace, WellFormed}
 use Rattle.program.proofs.Held.{at-valid}
-use Rattle.machine.specs.Machine.{written, State, before, ended, after, perform, stepFrom, operandValue, value}
+use Rattle.machine.specs.declared.Evaluated.{Evaluated}
+use Rattle.machine.specs.declared.Evaluated.the-variants.{Value, Fault}
+use Rattle.machine.specs.Machine.{written, State, before, ended, after, stored, perform, stepFrom, operandValue, value}
 use Rattle.base.specs.Pick.{pick}
 use Rattle.flow.specs.Flow.{leads}
 use Rattle.flow.proofs.Model.{forward-inside}
 use Rattle.truth.specs.Truth.{InOperand, Defines, Shows, Uses, Sat}
 use Rattle.marks.specs.declared.Mark.the-variants.{Rm, Rpl}
-use Rattle.lockstep.specs.Rules.{live, unneeded, copiedBefore, replace}
+use Rattle.lockstep.specs.Rules.{Harmless, live, unneeded, copiedBefore, replace}
 use Rattle.lockstep.specs.Lockstep.{Change, Changed, Agree, Side, Together}
 use Rattle.lockstep.proofs.Decisions.{operand-decided, defines-decided}
-use Rattle.lockstep.proofs.Likeness.{stored-here, operand-self, operand-agrees, Like, reads, writes, assigns, branches, skips, same-like, replaced-like}
+use Rattle.lockstep.proofs.Likeness.{stored-here, harmless-gives, operand-self, operand-agrees, Like, reads, writes, assigns, branches, skips, same-like, replaced-like}
 use Rattle.lockstep.proofs.Conditions.{forward-step, live-use, live-step, unneeded-dead, Copies, Between, copied-cases, first-uncopied}
 
 -- both arms of an `if` are where a run may go
@@ -39,12 +41,14 @@ branch-leads false x n m s = or-left (eqb (n - 1) (n - 1)) (eqb (m - 1) (n - 1))
 
 -- what a copy stores is the operand's value
 copy-stores :
-    (vs : List ℕ) (x : ℕ) (e : Expression) (y : ℕ) (a : Operand) → x < length vs → Assign x e ≡ Assign y (Single a)
-    → getD (set vs x (value vs e)) y 0 ≡ operandValue vs a
-copy-stores vs x e y a l q =
+    (vs : List ℕ) (x : ℕ) (e : Expression) (v y : ℕ) (a : Operand) → value vs e ≡ Value v → x < length vs → Assign x e ≡ Assign y (Single a)
+    → getD (set vs x v) y 0 ≡ operandValue vs a
+copy-stores vs x e v y a is l q =
     let to : y ≡ x = cc in
     let from : e ≡ Single a = cc in
-    stored-here vs x (value vs e) y l to ∙ ap (value vs) from
+    let gives : Value (operandValue vs a) ≡ Value v = sym (ap (value vs) from) ∙ is in
+    let same : v ≡ operandValue vs a = cc in
+    stored-here vs x v y l to ∙ same
 
 module _ (P : List Statement) (w : WellFormed P) where
   -- What holds before each step: the place is one of the program's; both runs have all their values; these agree on what is live; and
@@ -156,6 +160,19 @@ module _ (P : List Statement) (w : WellFormed P) where
     next-line : eqb (s + 1) (s + 1) ≡ true
     next-line = eq-eqb (s + 1) (s + 1) refl
 
+    -- the same is stored in both, or both fault
+    assigned-on : (x : ℕ) (e : Expression) → at P s ≡ Assign x e → (g : Evaluated) → value vs e ≡ g → Side Held (stored g x s vs) (stored g x s ws)
+    assigned-on x e is Fault gives = refl
+    assigned-on x e is (Value v) gives =
+        let below : x < variables = valid (Assign x e) is .0 in (
+          refl,
+          held-on s (s + 1) vs ws (set vs x v) (set ws x v) held (Assign x e) is next-line
+              (length-set vs x v ∙ held .whole) (length-set ws x v ∙ held .whole′)
+              (λ y d. getD-set-other vs x y v 0 d) (λ y d. getD-set-other ws x y v 0 d)
+              (λ y d l. stored-here vs x v y (rw (held .whole) below) d ∙ sym (stored-here ws x v y (rw (held .whole′) below) d))
+              (λ y a q. copy-stores vs x e v y a gives (rw (held .whole) below) q),
+        )
+
     -- two statements that do alike
     like-on : (i j : Statement) → at P s ≡ i → Like vs ws i j → Side Held (perform i input s vs) (perform j input s ws)
     like-on i j is (reads {x}) =
@@ -169,14 +186,7 @@ module _ (P : List Statement) (w : WellFormed P) where
         )
     like-on i j is (writes same kept) = ap₂ written same kept
     like-on i j is (assigns {x} {e} {f} same) =
-        let below : x < variables = valid (Assign x e) is .0 in (
-          refl,
-          held-on s (s + 1) vs ws (set vs x (value vs e)) (set ws x (value ws f)) held (Assign x e) is next-line
-              (length-set vs x (value vs e) ∙ held .whole) (length-set ws x (value ws f) ∙ held .whole′)
-              (λ y d. getD-set-other vs x y (value vs e) 0 d) (λ y d. getD-set-other ws x y (value ws f) 0 d)
-              (λ y d l. stored-here vs x (value vs e) y (rw (held .whole) below) d ∙ same ∙ sym (stored-here ws x (value ws f) y (rw (held .whole′) below) d))
-              (λ y a q. copy-stores vs x e y a (rw (held .whole) below) q),
-        )
+        subst (λ (g : Evaluated). Side Held (stored (value vs e) x s vs) (stored g x s ws)) same (assigned-on x e is (value vs e) refl)
     like-on i j is (branches {x} {y} {n} {m} same) = (
       ap (λ (v : ℕ). pick (eqb v 0) m n - 1) same,
       held-on s (pick (eqb (getD vs x 0) 0) m n - 1) vs ws vs ws held (Branch x n m) is (branch-leads (eqb (getD vs x 0) 0) x n m s)
@@ -189,16 +199,19 @@ module _ (P : List Statement) (w : WellFormed P) where
     )
 
     -- an assignment whose variable is not live after it, and `skip`
-    removed-on : (x : ℕ) (e : Expression) → at P s ≡ Assign x e → Sat P (unneeded x) s
+    removed-on : (x : ℕ) (e : Expression) → at P s ≡ Assign x e → Harmless e → Sat P (unneeded x) s
         → Side Held (perform (Assign x e) input s vs) (perform Skip input s ws)
-    removed-on x e is c =
-        let below : x < variables = valid (Assign x e) is .0 in (
+    removed-on x e is harmless c =
+        let below : x < variables = valid (Assign x e) is .0 in
+        let gives = harmless-gives vs e harmless in
+        let v = gives .0 in
+        subst (λ (g : Evaluated). Side Held (stored g x s vs) (before (s + 1) ws)) (sym (gives .1)) (
           refl,
-          held-on s (s + 1) vs ws (set vs x (value vs e)) ws held (Assign x e) is next-line
-              (length-set vs x (value vs e) ∙ held .whole) (held .whole′)
-              (λ y d. getD-set-other vs x y (value vs e) 0 d) (λ y d. refl)
+          held-on s (s + 1) vs ws (set vs x v) ws held (Assign x e) is next-line
+              (length-set vs x v ∙ held .whole) (held .whole′)
+              (λ y d. getD-set-other vs x y v 0 d) (λ y d. refl)
               (λ y d l. absurd (unneeded-dead P w x s (s + 1) (held .inside) (rw is next-line) c (rw d at l)))
-              (λ y a q. copy-stores vs x e y a (rw (held .whole) below) q),
+              (λ y a q. copy-stores vs x e v y a (gives .1) (rw (held .whole) below) q),
         )
 
     used-same : (y : ℕ) → Uses (at P s) y → getD vs y 0 ≡ getD ws y 0
@@ -214,8 +227,8 @@ module _ (P : List Statement) (w : WellFormed P) where
 
     change-on : (j : Statement) → Change P s j → Side Held (perform (at P s) input s vs) (perform j input s ws)
     change-on j (inl e) = rw e (like-on (at P s) (at P s) refl (same-like vs ws (held .whole) (held .whole′) (at P s) used-same))
-    change-on j (inr (Rm n x e, v, fit, c, made)) = rw (made, fit) (removed-on x e fit c)
-    change-on j (inr (Rpl n x a, v, (u, takes), c, made)) =
+    change-on j (inr (Rm n x e, v, fit, harmless, c, made)) = rw (made, fit) (removed-on x e fit harmless c)
+    change-on j (inr (Rpl n x a, v, (u, takes), d, c, made)) =
         rw made (like-on (at P s) (replace x a (at P s)) refl (replaced-like vs ws (held .whole) (held .whole′) x a (copied-same x a u c) (at P s) takes used-same))
 
   module _ (Q : List Statement) (changed : Changed P Q) (input : ℕ) where

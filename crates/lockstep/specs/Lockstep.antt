@@ -8,16 +8,16 @@ use Rattle.language.specs.declared.Statement.{Statement}
 use Rattle.program.specs.Program.{at}
 use Rattle.machine.specs.Machine.{State, before, ended}
 use Rattle.machine.specs.declared.Answer.{Answer}
-use Rattle.machine.specs.declared.Answer.the-variants.{Ended, Spent}
+use Rattle.machine.specs.declared.Answer.the-variants.{Ended, Fault, Spent}
 use Rattle.truth.specs.Truth.{Sat}
 use Rattle.marks.specs.Marks.{ValidMark}
 use Rattle.marks.specs.declared.Mark.{Mark}
-use Rattle.lockstep.specs.Rules.{Fits, live, published, makes}
+use Rattle.lockstep.specs.Rules.{Fits, Droppable, live, published, makes}
 
--- the statement at place s becomes i: it is kept, or a mark is made that fits it and whose condition is true there
+-- the statement at place s becomes i: it is kept, or a mark is made that fits it, can't drop a fault, and whose condition is true there
 abbrev pub Change : List Statement → ℕ → Statement → Type 0
 Change P s i =
-    (i ≡ at P s) ⊎ ((m : Mark) × ValidMark m × Fits m (at P s) × Sat P (published m) s × (i ≡ makes m (at P s)))
+    (i ≡ at P s) ⊎ ((m : Mark) × ValidMark m × Fits m (at P s) × Droppable m × Sat P (published m) s × (i ≡ makes m (at P s)))
 
 -- Q is P with some changes
 pub record Changed (P Q : List Statement) : Type 0 where
@@ -39,9 +39,15 @@ Side R (ended v) (ended w) = v ≡ w
 abbrev pub Together : State → State → Type 0
 Together a b = Side (λ s vs ws. Unit) a b
 
--- "the two runs answer the same value and the same steps, or 'spent' at the same statement; the 32 values told with 'spent' may differ"
+-- "the two runs answer the same value and the same steps, or 'spent' at the same statement; the 32 values told with 'spent' may differ"; document 02: "Two runs
+-- compared must fault together, at the same statement"
 abbrev pub Alike : Answer → Answer → Type 0
 Alike (Ended v k) (Ended w l) = (v ≡ w) × (k ≡ l)
+Alike (Ended v k) (Fault m l) = ⊥
 Alike (Ended v k) (Spent n) = ⊥
+Alike (Fault n k) (Ended w l) = ⊥
+Alike (Fault n k) (Fault m l) = (n ≡ m) × (k ≡ l)
+Alike (Fault n k) (Spent m) = ⊥
 Alike (Spent n) (Ended w l) = ⊥
+Alike (Spent n) (Fault m l) = ⊥
 Alike (Spent n) (Spent m) = n ≡ m

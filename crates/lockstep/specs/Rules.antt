@@ -6,6 +6,8 @@ use lib.Dec.{eqb}
 use Rattle.base.specs.Pick.{pick}
 use Rattle.language.specs.declared.Operand.{Operand}
 use Rattle.language.specs.declared.Operand.the-variants.{Variable, Constant}
+use Rattle.language.specs.declared.Operator.{Operator}
+use Rattle.language.specs.declared.Operator.the-variants.{Add, Subtract, Multiply, Less, Equal, Divide}
 use Rattle.language.specs.declared.Expression.{Expression}
 use Rattle.language.specs.declared.Expression.the-variants.{Single, Binary}
 use Rattle.language.specs.declared.Statement.{Statement}
@@ -34,6 +36,28 @@ Takes Skip a = Unit
 abbrev pub Fits : Mark → Statement → Type 0
 Fits (Rm n x e) i = i ≡ Assign x e
 Fits (Rpl n x a) i = Shows i x × Takes i a
+
+-- document 02: "Dropping `X := A / B` is allowed only if B is a constant other than 0"
+abbrev pub NotZero : Operand → Type 0
+NotZero (Variable x) = ⊥
+NotZero (Constant n) = n ≡ 0 → ⊥
+
+abbrev pub Safe : Operator → Operand → Type 0
+Safe Add b = Unit
+Safe Subtract b = Unit
+Safe Multiply b = Unit
+Safe Less b = Unit
+Safe Equal b = Unit
+Safe Divide b = NotZero b
+
+abbrev pub Harmless : Expression → Type 0
+Harmless (Single a) = Unit
+Harmless (Binary a o b) = Safe o b
+
+-- "this now belongs to what such an `rm` must meet to be accepted"
+abbrev pub Droppable : Mark → Type 0
+Droppable (Rm n x e) = Harmless e
+Droppable (Rpl n x a) = Unit
 
 -- "`E[!def(X) U use(X)]`": X may still be used before it is defined
 abbrev pub live : ℕ → Condition

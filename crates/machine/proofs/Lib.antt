@@ -1,3 +1,4 @@
 pub mod Words
+pub mod Quotient
 pub mod Runs
 pub mod Unique

@@ -13,9 +13,11 @@ use Rattle.program.specs.Program.{at, InPlace, Targets, WellFormed}
 use Rattle.program.specs.Reading.{statements}
 use Rattle.program.specs.declared.Program.{Program}
 use Rattle.program.proofs.Held.{held, at-held}
-use Rattle.machine.specs.Machine.{Final, before, ended, after, perform, stepFrom}
+use Rattle.machine.specs.Machine.{Final, written, faulted, State, before, ended, after, value, stored, perform, stepFrom}
 use Rattle.base.specs.Pick.{pick}
 use Rattle.machine.specs.Answer.{stateOf, Ends}
+use Rattle.machine.specs.declared.Evaluated.{Evaluated}
+use Rattle.machine.specs.declared.Evaluated.the-variants.{Value, Fault}
 use Rattle.machine.specs.declared.Next.{Next}
 use Rattle.machine.specs.declared.Next.the-variants.{Goto}
 
@@ -34,13 +36,29 @@ pub perform-inside :
     → 2 ≤ N → InPlace N s x → Targets N x → perform x input s vs ≡ before t us → t < N
 perform-inside N s input t vs us (Read x) two p a e = let h : s + 1 ≡ t = cc in omega arith
 perform-inside N s input t vs us (Write x) two p a e = let z : _≡_ {A = ℕ} 0 1 = cc in omega arith
-perform-inside N s input t vs us (Assign x v) two p a e = let h : s + 1 ≡ t = cc in omega arith
+perform-inside N s input t vs us (Assign x v) two p a e = go (value vs v) e
+  where
+    go : (g : Evaluated) → stored g x s vs ≡ before t us → t < N
+    go (Value w) f = let h : s + 1 ≡ t = cc in omega arith
+    go Fault f = absurd (let z : _≡_ {A = ℕ} 0 1 = cc in omega arith)
 perform-inside N s input t vs us (Branch x n m) two p a e = go (eqb (getD vs x 0) 0) e
   where
     go : (w : Bool) → before (pick w m n - 1) vs ≡ before t us → t < N
     go true f = let h : m - 1 ≡ t = cc in omega arith
     go false f = let h : n - 1 ≡ t = cc in omega arith
 perform-inside N s input t vs us Skip two p a e = let h : s + 1 ≡ t = cc in omega arith
+
+-- a statement that faults is the one that is performed
+pub fault-here : (x : Statement) (input s t : ℕ) (vs : List ℕ) → perform x input s vs ≡ ended (faulted t) → t ≡ s
+fault-here (Read y) input s t vs e = absurd (let z : _≡_ {A = ℕ} 0 1 = cc in omega arith)
+fault-here (Write y) input s t vs e = absurd (let z : _≡_ {A = ℕ} 0 1 = cc in omega arith)
+fault-here (Assign y v) input s t vs e = go (value vs v) e
+  where
+    go : (g : Evaluated) → stored g y s vs ≡ ended (faulted t) → t ≡ s
+    go (Value w) f = absurd (let z : _≡_ {A = ℕ} 0 1 = cc in omega arith)
+    go Fault f = cc
+fault-here (Branch y n m) input s t vs e = absurd (let z : _≡_ {A = ℕ} 0 1 = cc in omega arith)
+fault-here Skip input s t vs e = absurd (let z : _≡_ {A = ℕ} 0 1 = cc in omega arith)
 
 -- one step more, where `told` is what `step` says of its answer n and the values us that it leaves
 module _ (p : Program) (vs : List ℕ) (input k s : ℕ) (ws us : List ℕ) (n : Next)
@@ -62,6 +80,10 @@ module _ (p : Program) (vs : List ℕ) (input k s : ℕ) (ws us : List ℕ) (n :
             (step-performs ∙ goes);
         state = step-after ∙ goes;
       }
+
+  -- a fault is told with this place
+  pub step-fault : (t : ℕ) → stateOf n us ≡ ended (faulted t) → t ≡ s
+  step-fault t e = fault-here (at (statements p) s) input s t ws (step-performs ∙ e)
 
   pub step-over : (v : Final) → stateOf n us ≡ ended v → Ends (statements p) vs input (k + 1) v
   step-over v e = record {

@@ -8,10 +8,10 @@ use native.Mathlib.Omega.{arith}
 use mir.Syntax.{w32}
 use mir.Val.{toZ}
 use Rattle.language.specs.declared.Statement.{Statement}
-use Rattle.machine.specs.Machine.{Final, before, ended, after, stepFrom}
+use Rattle.machine.specs.Machine.{Final, written, faulted, before, ended, after, stepFrom}
 use Rattle.machine.specs.Answer.{Ends, Answers}
 use Rattle.machine.specs.declared.Answer.{Answer}
-use Rattle.machine.specs.declared.Answer.the-variants.{Ended, Spent}
+use Rattle.machine.specs.declared.Answer.the-variants.{Ended, Fault, Spent}
 
 module _ (P : List Statement) (vs : List ℕ) (input : ℕ) where
   -- "once ended it stays so"
@@ -53,6 +53,19 @@ module _ (P : List Statement) (vs : List ℕ) (input : ℕ) where
       let e = end-unique k j _ _ (p .1) (q .1) in
       let same : p .0 ≡ q .0 = cc in
       (ap₂ Ended (p .3 ∙ ap (toZ w32) same ∙ sym (q .3)) (e .0), p .4 ∙ sym (q .4), cc)
+  answer-unique budget (Ended x k) (Fault n j) ws us ks hs p q =
+      let e : written (p .0) ks ≡ faulted (q .0) = end-unique k j _ _ (p .1) (q .1) .1 in
+      absurd (let z : _≡_ {A = ℕ} 0 1 = cc in omega arith)
+  answer-unique budget (Fault n k) (Ended y j) ws us ks hs p q =
+      let e : faulted (p .0) ≡ written (q .0) hs = end-unique k j _ _ (p .1) (q .1) .1 in
+      absurd (let z : _≡_ {A = ℕ} 0 1 = cc in omega arith)
+  answer-unique budget (Fault n k) (Fault m j) ws us ks hs p q =
+      let e = end-unique k j _ _ (p .1) (q .1) in
+      let same : p .0 ≡ q .0 = cc in
+      let f : n ≡ m = omega (arith, p .3, q .3, same) in
+      (ap₂ Fault f (e .0), p .4 ∙ sym (q .4), p .5 ∙ sym (q .5))
+  answer-unique budget (Fault n k) (Spent m) ws us ks hs p q = absurd (end-not-spent k _ budget (q .0) us (p .1) (p .2) (q .2))
+  answer-unique budget (Spent n) (Fault m j) ws us ks hs p q = absurd (end-not-spent j _ budget (p .0) ws (q .1) (q .2) (p .2))
   answer-unique budget (Ended x k) (Spent m) ws us ks hs p q = absurd (end-not-spent k _ budget (q .0) us (p .1) (p .2) (q .2))
   answer-unique budget (Spent n) (Ended y j) ws us ks hs p q = absurd (end-not-spent j _ budget (p .0) ws (q .1) (q .2) (p .2))
   answer-unique budget (Spent n) (Spent m) ws us ks hs p q =

@@ -3,13 +3,15 @@ ghost use mathlib.Core.Path.{_≡_};
 ghost use Prim.Native.Nat.{_*_, _%_, _^_, _<_, _+_};
 ghost use lib.ListN.{length};
 ghost use mir.Syntax.{w32};
-ghost use mir.Val.{toZ};
-ghost use lib.Signed.{ltZ};
+ghost use mir.Val.{toZ, ofZ};
+ghost use mathlib.Core.Bool.{_&&_};
+ghost use lib.Dec.{eqb};
+ghost use lib.Signed.{ltZ, quotZ};
 ghost use Rattle.language.specs.Spelling.{ValidOperand, ValidExpression, Valid};
 ghost use Rattle.program.specs.Program.{most, Targets, WellFormed};
 ghost use Rattle.program.specs.Reading.{statements};
 ghost use Rattle.language.specs.Kept.{kept-count, keptOf};
-ghost use Rattle.machine.specs.Machine.{apply, operandValue, value, perform};
+ghost use Rattle.machine.specs.Machine.{apply, faults, given as givenBy, operandValue, value, perform};
 ghost use Rattle.machine.specs.Answer.{stateOf, Answers};
 use language::Expression;
 use language::FIRST_KEPT;
@@ -22,15 +24,24 @@ use program::Program;
 // One value for each variable.
 pub const VALUES: usize = language::VARIABLES as usize;
 
-// Where a step leads: before the statement at a place, or out of the program with a value.
+// What an expression gives.
+pub enum Evaluated {
+    Value(u32),
+    Fault,
+}
+
+// Where a step leads: before the statement at a place, out of the program with a value, or to a fault of the statement at a place.
 pub enum Next {
     Goto(u32),
     Finish(u32),
+    Fault(u32),
 }
 
-// Ended: the value, signed, and the steps. Spent: the number of the statement that would be next.
+// Ended: the value, signed, and the steps. Fault: the number of the statement that divides by zero, and the steps, that one counted. Spent: the
+// number of the statement that would be next.
 pub enum Answer {
     Ended(i32, u32),
+    Fault(u32, u32),
     Spent(u32),
 }
 
@@ -66,15 +77,69 @@ fn less(a: u32, b: u32) -> bool
     signed(a) < signed(b)
 }
 
-fn apply_operator(o: Operator, a: u32, b: u32) -> u32
-    ensures { λ r. ⌜ r ≡ apply o a b ⌝ }
+// The bits of a number in two's complement.
+fn bits_of(q: i32) -> u32
+    ensures { λ r. ⌜ r ≡ ofZ w32 q ⌝ }
+{
+    if q < 0 {
+        ((q as i64) + 4294967296) as u32
+    } else {
+        q as u32
+    }
+}
+
+// The least number by -1, whose quotient is no number of 32 bits.
+fn is_end(a: u32, b: u32) -> bool
+    ensures { λ r. ⌜ r ≡ (eqb a 2147483648 && eqb b 4294967295) ⌝ }
+{
+    if a == 2147483648 {
+        return b == 4294967295;
+    }
+    false
+}
+
+// The quotient, signed and rounded toward zero. Of the least number by -1 it is the least number.
+fn divide(a: u32, b: u32) -> u32
+    requires { ⌜ 0 < b ⌝ }
+    ensures { λ r. ⌜ r ≡ apply Operator.Divide a b ⌝ }
+{
+    if is_end(a, b) {
+        return a;
+    }
+    let x = signed(a);
+    let y = signed(b);
+    let q = x / y;
+    bits_of(q)
+}
+
+// What the operator gives: a fault where it divides by zero.
+fn apply_operator(o: Operator, a: u32, b: u32) -> Evaluated
+    ensures { λ r. ⌜ r ≡ givenBy (faults o b) (apply o a b) ⌝ }
 {
     match o {
-        Operator::Add => std::num::wrapping_add_u32(a, b),
-        Operator::Subtract => std::num::wrapping_sub_u32(a, b),
-        Operator::Multiply => wrapping_multiply(a, b),
-        Operator::Less => { if less(a, b) { 1 } else { 0 } }
-        Operator::Equal => { if a == b { 1 } else { 0 } }
+        Operator::Add => Evaluated::Value(std::num::wrapping_add_u32(a, b)),
+        Operator::Subtract => Evaluated::Value(std::num::wrapping_sub_u32(a, b)),
+        Operator::Multiply => Evaluated::Value(wrapping_multiply(a, b)),
+        Operator::Less => {
+            if less(a, b) {
+                Evaluated::Value(1)
+            } else {
+                Evaluated::Value(0)
+            }
+        }
+        Operator::Equal => {
+            if a == b {
+                Evaluated::Value(1)
+            } else {
+                Evaluated::Value(0)
+            }
+        }
+        Operator::Divide => {
+            if b == 0 {
+                return Evaluated::Fault;
+            }
+            Evaluated::Value(divide(a, b))
+        }
     }
 }
 
@@ -91,12 +156,12 @@ fn load(values: &[u32; VALUES], o: Operand) -> u32
     }
 }
 
-fn evaluate(values: &[u32; VALUES], e: Expression) -> u32
+fn evaluate(values: &[u32; VALUES], e: Expression) -> Evaluated
     requires { ⌜ ValidExpression e ⌝ }
     ensures { λ r. ⌜ r ≡ value (now (values .entry)) e ⌝ }
 {
     match e {
-        Expression::Single(a) => load(values, a),
+        Expression::Single(a) => Evaluated::Value(load(values, a)),
         Expression::Binary(a, o, b) => {
             let x = load(values, a);
             let y = load(values, b);
@@ -123,10 +188,15 @@ pub fn step(s: Statement, at: u32, input: u32, values: &mut [u32; VALUES]) -> Ne
             Next::Finish(values[i])
         }
         Statement::Assign(x, e) => {
-            let v = evaluate(&*values, e);
-            let i = x as usize;
-            values[i] = v;
-            Next::Goto(at + 1)
+            let given = evaluate(&*values, e);
+            match given {
+                Evaluated::Value(v) => {
+                    let i = x as usize;
+                    values[i] = v;
+                    Next::Goto(at + 1)
+                }
+                Evaluated::Fault => Next::Fault(at),
+            }
         }
         Statement::Branch(x, n, m) => {
             let i = x as usize;
@@ -181,6 +251,13 @@ pub fn run(program: Program, start: [u32; VALUES], input: u32, budget: u32) -> O
                     answer: Answer::Ended(signed(v), steps),
                     values: start,
                     kept: kept_of(values),
+                };
+            }
+            Next::Fault(t) => {
+                return Outcome {
+                    answer: Answer::Fault(t + 1, steps),
+                    values: start,
+                    kept: kept_of(start),
                 };
             }
         }

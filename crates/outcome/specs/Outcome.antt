@@ -10,7 +10,7 @@ use Rattle.language.specs.declared.Statement.{Statement}
 use Rattle.program.specs.Program as program
 use Rattle.blame.specs.Blame.{Blamed}
 use Rattle.machine.specs.declared.Answer.{Answer}
-use Rattle.machine.specs.declared.Answer.the-variants.{Ended, Spent}
+use Rattle.machine.specs.declared.Answer.the-variants.{Ended, Fault, Spent}
 use Rattle.run.specs.Run.{most-steps, RunRefused, RunFinished}
 use Rattle.desk.specs.Refusals.{refusalText}
 use Rattle.start.specs.Start.{StartTaken, StartRead}
@@ -31,6 +31,7 @@ valueLines (suc n) vs = valueLines n vs ++ (valueText n (getD vs n 0) ++ 10 ∷ 
 -- the values are told with 'spent'
 unfoldable pub answerValues : Answer → List ℕ → List ℕ
 answerValues (Ended v k) ws = []
+answerValues (Fault n k) ws = []
 answerValues (Spent n) ws = valueLines variables ws
 
 -- how a run that isn't refused went, with the values ws and the kept ones ks beside the answer

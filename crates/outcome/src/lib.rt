@@ -46,6 +46,7 @@ fn answer_text(out: &mut [u8], a: Answer, values: &[u32; VALUES], kept: &[u32; K
     let k = answer_line::write(out, 0, a, kept);
     match a {
         Answer::Ended(_, _) => k,
+        Answer::Fault(_, _) => k,
         Answer::Spent(_) => value_lines(out, k, values),
     }
 }

@@ -16,7 +16,7 @@ use Rattle.marks.specs.declared.Mark.the-variants.{Rm, Rpl}
 use Rattle.marks.specs.Marks.{names, ValidMark, AllValid}
 use Rattle.marks.specs.Reading.{Taken, most}
 use Rattle.rewriting.specs.declared.Verdict.{Verdict}
-use Rattle.rewriting.specs.declared.Verdict.the-variants.{Accepted, Missing, Repeated, Unfit, Unmet}
+use Rattle.rewriting.specs.declared.Verdict.the-variants.{Accepted, Missing, Repeated, Unfit, MayFault, Unmet}
 use Rattle.rewriting.specs.Verdicts.{number, Verdicts, acceptedCount}
 use Rattle.judge.specs.Judge.{text-bytes}
 use Rattle.report.specs.Report.{countsLine, verdictLine, verdictLines, reportText, count-digits, verdict-digits, counts-room, verdict-room, report-room}
@@ -45,6 +45,7 @@ number-small Accepted = omega arith
 number-small Missing = omega arith
 number-small Repeated = omega arith
 number-small Unfit = omega arith
+number-small MayFault = omega arith
 number-small Unmet = omega arith
 
 pub report-most : (P : List Statement) (ms : List Mark) (vs : List ℕ) (Q : List Statement) {u : List ℕ} → Taken u ms → Verdicts P ms vs → length (text Q) ≤ text-bytes

@@ -4,7 +4,7 @@ use mathlib.Core.List.{List}
 use Prim.Native.Nat.{ℕ}
 use lib.IntN.{ℤ}
 use Rattle.machine.specs.declared.Answer.{Answer}
-use Rattle.machine.specs.declared.Answer.the-variants.{Ended, Spent}
+use Rattle.machine.specs.declared.Answer.the-variants.{Ended, Fault, Spent}
 use Rattle.run.specs.Run.{RunAnswers}
 use Rattle.mark_line.specs.MarkLine.{MarkLineAnswers}
 use Rattle.mark_line.specs.declared.MarkLineAnswer.{MarkLineAnswer}
@@ -35,6 +35,7 @@ pub record RunPlaces : Type 0 where
 -- what a run's answer sets, with the values ws and the kept ones ks beside it; the rest stays
 abbrev pub placed : Answer → List ℕ → List ℕ → RunPlaces → RunPlaces
 placed (Ended v k) ws ks o = record { ended = 1; value = v; steps = k; statement = o .statement; left = o .left; kept = ks }
+placed (Fault n k) ws ks o = record { ended = 2; value = o .value; steps = k; statement = n; left = o .left; kept = o .kept }
 placed (Spent n) ws ks o = record { ended = 0; value = o .value; steps = o .steps; statement = n; left = ws; kept = o .kept }
 
 -- 0 is a result, any other number the refusal, which keeps all

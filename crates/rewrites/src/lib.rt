@@ -46,6 +46,12 @@ pub extern "C" fn rewrites_run(
                     *kept = eight;
                     0
                 }
+                Answer::Fault(n, taken) => {
+                    *ended = 2;
+                    *statement = n;
+                    *steps = taken;
+                    0
+                }
                 Answer::Spent(n) => {
                     *ended = 0;
                     *statement = n;

@@ -17,7 +17,7 @@ use Rattle.marks.specs.declared.Mark.{Mark}
 use Rattle.marks.specs.Marks.{markAt}
 use Rattle.rewriting.specs.Verdicts.{number, place, Judged, Verdicts, Accepts, Rewritten}
 use Rattle.rewriting.specs.declared.Verdict.{Verdict}
-use Rattle.rewriting.specs.declared.Verdict.the-variants.{Accepted, Missing, Repeated, Unfit, Unmet}
+use Rattle.rewriting.specs.declared.Verdict.the-variants.{Accepted, Missing, Repeated, Unfit, MayFault, Unmet}
 
 module _ (P : List Statement) (earlier : List Mark) (m : Mark) where
   -- 0 is the number of no other verdict
@@ -26,6 +26,7 @@ module _ (P : List Statement) (earlier : List Mark) (m : Mark) where
   zero-accepted Missing e h = absurd (omega arith)
   zero-accepted Repeated e h = absurd (omega arith)
   zero-accepted Unfit e h = absurd (omega arith)
+  zero-accepted MayFault e h = absurd (omega arith)
   zero-accepted Unmet e h = absurd (omega arith)
 
   -- and no other is right beside it
@@ -34,7 +35,8 @@ module _ (P : List Statement) (earlier : List Mark) (m : Mark) where
   accepted-zero Missing a h = absurd (h (a .0))
   accepted-zero Repeated a h = absurd (a .1 (h .1))
   accepted-zero Unfit a h = absurd (h .2 (a .2))
-  accepted-zero Unmet a h = absurd (h .3 (a .3))
+  accepted-zero MayFault a h = absurd (h .3 (a .3))
+  accepted-zero Unmet a h = absurd (h .4 (a .4))
 
 -- an accepted line names the statement at place s
 abbrev pub Made : List Mark → List ℕ → ℕ → Type 0
@@ -62,7 +64,7 @@ made-decided ms vs s = ⊎-elim (λ w. yes (found w)) (λ none. no (unfound none
         clash (and-both (accepted j) (named j) (eq-eqb (getD vs j 0) 0 byte) (eq-eqb (place (markAt ms j)) s here)) (none j l)
 
 module _ (P : List Statement) (ms : List Mark) (vs : List ℕ) (judged : Verdicts P ms vs) where
-  -- "that byte is 0 exactly where none of 11 to 14 applies"
+  -- "that byte is 0 exactly where none of 11 to 14", nor document 02's 18, "applies"
   pub accepted-judged : (j : ℕ) → Accepts ms vs j → Judged P (take j ms) (markAt ms j) Accepted
   accepted-judged j (l, byte) =
       let v = judged j l in zero-accepted P (take j ms) (markAt ms j) (v .0) (sym (v .2) ∙ byte) (v .1)

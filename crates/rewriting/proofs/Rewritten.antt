@@ -28,7 +28,8 @@ module _ (P : List Statement) (ms : List Mark) (vs : List ℕ) (judged : Verdict
             m,
             at-valid ms j _ valid (accepts .0),
             subst (λ (t : ℕ). Fits m (at P t)) here (h .2),
-            subst (Sat P (published m)) here (h .3),
+            h .3,
+            subst (Sat P (published m)) here (h .4),
             subst (λ (t : ℕ). at Q t ≡ makes m (at P t)) here (r .made j accepts),
           )
       by s l (no none) = inl (r .kept s l (λ j a e. none (j, a, e)))

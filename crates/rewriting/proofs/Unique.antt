@@ -10,7 +10,7 @@ use Rattle.marks.specs.declared.Mark.{Mark}
 use Rattle.marks.specs.Marks.{markAt}
 use Rattle.rewriting.specs.Verdicts.{number, Judged, Verdicts, acceptedCount, Rewritten}
 use Rattle.rewriting.specs.declared.Verdict.{Verdict}
-use Rattle.rewriting.specs.declared.Verdict.the-variants.{Accepted, Missing, Repeated, Unfit, Unmet}
+use Rattle.rewriting.specs.declared.Verdict.the-variants.{Accepted, Missing, Repeated, Unfit, MayFault, Unmet}
 use Rattle.rewriting.proofs.Accepted.{rewritten-unique}
 
 -- a mark gets one verdict only
@@ -19,27 +19,38 @@ module _ (P : List Statement) (earlier : List Mark) (m : Mark) where
   verdict-unique Missing Missing a b = refl
   verdict-unique Missing Repeated a b = absurd (a (b .0))
   verdict-unique Missing Unfit a b = absurd (a (b .0))
+  verdict-unique Missing MayFault a b = absurd (a (b .0))
   verdict-unique Missing Unmet a b = absurd (a (b .0))
   verdict-unique Missing Accepted a b = absurd (a (b .0))
   verdict-unique Repeated Missing a b = absurd (b (a .0))
   verdict-unique Repeated Repeated a b = refl
   verdict-unique Repeated Unfit a b = absurd (b .1 (a .1))
+  verdict-unique Repeated MayFault a b = absurd (b .1 (a .1))
   verdict-unique Repeated Unmet a b = absurd (b .1 (a .1))
   verdict-unique Repeated Accepted a b = absurd (b .1 (a .1))
   verdict-unique Unfit Missing a b = absurd (b (a .0))
   verdict-unique Unfit Repeated a b = absurd (a .1 (b .1))
   verdict-unique Unfit Unfit a b = refl
+  verdict-unique Unfit MayFault a b = absurd (a .2 (b .2))
   verdict-unique Unfit Unmet a b = absurd (a .2 (b .2))
   verdict-unique Unfit Accepted a b = absurd (a .2 (b .2))
+  verdict-unique MayFault Missing a b = absurd (b (a .0))
+  verdict-unique MayFault Repeated a b = absurd (a .1 (b .1))
+  verdict-unique MayFault Unfit a b = absurd (b .2 (a .2))
+  verdict-unique MayFault MayFault a b = refl
+  verdict-unique MayFault Unmet a b = absurd (a .3 (b .3))
+  verdict-unique MayFault Accepted a b = absurd (a .3 (b .3))
   verdict-unique Unmet Missing a b = absurd (b (a .0))
   verdict-unique Unmet Repeated a b = absurd (a .1 (b .1))
   verdict-unique Unmet Unfit a b = absurd (b .2 (a .2))
+  verdict-unique Unmet MayFault a b = absurd (b .3 (a .3))
   verdict-unique Unmet Unmet a b = refl
-  verdict-unique Unmet Accepted a b = absurd (a .3 (b .3))
+  verdict-unique Unmet Accepted a b = absurd (a .4 (b .4))
   verdict-unique Accepted Missing a b = absurd (b (a .0))
   verdict-unique Accepted Repeated a b = absurd (a .1 (b .1))
   verdict-unique Accepted Unfit a b = absurd (b .2 (a .2))
-  verdict-unique Accepted Unmet a b = absurd (b .3 (a .3))
+  verdict-unique Accepted MayFault a b = absurd (b .3 (a .3))
+  verdict-unique Accepted Unmet a b = absurd (b .4 (a .4))
   verdict-unique Accepted Accepted a b = refl
 
 module _ (P : List Statement) (ms : List Mark) (vs us : List ℕ) (a : Verdicts P ms vs) (b : Verdicts P ms us) where

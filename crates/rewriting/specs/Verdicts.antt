@@ -12,17 +12,18 @@ use Rattle.bits.specs.Row.{countBelow}
 use Rattle.truth.specs.Truth.{Sat}
 use Rattle.marks.specs.Marks.{names, markAt}
 use Rattle.marks.specs.declared.Mark.{Mark}
-use Rattle.lockstep.specs.Rules.{Fits, published, makes}
+use Rattle.lockstep.specs.Rules.{Fits, Droppable, published, makes}
 use Rattle.rewriting.specs.declared.Verdict.{Verdict}
-use Rattle.rewriting.specs.declared.Verdict.the-variants.{Accepted, Missing, Repeated, Unfit, Unmet}
+use Rattle.rewriting.specs.declared.Verdict.the-variants.{Accepted, Missing, Repeated, Unfit, MayFault, Unmet}
 
 -- "(verdict byte; 0 is accepted): 11: n is 0 or above N. 12: an earlier line names n, accepted or not. 13: the mark doesn't fit. 14: its
--- condition is false at n."
+-- condition is false at n."; document 02: "verdict 18 for one that doesn't [meet it], after 13 and before 14"
 abbrev pub number : Verdict → ℕ
 number Accepted = 0
 number Missing = 11
 number Repeated = 12
 number Unfit = 13
+number MayFault = 18
 number Unmet = 14
 
 -- statement n is one of N
@@ -43,10 +44,12 @@ abbrev pub Judged : List Statement → List Mark → Mark → Verdict → Type 0
 Judged P earlier m Missing = Inside (length P) (names m) → ⊥
 Judged P earlier m Repeated = Inside (length P) (names m) × Named earlier (names m)
 Judged P earlier m Unfit = Inside (length P) (names m) × (Named earlier (names m) → ⊥) × (Fits m (at P (place m)) → ⊥)
+Judged P earlier m MayFault =
+    Inside (length P) (names m) × (Named earlier (names m) → ⊥) × Fits m (at P (place m)) × (Droppable m → ⊥)
 Judged P earlier m Unmet =
-    Inside (length P) (names m) × (Named earlier (names m) → ⊥) × Fits m (at P (place m)) × (Sat P (published m) (place m) → ⊥)
+    Inside (length P) (names m) × (Named earlier (names m) → ⊥) × Fits m (at P (place m)) × Droppable m × (Sat P (published m) (place m) → ⊥)
 Judged P earlier m Accepted =
-    Inside (length P) (names m) × (Named earlier (names m) → ⊥) × Fits m (at P (place m)) × Sat P (published m) (place m)
+    Inside (length P) (names m) × (Named earlier (names m) → ⊥) × Fits m (at P (place m)) × Droppable m × Sat P (published m) (place m)
 
 -- the verdict is one of a mark whose statement the program has
 abbrev pub Stands : Verdict → Type 0
@@ -54,6 +57,7 @@ Stands Accepted = Unit
 Stands Missing = ⊥
 Stands Repeated = Unit
 Stands Unfit = Unit
+Stands MayFault = Unit
 Stands Unmet = Unit
 
 -- "Each is judged on the given program, line j's verdict filling byte j, counted from 0."

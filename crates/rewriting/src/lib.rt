@@ -2,23 +2,26 @@
 ghost use mathlib.Core.Path.{_≡_};
 ghost use Rattle.base.specs.Decides.{Decides};
 ghost use Rattle.marks.specs.Marks.{names};
-ghost use Rattle.lockstep.specs.Rules.{IsVariable, Takes, Fits, replaceOperand, replaceIn, replaceVariable, replace as replaceStatement, makes as madeOf};
+ghost use Rattle.lockstep.specs.Rules.{IsVariable, Takes, Fits, NotZero, Safe, Droppable, replaceOperand, replaceIn, replaceVariable, replace as replaceStatement, makes as madeOf};
 ghost use Rattle.rewriting.specs.Verdicts.{number, Stands};
 use language::Expression;
 use language::Operand;
+use language::Operator;
 use language::Statement;
 use marks::Mark;
 
-// What a mark gets: accepted; no such statement; an earlier line names it; the mark doesn't fit; its condition is false.
+// What a mark gets: accepted; no such statement; an earlier line names it; the mark doesn't fit; it would drop what may fault; its condition is
+// false.
 pub enum Verdict {
     Accepted,
     Missing,
     Repeated,
     Unfit,
+    MayFault,
     Unmet,
 }
 
-// The number of a verdict in document 01.
+// The number of a verdict in documents 01 and 02.
 pub fn number_of(v: Verdict) -> u8
     ensures { λ k. ⌜ k ≡ number v ⌝ }
 {
@@ -27,6 +30,7 @@ pub fn number_of(v: Verdict) -> u8
         Verdict::Missing => 11,
         Verdict::Repeated => 12,
         Verdict::Unfit => 13,
+        Verdict::MayFault => 18,
         Verdict::Unmet => 14,
     }
 }
@@ -40,6 +44,7 @@ pub fn stands(v: Verdict) -> bool
         Verdict::Missing => false,
         Verdict::Repeated => true,
         Verdict::Unfit => true,
+        Verdict::MayFault => true,
         Verdict::Unmet => true,
     }
 }
@@ -88,6 +93,43 @@ pub fn fits(m: Mark, i: Statement) -> bool
             }
             takes(i, a)
         }
+    }
+}
+
+// Whether the operand is a constant other than 0.
+fn is_not_zero(b: Operand) -> bool
+    ensures { λ r. ⌜ Decides r (NotZero b) ⌝ }
+{
+    match b {
+        Operand::Variable(_) => false,
+        Operand::Constant(n) => n != 0,
+    }
+}
+
+// Whether the operator with this right operand can't fault.
+fn is_safe(o: Operator, b: Operand) -> bool
+    ensures { λ r. ⌜ Decides r (Safe o b) ⌝ }
+{
+    match o {
+        Operator::Add => true,
+        Operator::Subtract => true,
+        Operator::Multiply => true,
+        Operator::Less => true,
+        Operator::Equal => true,
+        Operator::Divide => is_not_zero(b),
+    }
+}
+
+// Whether the mark drops nothing that may fault.
+pub fn droppable(m: Mark) -> bool
+    ensures { λ r. ⌜ Decides r (Droppable m) ⌝ }
+{
+    match m {
+        Mark::Rm(_, _, e) => match e {
+            Expression::Single(_) => true,
+            Expression::Binary(_, o, b) => is_safe(o, b),
+        },
+        Mark::Rpl(_, _, _) => true,
     }
 }
 

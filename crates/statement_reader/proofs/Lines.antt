@@ -10,7 +10,7 @@ use borrow.Author.Tests.{lt-ltb, ltb-true, eqb-true}
 use Rattle.language.specs.declared.Operand.{Operand}
 use Rattle.language.specs.declared.Operand.the-variants.{Variable, Constant}
 use Rattle.language.specs.declared.Operator.{Operator}
-use Rattle.language.specs.declared.Operator.the-variants.{Add, Subtract, Multiply, Less, Equal}
+use Rattle.language.specs.declared.Operator.the-variants.{Add, Subtract, Multiply, Less, Equal, Divide}
 use Rattle.language.specs.declared.Expression.{Expression}
 use Rattle.language.specs.declared.Expression.the-variants.{Single, Binary}
 use Rattle.language.specs.declared.Statement.{Statement}
@@ -41,6 +41,7 @@ operator-complete Subtract l = refl
 operator-complete Multiply l = refl
 operator-complete Less l = refl
 operator-complete Equal l = refl
+operator-complete Divide l = refl
 
 -- the text of a binary expression and what follows it, grouped as it is read
 binary-text : (a : Operand) (o : Operator) (b : Operand) (rest : List ℕ) → spellExpression (Binary a o b) ++ rest ≡ spellOperand a ++ (32 ∷ spellOperator o ∷ 32 ∷ (spellOperand b ++ rest))
@@ -124,7 +125,8 @@ operator-sound (c ∷ l) o u e =
     either-inv _ _ e (is Add 43 refl)
     (λ e₁. either-inv _ _ e₁ (is Subtract 45 refl)
     (λ e₂. either-inv _ _ e₂ (is Multiply 42 refl)
-    (λ e₃. either-inv _ _ e₃ (is Less 60 refl) (is Equal 61 refl))))
+    (λ e₃. either-inv _ _ e₃ (is Less 60 refl)
+    (λ e₄. either-inv _ _ e₄ (is Equal 61 refl) (is Divide 47 refl)))))
   where
     is : (p : Operator) (k : ℕ) → spellOperator p ≡ k → where? (eqb c k) (found p l) ≡ found o u → c ∷ l ≡ spellOperator o ∷ u
     is p k h w = where-inv (eqb c k) (found p l) w λ t f.

@@ -10,7 +10,7 @@ use Rattle.language.specs.Spelling.{read-word, write-word, becomes-word, if-wor
 use Rattle.language.specs.declared.Operand.{Operand}
 use Rattle.language.specs.declared.Operand.the-variants.{Variable, Constant}
 use Rattle.language.specs.declared.Operator.{Operator}
-use Rattle.language.specs.declared.Operator.the-variants.{Add, Subtract, Multiply, Less, Equal}
+use Rattle.language.specs.declared.Operator.the-variants.{Add, Subtract, Multiply, Less, Equal, Divide}
 use Rattle.language.specs.declared.Expression.{Expression}
 use Rattle.language.specs.declared.Expression.the-variants.{Single, Binary}
 use Rattle.language.specs.declared.Statement.{Statement}
@@ -47,7 +47,8 @@ parseOperator (c ∷ l) =
     (either (where? (eqb c (byte "-")) (found Subtract l))
     (either (where? (eqb c (byte "*")) (found Multiply l))
     (either (where? (eqb c (byte "<")) (found Less l))
-    (where? (eqb c (byte "=")) (found Equal l)))))
+    (either (where? (eqb c (byte "=")) (found Equal l))
+    (where? (eqb c (byte "/")) (found Divide l))))))
 
 abbrev pub parsedOperator : List ℕ → OperatorRead → Parsed Operator
 parsedOperator s (operator.Found o k) = found o (drop k s)

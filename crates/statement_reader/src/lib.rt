@@ -60,6 +60,7 @@ fn operator(s: &[u8], at: usize) -> OperatorRead
         b'*' => OperatorRead::Found(Operator::Multiply, k),
         b'<' => OperatorRead::Found(Operator::Less, k),
         b'=' => OperatorRead::Found(Operator::Equal, k),
+        b'/' => OperatorRead::Found(Operator::Divide, k),
         _ => OperatorRead::Misspelled,
     }
 }

@@ -90,6 +90,7 @@ fn operator_byte(o: Operator) -> u8
         Operator::Multiply => b'*',
         Operator::Less => b'<',
         Operator::Equal => b'=',
+        Operator::Divide => b'/',
     }
 }
 

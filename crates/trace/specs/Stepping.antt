@@ -9,10 +9,14 @@ use Rattle.language.specs.Spelling.{variables}
 use Rattle.language.specs.Room.{number-digits, variable-room, constant-room}
 use Rattle.statement_writer.specs.Writing.{Put}
 use Rattle.language.specs.declared.Statement.{Statement}
-use Rattle.machine.specs.Machine.{Final, before, after}
-use Rattle.machine.specs.Answer.{Ends}
+use Rattle.machine.specs.Machine.{Final, before, ended, after}
+use Rattle.machine.specs.Answer.{stateOf, Ends}
+use Rattle.machine.specs.declared.Next.{Next}
+use Rattle.machine.specs.declared.Next.the-variants.{Goto}
 use Rattle.desk.specs.Columns.{number-columns, statement-columns}
 use Rattle.trace.specs.Trace.{stepLines}
+use Rattle.trace.specs.declared.Onward.{Onward}
+use Rattle.trace.specs.declared.Onward.the-variants.{To, Ended}
 use Rattle.trace.specs.declared.Progress.{Progress}
 
 -- what stands before the changed values has room in this many bytes: a step's number may have more digits than its columns
@@ -32,6 +36,11 @@ changes-room = variables * change-room
 -- every line: up to the statement's text, the changed values, and byte 10
 abbrev pub line-room : ℕ
 line-room = head-room + (changes-room + 1)
+
+-- a step leads to a place; or it ends the run, whatever the values are that it leaves
+abbrev pub Leads : Next → Onward → Type 0
+Leads n (To t) = n ≡ Goto t
+Leads n Ended = (us : List ℕ) → (v : Final) × (stateOf n us ≡ ended v)
 
 -- the run ended with step k: before it the run stood before place s with the values vs
 pub record Over (P : List Statement) (start : List ℕ) (input k s : ℕ) (vs : List ℕ) : Type 0 where

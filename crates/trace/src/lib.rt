@@ -6,7 +6,7 @@ ghost use Rattle.statement_writer.specs.Writing.{Put};
 ghost use Rattle.program.specs.Program.{most, Targets, WellFormed};
 ghost use Rattle.program.specs.Reading.{statements};
 ghost use Rattle.trace.specs.Trace.{valueText as valueBytes, change as changeBytes, changes as changesBytes, stepHead, lineText};
-ghost use Rattle.trace.specs.Stepping.{Traced, change-room, changes-room, line-room};
+ghost use Rattle.trace.specs.Stepping.{Leads, Traced, change-room, changes-room, line-room};
 use desk::columns::NUMBER_COLUMNS;
 use desk::columns::STATEMENT_COLUMNS;
 use language::CONSTANT_ROOM;
@@ -98,6 +98,22 @@ fn line(
     statement_writer::byte(out, k2, 10)
 }
 
+// Where a run stands after a step, if it goes on.
+pub enum Onward {
+    To(u32),
+    Ended,
+}
+
+pub fn way_on(next: Next) -> Onward
+    ensures { λ r. ⌜ Leads next r ⌝ }
+{
+    match next {
+        Next::Goto(t) => Onward::To(t),
+        Next::Finish(_) => Onward::Ended,
+        Next::Fault(_) => Onward::Ended,
+    }
+}
+
 // The bytes written, the steps done, and whether the run has ended with the last of them: `at` is then the place of the statement that it
 // performed, else of the one that comes next.
 pub struct Progress {
@@ -139,13 +155,14 @@ pub fn steps(
         let mut new = *values;
         let next = machine::step(s, place, input, &mut new);
         k += 1;
-        match next {
-            Next::Goto(t) => {
+        let way = way_on(next);
+        match way {
+            Onward::To(t) => {
                 to = line(out, to, k, place, s, &*values, &new);
                 *values = new;
                 place = t;
             }
-            Next::Finish(_) => {
+            Onward::Ended => {
                 to = line(out, to, k, place, s, &*values, &*values);
                 return Progress {
                     bytes: to,

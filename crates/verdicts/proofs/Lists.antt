@@ -23,7 +23,7 @@ use Rattle.marks.specs.declared.read.MarkRead.the-variants as markRead
 use Rattle.marks.proofs.Walk.{Begins, begins-first, line-mark, line-next, line-inside, line-found, text-line, text-done}
 use Rattle.rewriting.specs.Verdicts.{number, Inside, Named, place, Judged, Stands}
 use Rattle.rewriting.specs.declared.Verdict.{Verdict}
-use Rattle.rewriting.specs.declared.Verdict.the-variants.{Accepted, Missing, Repeated, Unfit, Unmet}
+use Rattle.rewriting.specs.declared.Verdict.the-variants.{Accepted, Missing, Repeated, Unfit, MayFault, Unmet}
 use Rattle.verdicts.specs.Judging.{NamedIn, Notes, VerdictsOf}
 
 -- the last of the marks names n, or one before
@@ -61,6 +61,7 @@ judged-stands P earlier m Accepted j = (λ _. j .0, λ _. tt)
 judged-stands P earlier m Missing j = (λ h. absurd h, j)
 judged-stands P earlier m Repeated j = (λ _. j .0, λ _. tt)
 judged-stands P earlier m Unfit j = (λ _. j .0, λ _. tt)
+judged-stands P earlier m MayFault j = (λ _. j .0, λ _. tt)
 judged-stands P earlier m Unmet j = (λ _. j .0, λ _. tt)
 
 pub record JudgedSoFar (P : List Statement) (t : List ℕ) (ms : List Mark) (old new row : List ℕ) (j at : ℕ) : Type 0 where

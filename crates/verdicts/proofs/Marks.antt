@@ -21,9 +21,9 @@ use Rattle.labelling.specs.Labels.{Labelled}
 use Rattle.truth.specs.Truth.{Sat}
 use Rattle.marks.specs.Marks.{names}
 use Rattle.marks.specs.declared.Mark.{Mark}
-use Rattle.lockstep.specs.Rules.{Fits, published}
+use Rattle.lockstep.specs.Rules.{Fits, Droppable, published}
 use Rattle.rewriting.specs.Verdicts.{Inside, Named, place}
-use Rattle.rewriting.specs.declared.Verdict.the-variants.{Accepted, Missing, Repeated, Unfit, Unmet}
+use Rattle.rewriting.specs.declared.Verdict.the-variants.{Accepted, Missing, Repeated, Unfit, MayFault, Unmet}
 use Rattle.verdicts.specs.Judging.{NamedIn, JudgedBy}
 
 pub decides-inside : (k n : ℕ) (m : Mark) → k ≡ names m → 1 ≤ k → Decides (leb k n) (Inside n (names m))
@@ -66,9 +66,12 @@ module _ (P : List Statement) (m : Mark) (i : Statement) (row : List ℕ) where
       pub judged-unfit : (Fits m i → ⊥) → JudgedBy P m i row Unfit
       judged-unfit f earlier e g = (inside, fresh earlier g, rw (e inside) f)
 
-      module _ (f : Fits m i) {y : ℕ → Bool} (l : Labelled (length P) y (Sat P (published m))) where
+      pub judged-may-fault : Fits m i → (Droppable m → ⊥) → JudgedBy P m i row MayFault
+      judged-may-fault f d earlier e g = (inside, fresh earlier g, rw (e inside) f, d)
+
+      module _ (f : Fits m i) (harmless : Droppable m) {y : ℕ → Bool} (l : Labelled (length P) y (Sat P (published m))) where
         pub judged-unmet : y (place m) ≡ false → JudgedBy P m i row Unmet
-        judged-unmet d earlier e g = (inside, fresh earlier g, rw (e inside) f, λ x. clash (l .exact (place m) low .1 x) d)
+        judged-unmet d earlier e g = (inside, fresh earlier g, rw (e inside) f, harmless, λ x. clash (l .exact (place m) low .1 x) d)
 
         pub judged-accepted : y (place m) ≡ true → JudgedBy P m i row Accepted
-        judged-accepted d earlier e g = (inside, fresh earlier g, rw (e inside) f, l .exact (place m) low .0 d)
+        judged-accepted d earlier e g = (inside, fresh earlier g, rw (e inside) f, harmless, l .exact (place m) low .0 d)

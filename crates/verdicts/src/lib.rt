@@ -80,6 +80,9 @@ fn verdict_of(
     if !rewriting::fits(m, i) {
         return Verdict::Unfit;
     }
+    if !rewriting::droppable(m) {
+        return Verdict::MayFault;
+    }
     let row = published_rows::remembered_row(m, n, rows, codes, flow, keys, memory);
     if !bits::contains(&row, place) {
         return Verdict::Unmet;

@@ -29,7 +29,7 @@ fn condition_refusal(text: &str) -> u8 {
 }
 
 /// The same of a list of marks.
-fn list_refusal(text: &str) -> u8 {
+pub fn list_refusal(text: &str) -> u8 {
     let mut answers = [marks::judge, tuned::judge, tuned::judge_by_labels].map(|judge| {
         let answer = judge(b"read i0\nwrite i0\n", text.as_bytes(), &mut [0; 256], &mut [0; 8_704]);
         answer.err().unwrap_or(0)
@@ -40,7 +40,7 @@ fn list_refusal(text: &str) -> u8 {
 }
 
 /// The refusals of a right side in a program, in `stmt`, in `trans` and in a mark that drops it.
-fn refusals_of_right_side(right: &str) -> [u8; 4] {
+pub fn refusals_of_right_side(right: &str) -> [u8; 4] {
     [
         program_refusal(&format!("read i0\ni1 := {right}\nwrite i0\n")),
         condition_refusal(&format!("stmt(i1 := {right})")),

@@ -162,7 +162,7 @@ fn bits_of_all_four_words() {
 /// Each spelling of a statement, a condition and a mark.
 #[test]
 fn spellings_that_are_taken() {
-    for right in ["i31", "0", "i1 + 2", "3 - i4", "5 * 6", "i7 < i8", "9 = i10"] {
+    for right in ["i31", "0", "i1 + 2", "3 - i4", "5 * 6", "i7 < i8", "9 = i10", "11 / i12"] {
         assert_eq!(refusal(&format!("read i0\ni31 := {right}\nwrite i0\n")), 0, "{right}");
         assert_eq!(condition_refusal(&format!("trans({right})")), 0, "{right}");
         assert_eq!(condition_refusal(&format!("stmt(i31 := {right})")), 0, "{right}");

@@ -240,8 +240,8 @@ fn steps_agree_with_their_definition() {
 #[test]
 fn given_and_rewritten_program_agree_step_by_step() {
     let random = &mut Random::new(4);
-    let (mut removed, mut replaced, mut would_matter) = (0, 0, 0);
-    let mut verdicts_seen = [0_usize; 15];
+    let (mut removed, mut replaced, mut would_matter, mut faults) = (0, 0, 0, 0);
+    let mut verdicts_seen = [0_usize; 19];
     for _ in 0..4_000 {
         let size = generate::size(random);
         let given = generate::program(random, size);
@@ -278,7 +278,10 @@ fn given_and_rewritten_program_agree_step_by_step() {
                 (Outcome::Spent { statement: a, .. }, Outcome::Spent { statement: b, .. }) => {
                     assert_eq!(a, b)
                 }
-                (one, other) => assert_eq!(one, other),
+                (one, other) => {
+                    assert_eq!(one, other);
+                    faults += usize::from(matches!(one, Outcome::Fault { .. }));
+                }
             }
         }
         // With one refused mark made all the same, runs often differ.
@@ -292,9 +295,9 @@ fn given_and_rewritten_program_agree_step_by_step() {
             would_matter += usize::from(differs);
         }
     }
-    println!("removed {removed} replaced {replaced} would matter {would_matter} verdicts {verdicts_seen:?}");
-    assert!(removed > 4_000 && replaced > 4_000 && would_matter > 200);
-    assert!(verdicts_seen[11..].iter().all(|&seen| seen > 500));
+    println!("removed {removed} replaced {replaced} would matter {would_matter} faults {faults} verdicts {verdicts_seen:?}");
+    assert!(removed > 4_000 && replaced > 4_000 && would_matter > 200 && faults > 500);
+    assert!(verdicts_seen[11..=14].iter().all(|&seen| seen > 500) && verdicts_seen[18] > 100);
 }
 
 /// The condition of `rm` and wrong readings of it, x standing for the variable.
@@ -400,6 +403,7 @@ fn runs_are_their_steps() {
                 assert_eq!(kept, kept_of(&before));
                 Outcome::Ended { value, steps: taken, kept }
             }
+            State::Faulted { statement } => Outcome::Fault { statement, steps: taken },
         };
         assert_eq!(run(&program.text(), values, input, budget), Ok(wanted));
         ended += usize::from(matches!(wanted, Outcome::Ended { .. }));

@@ -1,43 +1,12 @@
 //! Variables that the unit keeps from one pass to the next: the cases of the change request.
 
-use super::{judged, lines, words, P, ZEROS};
+use super::{all_judged, lines, ran, table, P, ZEROS};
 use crate::check::check;
 use crate::desk;
 use crate::generate::{self, Random};
-use crate::machine::{first_difference, run, run_program, Outcome, Values};
+use crate::machine::{first_difference, run_program, Outcome, Values};
 use crate::marks::{self, Judge, Kind, Mark};
 use crate::program::{is_kept, Program};
-use crate::tuned;
-
-/// Word 0 of each part of a condition, by the plain and by the tuned call.
-fn table(program: &str, condition: &str) -> Vec<u64> {
-    let mut filled = [0; 256];
-    let answer = tuned::tabulate(program.as_bytes(), condition.as_bytes(), &mut filled);
-    let (parts, _, _) = answer.expect("program and condition are taken");
-    let tuned: Vec<u64> = (0..parts as usize).map(|part| filled[4 * part]).collect();
-    assert_eq!(words(program, condition), tuned, "{condition}");
-    tuned
-}
-
-/// The verdicts of a list and the new text, by the plain and by both tuned calls.
-fn all_judged(program: &str, list: &str) -> (Vec<u8>, String) {
-    let plain = judged(program, list);
-    for judge in [tuned::judge, tuned::judge_by_labels] {
-        let (mut verdicts, mut text) = ([99; 256], [99; 8_704]);
-        let answer = judge(program.as_bytes(), list.as_bytes(), &mut verdicts, &mut text);
-        let (count, _, bytes) = answer.expect("program and list are taken");
-        assert_eq!(verdicts[..count as usize], plain.0, "{list}");
-        assert_eq!(text[..bytes as usize], *plain.1.as_bytes(), "{list}");
-    }
-    plain
-}
-
-/// A run by the plain and by the tuned call.
-fn ran(program: &str, values: Values, input: u32, budget: u32) -> Outcome {
-    let plain = run(program.as_bytes(), values, input, budget);
-    assert_eq!(tuned::run(program.as_bytes(), &values, input, budget), plain);
-    plain.expect("the program is taken")
-}
 
 /// Values that are all different, none small.
 fn different() -> Values {
@@ -277,6 +246,10 @@ fn keeps_otherwise(random: &mut Random, given: &Program, mark: &Mark) -> bool {
             }
             (Outcome::Spent { statement: a, .. }, Outcome::Spent { statement: b, .. }) => {
                 assert_eq!(a, b, "{given}{mark}");
+                false
+            }
+            (Outcome::Fault { .. }, Outcome::Fault { .. }) => {
+                assert_eq!(answers.0, answers.1, "{given}{mark}");
                 false
             }
             _ => panic!("one of the runs has ended: {given}{mark}"),

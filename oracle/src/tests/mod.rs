@@ -1,6 +1,7 @@
 //! Cases from the defining documents, decided open points, and random cross tests.
 
 mod constants;
+mod division;
 mod document;
 mod generated;
 mod kept;
@@ -11,7 +12,7 @@ mod review;
 mod tuned;
 
 use crate::condition;
-use crate::machine::Kept;
+use crate::machine::{run, Kept, Outcome, Values};
 use crate::marks;
 use crate::program::{Program, KEPT};
 
@@ -61,4 +62,34 @@ fn judged(program: &str, list: &str) -> (Vec<u8>, String) {
     let verdicts = verdicts[..count as usize].to_vec();
     assert_eq!(accepted as usize, verdicts.iter().filter(|&&verdict| verdict == 0).count());
     (verdicts, String::from_utf8(text[..bytes as usize].to_vec()).expect("new text is ASCII"))
+}
+
+/// Word 0 of each part of a condition, by the plain and by the tuned call.
+fn table(program: &str, condition: &str) -> Vec<u64> {
+    let mut filled = [0; 256];
+    let answer = crate::tuned::tabulate(program.as_bytes(), condition.as_bytes(), &mut filled);
+    let (parts, _, _) = answer.expect("program and condition are taken");
+    let tuned: Vec<u64> = (0..parts as usize).map(|part| filled[4 * part]).collect();
+    assert_eq!(words(program, condition), tuned, "{condition}");
+    tuned
+}
+
+/// The verdicts of a list and the new text, by the plain and by both tuned calls.
+fn all_judged(program: &str, list: &str) -> (Vec<u8>, String) {
+    let plain = judged(program, list);
+    for judge in [crate::tuned::judge, crate::tuned::judge_by_labels] {
+        let (mut verdicts, mut text) = ([99; 256], [99; 8_704]);
+        let answer = judge(program.as_bytes(), list.as_bytes(), &mut verdicts, &mut text);
+        let (count, _, bytes) = answer.expect("program and list are taken");
+        assert_eq!(verdicts[..count as usize], plain.0, "{list}");
+        assert_eq!(text[..bytes as usize], *plain.1.as_bytes(), "{list}");
+    }
+    plain
+}
+
+/// A run by the plain and by the tuned call.
+fn ran(program: &str, values: Values, input: u32, budget: u32) -> Outcome {
+    let plain = run(program.as_bytes(), values, input, budget);
+    assert_eq!(crate::tuned::run(program.as_bytes(), &values, input, budget), plain);
+    plain.expect("the program is taken")
 }

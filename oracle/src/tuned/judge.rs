@@ -124,6 +124,16 @@ fn fits(mark: &Mark, statement: &Statement) -> bool {
     }
 }
 
+/// Whether a mark drops a division by a variable or by 0.
+fn divides_by_what_may_be_0(mark: &Mark) -> bool {
+    match mark.kind {
+        Kind::Remove(Expression::Pair(_, Operator::Divide, divisor)) => {
+            !matches!(divisor, Operand::Constant(1..))
+        }
+        _ => false,
+    }
+}
+
 /// Makes of a statement what a mark that fits it says.
 fn make(mark: &Mark, statement: &mut Statement) {
     match (mark.kind, statement) {
@@ -213,6 +223,7 @@ impl Writer<'_> {
                             Operator::Plus => b" + ",
                             Operator::Minus => b" - ",
                             Operator::Times => b" * ",
+                            Operator::Divide => b" / ",
                             Operator::Less => b" < ",
                             Operator::Equal => b" = ",
                         });
@@ -252,6 +263,8 @@ fn judge_with(
                 put(&mut named, at);
                 if !fits(mark, &program.statements()[usize::from(at)]) {
                     13
+                } else if divides_by_what_may_be_0(mark) {
+                    18
                 } else if is_true(&judge, &program, mark, at) {
                     accepted += 1;
                     0

@@ -111,6 +111,7 @@ impl<'a> Cursor<'a> {
             b'+' => Operator::Plus,
             b'-' => Operator::Minus,
             b'*' => Operator::Times,
+            b'/' => Operator::Divide,
             b'<' => Operator::Less,
             b'=' => Operator::Equal,
             _ => return None,

@@ -13,6 +13,7 @@ enum Code {
     Plus,
     Minus,
     Times,
+    Divide,
     Less,
     Equal,
     Branch,
@@ -71,6 +72,7 @@ impl Machine {
                         Operator::Plus => Code::Plus,
                         Operator::Minus => Code::Minus,
                         Operator::Times => Code::Times,
+                        Operator::Divide => Code::Divide,
                         Operator::Less => Code::Less,
                         Operator::Equal => Code::Equal,
                     };
@@ -103,6 +105,13 @@ impl Machine {
                 Code::Plus => self.value(a).wrapping_add(self.value(b)),
                 Code::Minus => self.value(a).wrapping_sub(self.value(b)),
                 Code::Times => self.value(a).wrapping_mul(self.value(b)),
+                Code::Divide => {
+                    let divisor = self.value(b) as i32;
+                    if divisor == 0 {
+                        return Outcome::Fault { statement: at as u32 + 1, steps };
+                    }
+                    (self.value(a) as i32).wrapping_div(divisor) as u32
+                }
                 Code::Less => u32::from((self.value(a) as i32) < self.value(b) as i32),
                 Code::Equal => u32::from(self.value(a) == self.value(b)),
                 Code::Skip => {

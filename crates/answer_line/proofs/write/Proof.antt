@@ -14,8 +14,14 @@ returns c =
 returns-2 : tie.Need-returns-2
 unfolding answerLine
 returns-2 c =
-    let told = c .before .before .spent .ensures in
+    let told = c .before .before .fault .ensures in
     rw (c .before .before .before .before .before .a2 .given .1) told
+
+returns-3 : tie.Need-returns-3
+unfolding answerLine
+returns-3 c =
+    let told = c .before .before .spent .ensures in
+    rw (c .before .before .before .before .before .a3 .given .1) told
 
 pub write-spec : {M : Type 1} → statement M
 write-spec =
@@ -26,6 +32,10 @@ write-spec =
     (λ c. search needs)
     (λ c κs. search needs)
     (λ c. search needs)
+    (λ c κs. search needs)
+    (λ c. search needs)
     returns
     (λ c. search needs)
-    returns-2)
+    returns-2
+    (λ c. search needs)
+    returns-3)

@@ -1,5 +1,5 @@
 -- `steps` meets its contract. The invariant: the lines of the steps so far are written, and both runs stand before the place. Assumes nothing.
-use mathlib.Core.Path.{refl, ap, _∙_}
+use mathlib.Core.Path.{refl, _∙_}
 use mathlib.Core.Logic.{inl, inr}
 use Prim.Native.Nat.{ℕ, _-_, _≤_, _<_}
 use native.Mathlib.Omega.{arith}
@@ -9,8 +9,6 @@ use Rattle.language.specs.Spelling.{Valid}
 use Rattle.program.specs.Reading.{statements}
 use Rattle.program.specs.declared.Program.{Program}
 use Rattle.program.proofs.Held.{held, held-valid, held-targets}
-use Rattle.machine.specs.Answer.{stateOf}
-use Rattle.machine.specs.declared.Next.{Next}
 use Rattle.statement_writer.proofs.Puts.{put-length}
 use Rattle.comparison.proofs.Walk.{Going, not-gone, going-more, ended-step, stopped}
 use borrow.Author.Needs.{needs}
@@ -55,7 +53,7 @@ step-requires-2 c κs =
 
 line-requires : tie.Need-line-requires Inv-loop μ-loop
 line-requires c κs =
-    let t = c .before .before .before .before .before .before .before .before .before .before .before .before .before .before in
+    let t = c .before .before .before .before .before .before .before .before .before .before .before .before .before .before .before in
     let s = t .before .before .before .before in
     let k = t .before .before .loop .place in
     let i = t .before .before .loop .inv in
@@ -65,19 +63,20 @@ line-requires c κs =
 
 loop-again : tie.Need-loop-again Inv-loop μ-loop
 loop-again c =
-    let y = c .before .before .before .before .before .before .before .before .before in
+    let y = c .before .before .before .before .before .before .before .before .before .before in
     let t = y .before .before .before .before .before .before .before .before in
     let s = t .before .before .before .before in
     let i = t .before .before .loop .inv in
     let a = y .before .before .step in
     let b = y .step2 in
+    let goes = rw (c .before .before .before .before .before .before .before .way .given .1) at (c .before .before .before .before .before .before .before .before .before .way-on .ensures) in
     going-more (s .args .t1) (s .args .t2) _ _ _ _ (a .last .1 .1 .1 .0) (b .last .1 .1 .1 .0) (a .result) (b .result) (a .ensures) (b .ensures)
-    (s .pre .0) (s .pre .1 .0) i (t .before .loop-test .taken) _ (c .before .before .before .before .before .before .before .next .given .1) (omega (arith, t .if1 .left, i .fits, i .same))
+    (s .pre .0) (s .pre .1 .0) i (t .before .loop-test .taken) _ goes (omega (arith, t .if1 .left, i .fits, i .same))
     (c .before .before .line .ensures .1) (c .before .before .line .ensures .0)
 
 line-requires-2 : tie.Need-line-requires-2 Inv-loop μ-loop
 line-requires-2 c κs =
-    let t = c .before .before .before .before .before .before .before .before .before .before .before .before .before in
+    let t = c .before .before .before .before .before .before .before .before .before .before .before .before .before .before in
     let s = t .before .before .before .before in
     let k = t .before .before .loop .place in
     let i = t .before .before .loop .inv in
@@ -88,11 +87,11 @@ line-requires-2 c κs =
 same-length-2 : tie.Need-same-length-2 Inv-loop μ-loop
 same-length-2 c =
     put-length (c .before .before .line2 .ensures .0)
-    ∙ c .before .before .before .before .before .before .before .before .before .before .before .before .before .before .before .before .before .before .loop .inv .same
+    ∙ c .before .before .before .before .before .before .before .before .before .before .before .before .before .before .before .before .before .before .before .loop .inv .same
 
 returns-2 : tie.Need-returns-2 Inv-loop μ-loop
 returns-2 c =
-    let y = c .before .before .before .before .before .before .before .before in
+    let y = c .before .before .before .before .before .before .before .before .before in
     let t = y .before .before .before .before .before .before .before .before in
     let s = t .before .before .before .before in
     let i = t .before .before .loop .inv in
@@ -101,7 +100,7 @@ returns-2 c =
     let a = y .before .before .step in
     let b = y .step2 in
     let us = a .last .1 .1 .1 .0 in
-    let over = ap (λ (x : Next). stateOf x us) (c .before .before .before .before .before .before .enum-told .given .1) in
+    let over = (rw (c .before .before .before .before .before .before .enum-told .given .1) at (c .before .before .before .before .before .before .before .before .way-on .ensures)) us .1 in
     ended-step (s .args .t1) (s .args .t2) _ _ _ _ us (b .last .1 .1 .1 .0) (a .result) (b .result) (a .ensures) (b .ensures)
     (s .pre .0) (s .pre .1 .0) i (t .before .loop-test .taken) _ _ refl refl refl refl over end (w .ensures .0)
 
@@ -129,6 +128,7 @@ steps-spec =
     step-requires
     step-requires-2
     (λ c. search needs)
+    (λ c κs. search needs)
     (λ c. search needs)
     line-requires
     (λ c. search needs)

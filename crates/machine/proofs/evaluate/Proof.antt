@@ -1,6 +1,7 @@
 -- `evaluate` meets its contract: each arm is its clause of `value`.
-use mathlib.Core.Path.{_∙_}
+use mathlib.Core.Path.{ap}
 use borrow.Author.Needs.{needs}
+use Rattle.machine.specs.declared.Evaluated.the-variants.{Value}
 use Rattle.machine.proofs.evaluate.Statement.{statement}
 use Rattle.machine.proofs.evaluate.Tie as tie
 
@@ -14,10 +15,12 @@ load-requires-3 : tie.Need-load-requires-3
 load-requires-3 c κs = (rw (c .before .before .e2 .given .1) at (c .before .before .before .before .pre)) .1
 
 returns : tie.Need-returns
-returns c = rw (c .before .before .e .given .1) (c .load .ensures)
+returns c = rw (c .before .before .e .given .1) (ap Value (c .load .ensures))
 
 returns-2 : tie.Need-returns-2
-returns-2 c = rw (c .before .before .before .before .e2 .given .1) (c .apply-operator .ensures ∙ rw (c .before .before .load2 .ensures, c .before .load3 .ensures))
+returns-2 c =
+    let b = c .before in
+    rw (b .before .before .before .e2 .given .1) (rw (← b .before .load2 .ensures, ← b .load3 .ensures) (c .apply-operator .ensures))
 
 pub evaluate-spec : {M : Type 1} → statement M
 evaluate-spec =

@@ -9,7 +9,7 @@ use Rattle.program.proofs.Held.{held-valid, held-targets}
 use Rattle.machine.specs.Machine.{written, ended}
 use Rattle.machine.specs.Answer.{stateOf}
 use Rattle.machine.specs.declared.Next.{Next}
-use Rattle.machine.proofs.Runs.{Stands, stands-first, step-inside, step-over}
+use Rattle.machine.proofs.Runs.{Stands, stands-first, step-inside, step-fault, step-over}
 use Rattle.machine.proofs.Words.{stored-same}
 use Rattle.machine.proofs.run.Statement.{statement}
 use Rattle.machine.proofs.run.Tie as tie
@@ -51,10 +51,33 @@ returns c =
       refl,
     )
 
+add-t26 : tie.Need-add-t26 Inv-loop μ-loop
+add-t26 c =
+    let b = c .before .before .before .before .before .before .before in
+    let step = c .before .before .before .step in
+    let us = step .last .1 .1 .1 .0 in
+    let f = c .before .next3 .given in
+    let here = step-fault (b .before .args .t1) _ _ _ _ _ us (step .result) (b .loop .inv .0) (step .ensures) _ (ap (λ (x : Next). stateOf x us) (f .1)) in
+    omega (arith, here, b .loop .inv .0 .inside)
+
 returns-2 : tie.Need-returns-2 Inv-loop μ-loop
 returns-2 c =
+    let b = c .before .before .before .before .before .before .before .before in
+    let step = c .before .before .before .before .step in
+    let us = step .last .1 .1 .1 .0 in
+    let f = c .before .before .next3 .given in (
+      f .0 .0,
+      step-over (b .before .args .t1) _ _ _ _ _ us (step .result) (b .loop .inv .0) (step .ensures) _ (ap (λ (x : Next). stateOf x us) (f .1)),
+      omega arith,
+      refl,
+      refl,
+      c .kept-of2 .ensures,
+    )
+
+returns-3 : tie.Need-returns-3 Inv-loop μ-loop
+returns-3 c =
     let h : c .before .before .loop .steps ≡ c .before .before .before .args .budget = omega arith in
-    (c .before .before .loop .at, refl, rw (← h) (c .before .before .loop .inv .0 .state), c .kept-of2 .ensures)
+    (c .before .before .loop .at, refl, rw (← h) (c .before .before .loop .inv .0 .state), c .kept-of3 .ensures)
 
 pub run-spec : {M : Type 1} → statement M
 run-spec =
@@ -76,5 +99,9 @@ run-spec =
     (λ c κs. search needs)
     returns
     (λ c. search needs)
+    add-t26
     (λ c κs. search needs)
-    returns-2)
+    returns-2
+    (λ c. search needs)
+    (λ c κs. search needs)
+    returns-3)

@@ -12,7 +12,7 @@ use Rattle.outcome.proofs.answer_text.Statement.{statement}
 use Rattle.outcome.proofs.answer_text.Tie as tie
 
 value-lines-requires : tie.Need-value-lines-requires
-value-lines-requires c κs = let line = rw (c .before .enum-told2 .given .1) at (c .before .before .before .before .before .write .ensures) in omega (arith, line .1, c .before .before .before .before .before .before .before .before .pre)
+value-lines-requires c κs = let line = rw (c .before .enum-told3 .given .1) at (c .before .before .before .before .before .write .ensures) in omega (arith, line .1, c .before .before .before .before .before .before .before .before .pre)
 
 returns : tie.Need-returns
 unfolding answerText answerValues
@@ -23,9 +23,15 @@ returns c =
 returns-2 : tie.Need-returns-2
 unfolding answerText answerValues
 returns-2 c =
+    let line = rw (c .enum-told2 .given .1) at (c .before .before .before .before .write .ensures) in
+    rw (c .enum-told2 .given .1, append-nil (answerLine _ _)) (line .0, omega (arith, line .1))
+
+returns-3 : tie.Need-returns-3
+unfolding answerText answerValues
+returns-3 c =
     let values = c .before .before .value-lines .ensures in
-    let line = rw (c .before .before .before .before .enum-told2 .given .1) at (c .before .before .before .before .before .before .before .before .write .ensures) in
-    rw (c .before .before .before .before .enum-told2 .given .1)
+    let line = rw (c .before .before .before .before .enum-told3 .given .1) at (c .before .before .before .before .before .before .before .before .write .ensures) in
+    rw (c .before .before .before .before .enum-told3 .given .1)
     (put-then (line .0) values, omega (arith, line .1, values .after, parts-most (lines-parts (c .before .before .before .before .before .before .before .before .before .before .before .args .values .now)) variables (omega arith)))
 
 pub answer-text-spec : {M : Type 1} → statement M
@@ -35,8 +41,11 @@ answer-text-spec =
     (λ c κs. search needs)
     (λ c. search needs)
     (λ c. search needs)
+    (λ c. search needs)
     value-lines-requires
     (λ c. search needs)
     returns
     (λ c. search needs)
-    returns-2)
+    returns-2
+    (λ c. search needs)
+    returns-3)

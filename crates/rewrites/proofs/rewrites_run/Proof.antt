@@ -35,6 +35,18 @@ returns-3 c =
       returned = rw (told .answer2 .given .1, c .before .finished2 .given .1) (refl, refl);
     }
 
+returns-4 : tie.Need-returns-4
+returns-4 c =
+    let told = c .before .before .before .before in
+    let run = told .before .before .before .before .run in
+    record {
+      answer = run .result .answer;
+      values = run .result .values;
+      eight = run .result .kept;
+      answers = run .ensures;
+      returned = rw (told .answer2 .given .1, c .before .finished3 .given .1) (refl, refl);
+    }
+
 pub rewrites-run-spec : {M : Type 1} → statement M
 rewrites-run-spec =
     tie.close
@@ -44,6 +56,8 @@ rewrites-run-spec =
     (λ c. search needs)
     (λ c. search needs)
     (λ c. search needs)
+    (λ c. search needs)
     returns
     returns-2
-    returns-3)
+    returns-3
+    returns-4)

@@ -17,6 +17,9 @@ returns-4 c = rw (c .enum-told4 .given .1) tt
 returns-5 : tie.Need-returns-5
 returns-5 c = rw (c .enum-told5 .given .1) tt
 
+returns-6 : tie.Need-returns-6
+returns-6 c = rw (c .enum-told6 .given .1) tt
+
 pub stands-spec : {M : Type 1} → statement M
 stands-spec =
     tie.close
@@ -26,8 +29,10 @@ stands-spec =
     (λ c. search needs)
     (λ c. search needs)
     (λ c. search needs)
+    (λ c. search needs)
     returns
     returns-2
     returns-3
     returns-4
-    returns-5)
+    returns-5
+    returns-6)

@@ -32,15 +32,20 @@ returns-6 c = (rw (at-byte _ _ (c .before .before .if1 .left), c .match .keys5),
 
 returns-7 : tie.Need-returns-7
 unfolding parseOperator
-returns-7 c =
+returns-7 c = (rw (at-byte _ _ (c .before .before .if1 .left), c .match .keys6), omega arith)
+
+returns-8 : tie.Need-returns-8
+unfolding parseOperator
+returns-8 c =
     let n = c .match .rest in (
       rw (
         at-byte _ _ (c .before .before .if1 .left),
-        ne-eqb _ 43 (n .0 .0 .0 .0 .1),
-        ne-eqb _ 45 (n .0 .0 .0 .1),
-        ne-eqb _ 42 (n .0 .0 .1),
-        ne-eqb _ 60 (n .0 .1),
-        ne-eqb _ 61 (n .1),
+        ne-eqb _ 43 (n .0 .0 .0 .0 .0 .1),
+        ne-eqb _ 45 (n .0 .0 .0 .0 .1),
+        ne-eqb _ 42 (n .0 .0 .0 .1),
+        ne-eqb _ 60 (n .0 .0 .1),
+        ne-eqb _ 61 (n .0 .1),
+        ne-eqb _ 47 (n .1),
       ),
       omega arith,
     )
@@ -57,4 +62,5 @@ operator-spec =
     returns-4
     returns-5
     returns-6
-    returns-7)
+    returns-7
+    returns-8)

@@ -1,11 +1,9 @@
 -- `steps` meets its contract. The invariant: the lines of the steps so far are written, and the run stands before the place. Assumes nothing.
-use mathlib.Core.Path.{refl, ap, _∙_}
+use mathlib.Core.Path.{refl, _∙_}
 use mathlib.Core.Logic.{inl, inr}
 use Prim.Native.Nat.{_-_}
 use native.Mathlib.Omega.{arith}
 use Rattle.program.proofs.Held.{held-valid, held-targets}
-use Rattle.machine.specs.Answer.{stateOf}
-use Rattle.machine.specs.declared.Next.{Next}
 use Rattle.statement_writer.proofs.Puts.{put-length}
 use Rattle.trace.proofs.Walk.{Going, not-gone, going-more, ends, stopped}
 use borrow.Author.Needs.{needs}
@@ -43,14 +41,14 @@ step-requires c κs =
 
 line-requires : tie.Need-line-requires Inv-loop μ-loop
 line-requires c κs =
-    let l = c .before .before .before .before .before .before .before .before .before .before .before .before in
+    let l = c .before .before .before .before .before .before .before .before .before .before .before .before .before in
     let i = l .loop .inv in
     let p = l .before .before .args .t1 in
     let w = l .before .before .pre .0 in (
       held-valid (p .entries) (p .count) _ (i .inside) w,
       (
         held-targets (p .entries) (p .count) _ (i .inside) w,
-        (omega (arith, i .inside, w .counted .1), omega (arith, c .before .before .before .before .before .before .before .before .before .before .if1 .left, i .fits, i .same)),
+        (omega (arith, i .inside, w .counted .1), omega (arith, c .before .before .before .before .before .before .before .before .before .before .before .if1 .left, i .fits, i .same)),
       ),
     )
 
@@ -58,39 +56,40 @@ loop-again : tie.Need-loop-again Inv-loop μ-loop
 loop-again c =
     let line = c .before .before .line in
     let next = c .before .before .before .before .before .before .before in
-    let step = next .before .before in
+    let step = next .before .before .before in
     let l = step .before .before .before .before .before .before in
     let i = l .loop .inv in
+    let goes = rw (next .way .given .1) at (next .before .before .way-on .ensures) in
     going-more (l .before .before .args .t1) _ _ _ _ _ (step .step .ensures) i (step .before .before .before .before .before .loop-test .taken)
-    (omega (arith, step .before .before .before .before .if1 .left, i .fits, i .same)) (line .ensures .1) _ (l .before .before .pre .0) (next .next .given .1) (line .ensures .0)
+    (omega (arith, step .before .before .before .before .if1 .left, i .fits, i .same)) (line .ensures .1) _ (l .before .before .pre .0) goes (line .ensures .0)
 
 line-requires-2 : tie.Need-line-requires-2 Inv-loop μ-loop
 line-requires-2 c κs =
-    let l = c .before .before .before .before .before .before .before .before .before .before in
+    let l = c .before .before .before .before .before .before .before .before .before .before .before in
     let i = l .loop .inv in
     let p = l .before .before .args .t1 in
     let w = l .before .before .pre .0 in (
       held-valid (p .entries) (p .count) _ (i .inside) w,
       (
         held-targets (p .entries) (p .count) _ (i .inside) w,
-        (omega (arith, i .inside, w .counted .1), omega (arith, c .before .before .before .before .before .before .before .before .if1 .left, i .fits, i .same)),
+        (omega (arith, i .inside, w .counted .1), omega (arith, c .before .before .before .before .before .before .before .before .before .if1 .left, i .fits, i .same)),
       ),
     )
 
 same-length-2 : tie.Need-same-length-2 Inv-loop μ-loop
 same-length-2 c =
-    let loop = c .before .before .before .before .before .before .before .before .before .before .before .before .before .loop in
+    let loop = c .before .before .before .before .before .before .before .before .before .before .before .before .before .before .loop in
     put-length (c .before .before .line2 .ensures .0) ∙ loop .inv .same
 
 returns-2 : tie.Need-returns-2 Inv-loop μ-loop
 returns-2 c =
     let line = c .before .before .line2 in
     let next = c .before .before .before .before .before in
-    let step = next .before .before in
+    let step = next .before .before .before in
     let l = step .before .before .before .before .before .before in
     let i = l .loop .inv in
     let us = step .step .last .1 .1 .1 .0 in
-    let over = ap (λ (x : Next). stateOf x us) (next .enum-told .given .1) in
+    let over = (rw (next .enum-told .given .1) at (next .before .before .way-on .ensures)) us .1 in
     ends (l .before .before .args .t1) _ _ _ us (step .step .result) (step .step .ensures) i (step .before .before .before .before .before .loop-test .taken)
     (omega (arith, step .before .before .before .before .if1 .left, i .fits, i .same)) (line .ensures .1) _ _ refl refl refl refl over (line .ensures .0)
 
@@ -115,6 +114,7 @@ steps-spec =
     (λ c. search needs)
     step-requires
     (λ c. search needs)
+    (λ c κs. search needs)
     (λ c. search needs)
     line-requires
     (λ c. search needs)

@@ -10,10 +10,10 @@ use Rattle.language.specs.declared.Statement.{Statement}
 use Rattle.program.specs.Program.{most}
 use Rattle.table.specs.Known.{Known}
 use Rattle.bits.specs.Row.{member}
-use Rattle.lockstep.specs.Rules.{Fits}
+use Rattle.lockstep.specs.Rules.{Fits, Droppable}
 use Rattle.rewriting.specs.Verdicts.{Inside, place}
 use Rattle.marks.specs.Marks.{names}
-use Rattle.verdicts.proofs.Marks.{inside-of, judged-lacking, judged-repeated, judged-unfit, judged-unmet, judged-accepted}
+use Rattle.verdicts.proofs.Marks.{inside-of, judged-lacking, judged-repeated, judged-unfit, judged-may-fault, judged-unmet, judged-accepted}
 use Rattle.verdicts.proofs.verdict_of.Statement.{statement}
 use Rattle.verdicts.proofs.verdict_of.Tie as tie
 
@@ -42,6 +42,10 @@ unnamed c k = rw (← placed (c .before) k) (sym (c .before .before .contains .e
 fits : (c : tie.Else3) → Fits (start (c .before .before .before) .args .m) (start (c .before .before .before) .args .i)
 fits c = decided-true (c .before .fits2 .result) (not-false _ (c .if3 .left)) (c .before .fits2 .ensures)
 
+-- and drops nothing that may fault
+harmless : (c : tie.Else4) → Droppable (start (c .before .before .before .before .before) .args .m)
+harmless c = decided-true (c .before .droppable .result) (not-false _ (c .if4 .left)) (c .before .droppable .ensures)
+
 is-inside-requires : tie.Need-is-inside-requires
 is-inside-requires c κs = let k = c .before .before .before .before .pre .0 .known in omega (arith, k .size, k .few)
 
@@ -69,29 +73,40 @@ returns-3 c =
       given .pre .1 .1,
     )
 
-contains-requires-2 : tie.Need-contains-requires-2
-contains-requires-2 c κs =
-    let k = c .before .before .before .before .before .before .before .before .before .before .before .before .before .before .before .before .pre .0 in
-    let row = c .before .before .before .remembered-row in
-    omega (arith, c .before .before .before .before .before .before .before .before .before .before .before .before .place-of .ensures .0, row .ensures .0 (k .P) (k .known) .1)
-
 returns-4 : tie.Need-returns-4
 returns-4 c =
-    let fit = c .before .before .before .before .before .before .before .before in
-    let tested = fit .before .before .before in
-    let r = c .before .before .before .before .before .remembered-row .ensures in (
-      λ P k. judged-unmet P (start tested .args .m) (start tested .args .i) _ (inside tested k .0) (unnamed (fit .before .before) k) (fits fit) (r .0 P k .0)
-          (rw (← placed tested k) (sym (c .before .contains2 .ensures) ∙ not-true _ (c .if4 .taken))),
-      r .1,
+    let fit = c .before .before in
+    let tested = fit .before .before .before in (
+      λ P k. judged-may-fault P (start tested .args .m) (start tested .args .i) _ (inside tested k .0) (unnamed (fit .before .before) k) (fits fit)
+          (decided-false (c .before .droppable .result) (not-true _ (c .if4 .taken)) (c .before .droppable .ensures)),
+      start tested .pre .1 .1,
     )
+
+contains-requires-2 : tie.Need-contains-requires-2
+contains-requires-2 c κs =
+    let k = c .before .before .before .before .before .before .before .before .before .before .before .before .before .before .before .before .before .before .pre .0 in
+    let row = c .before .before .before .remembered-row in
+    omega (arith, c .before .before .before .before .before .before .before .before .before .before .before .before .before .before .place-of .ensures .0, row .ensures .0 (k .P) (k .known) .1)
 
 returns-5 : tie.Need-returns-5
 returns-5 c =
-    let fit = c .before .before .before .before .before .before .before .before in
+    let safe = c .before .before .before .before .before .before .before .before in
+    let fit = safe .before .before in
     let tested = fit .before .before .before in
     let r = c .before .before .before .before .before .remembered-row .ensures in (
-      λ P k. judged-accepted P (start tested .args .m) (start tested .args .i) _ (inside tested k .0) (unnamed (fit .before .before) k) (fits fit) (r .0 P k .0)
-          (rw (← placed tested k) (sym (c .before .contains2 .ensures) ∙ not-false _ (c .if4 .left))),
+      λ P k. judged-unmet P (start tested .args .m) (start tested .args .i) _ (inside tested k .0) (unnamed (fit .before .before) k) (fits fit) (harmless safe) (r .0 P k .0)
+          (rw (← placed tested k) (sym (c .before .contains2 .ensures) ∙ not-true _ (c .if5 .taken))),
+      r .1,
+    )
+
+returns-6 : tie.Need-returns-6
+returns-6 c =
+    let safe = c .before .before .before .before .before .before .before .before in
+    let fit = safe .before .before in
+    let tested = fit .before .before .before in
+    let r = c .before .before .before .before .before .remembered-row .ensures in (
+      λ P k. judged-accepted P (start tested .args .m) (start tested .args .i) _ (inside tested k .0) (unnamed (fit .before .before) k) (fits fit) (harmless safe) (r .0 P k .0)
+          (rw (← placed tested k) (sym (c .before .contains2 .ensures) ∙ not-false _ (c .if5 .left))),
       r .1,
     )
 
@@ -107,11 +122,13 @@ verdict-of-spec =
     (λ c κs. search needs)
     returns-3
     (λ c κs. search needs)
+    returns-4
+    (λ c κs. search needs)
     (λ c. search needs)
     contains-requires-2
     (λ c. search needs)
     (λ c. search needs)
-    returns-4
+    returns-5
     (λ c. search needs)
     (λ c. search needs)
-    returns-5)
+    returns-6)
