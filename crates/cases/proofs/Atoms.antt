@@ -173,7 +173,7 @@ holds N i s (Def x) = defines i x
 holds N i s (Use x) = uses i x
 holds N i s (Trans e) = keeps i e
 
-pub holds-decides : (N : ℕ) (i : Statement) (s : ℕ) (a : Atom) → Decides (holds N i s a) (HoldsAt N i s a)
+pub holds-decides : (N : ℕ) (i : Statement) (s : ℕ) (a : Atom) → Decides (holds N i s a) (HoldsAt (Uses i) N i s a)
 unfolding holds
 holds-decides N i s True = tt
 holds-decides N i s False = λ h. h

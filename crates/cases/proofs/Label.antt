@@ -15,12 +15,11 @@ use Rattle.ctl.proofs.Least.{every, any, tests, test, tests-at, grow, done, lea
 use Rattle.ctl.proofs.Paths.{next-iff, finally-iff, globally-iff}
 use Rattle.ctl.proofs.Until.{until-table}
 use Rattle.ctl.proofs.Weak.{non, nor, weak-table}
-use Rattle.labelling.proofs.Labels.{said-iff}
-use Rattle.labelling.specs.declared.Operator.the-variants as op
 use Rattle.flow.specs.Flow.{some, steps}
 use Rattle.flow.proofs.Model.{steps-graph}
 use Rattle.condition.specs.Condition.{PathUnary, next, finally, globally, PathBinary, until, weak, Unary, negation, Binary, conjunction, disjunction, Condition, atom, unary, binary}
-use Rattle.truth.specs.Truth.{SaidOne, SaidTwo, Sat}
+use Rattle.truth.specs.Truth.{SaidOne, SaidTwo, Sat, SatBy}
+use Rattle.truth.proofs.By.{unary-same, binary-same}
 use Rattle.base.proofs.Decides.{decides-iff}
 use Rattle.cases.proofs.Atoms.{holds, holds-decides}
 
@@ -92,21 +91,9 @@ module _ (P : List Statement) (w : WellFormed P) where
   label (binary disjunction p q) = let t = label p in let u = label q in tests (length P) (λ s. test t s || test u s)
   label (binary (Binary.path k d o) p q) = let t = label p in let u = label q in two-set o k d (test t) (test u)
 
-  -- what is said of a path may be said in other words of its places
-  one-iff : (o : PathUnary) (k : Quant) (d : Direction) (X Y : ℕ → Type 0) → ((t : ℕ) → t < length P → X t ↔ Y t)
-      → (s : ℕ) → s < length P → Paths k (steps P d) s (SaidOne o X) ↔ Paths k (steps P d) s (SaidOne o Y)
-  one-iff next k d X Y f = said-iff (steps-graph P w d) op.Next k X X Y Y f f
-  one-iff finally k d X Y f = said-iff (steps-graph P w d) op.Finally k X X Y Y f f
-  one-iff globally k d X Y f = said-iff (steps-graph P w d) op.Globally k X X Y Y f f
-
-  two-iff : (o : PathBinary) (k : Quant) (d : Direction) (X Y X′ Y′ : ℕ → Type 0) → ((t : ℕ) → t < length P → X t ↔ X′ t) → ((t : ℕ) → t < length P → Y t ↔ Y′ t)
-      → (s : ℕ) → s < length P → Paths k (steps P d) s (SaidTwo o X Y) ↔ Paths k (steps P d) s (SaidTwo o X′ Y′)
-  two-iff until k d X Y X′ Y′ f g = said-iff (steps-graph P w d) op.Until k X Y X′ Y′ f g
-  two-iff weak k d X Y X′ Y′ f g = said-iff (steps-graph P w d) op.Weak k X Y X′ Y′ f g
-
   -- the set of a condition is its truth by paths, at every place
   pub labelled : (c : Condition) (s : ℕ) → s < length P → (test (label c) s ≡ true) ↔ Sat P c s
-  unfolding label Sat
+  unfolding label SatBy
   labelled (atom a) s l =
       Iff·trans (tests-iff (length P) (λ s. holds (length P) (at P s) s a) s l) (decides-iff (holds (length P) (at P s) s a) (holds-decides (length P) (at P s) s a))
   labelled (unary negation p) s l =
@@ -115,7 +102,7 @@ module _ (P : List Statement) (w : WellFormed P) where
         λ n. ⊎-elim (λ t. absurd (n (labelled p s l .0 t))) (not-of-false (test (label p) s)) (split (test (label p) s)),
       )
   labelled (unary (Unary.path k d o) p) s l =
-      Iff·trans (one-set-iff k d s l o (test (label p))) (one-iff o k d (So (test (label p))) (Sat P p) (labelled p) s l)
+      Iff·trans (one-set-iff k d s l o (test (label p))) (unary-same P (λ t. t < length P) (λ d. steps-graph P w d .inside) (Unary.path k d o) (So (test (label p))) (Sat P p) (labelled p) s l)
   labelled (binary conjunction p q) s l =
       Iff·trans (tests-iff (length P) (λ s. test (label p) s && test (label q) s) s l) (
         λ e. (labelled p s l .0 (and-left (test (label p) s) (test (label q) s) e), labelled q s l .0 (and-right (test (label p) s) (test (label q) s) e)),
@@ -128,7 +115,7 @@ module _ (P : List Statement) (w : WellFormed P) where
       )
   labelled (binary (Binary.path k d o) p q) s l =
       Iff·trans (two-set-iff k d s l o (test (label p)) (test (label q)))
-      (two-iff o k d (So (test (label p))) (So (test (label q))) (Sat P p) (Sat P q) (labelled p) (labelled q) s l)
+      (binary-same P (λ t. t < length P) (λ d. steps-graph P w d .inside) (Binary.path k d o) (So (test (label p))) (So (test (label q))) (Sat P p) (Sat P q) (labelled p) (labelled q) s l)
 
   -- so it is true or false there
   pub sat-decided : (c : Condition) (s : ℕ) → s < length P → Dec (Sat P c s)

@@ -21,7 +21,7 @@ use Rattle.flow.specs.Flow.{leads, isWrite, precedes, some, steps}
 use Rattle.ctl.specs.Paths.{forward, backward}
 use Rattle.flow.proofs.Model.{steps-graph}
 use Rattle.condition.specs.Condition.{negation, atom, unary}
-use Rattle.truth.specs.Truth.{In, Defines, Uses, Sat}
+use Rattle.truth.specs.Truth.{In, Defines, Uses, Sat, SatBy}
 use Rattle.condition.specs.declared.Atom.the-variants.{Stmt, Def, Use}
 use Rattle.lockstep.specs.Rules.{live, untouched, copied, unneeded, copiedBefore}
 use Rattle.lockstep.proofs.Decisions.{copy-decided}
@@ -61,11 +61,11 @@ module _ (P : List Statement) (w : WellFormed P) where
   -- ---- `rm`
 
   pub live-use : (x s : ℕ) → s < length P → Uses (at P s) x → Sat P (live x) s
-  unfolding Sat
+  unfolding SatBy
   live-use x s l u = until-now w forward l (unary negation (atom (Def x))) (atom (Use x)) u
 
   pub live-step : (x s t : ℕ) → s < length P → leads (at P s) s t ≡ true → ¬ Defines (at P s) x → Sat P (live x) t → Sat P (live x) s
-  unfolding Sat
+  unfolding SatBy
   live-step x s t l go d h = until-later w forward l (unary negation (atom (Def x))) (atom (Use x)) d t (forward-step s t go) h
 
   -- what is unneeded is live after no step
@@ -86,13 +86,13 @@ module _ (P : List Statement) (w : WellFormed P) where
       pub later : ¬ (s ≡ 0)
 
     untouched-between : (s : ℕ) → Sat P (untouched x a) s → Between s
-    unfolding Sat
+    unfolding SatBy
     untouched-between s h = record { undefined = h .0 .0; unchanged = h .0 .1; later = h .1 }
 
     module _ (s : ℕ) (l : s < length P) where
       -- made at a place or sure to have been made before it, and not made there: the place is one between
       copied-between : Sat P (copied x a) s → ¬ Copies s → Between s
-      unfolding Sat
+      unfolding SatBy
       copied-between c none = record {
         undefined = λ d. not-out (λ h. untouched-between s h .undefined d);
         unchanged = λ y u d. not-out (λ h. untouched-between s h .unchanged y u d);
@@ -104,7 +104,7 @@ module _ (P : List Statement) (w : WellFormed P) where
 
       -- and it was made before
       copied-earlier : Sat P (copied x a) s → ¬ Copies s → Sat P (copiedBefore x a) s
-      unfolding Sat
+      unfolding SatBy
       copied-earlier c none =
           all-next w backward l (copied x a) (weak-later w backward l (untouched x a) (atom (Stmt (Assign x (Single a)))) c none)
 

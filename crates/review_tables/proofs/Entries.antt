@@ -15,7 +15,7 @@ use Rattle.flow.specs.FlowOf.{flowAt}
 use Rattle.condition.specs.Condition.{Condition, atom, unary, binary, spellAtom, ValidCondition}
 use Rattle.condition.specs.Words.{unaryCode, binaryCode, codeIn, leftIn, startIn, endIn}
 use Rattle.condition.specs.declared.Atom.{Atom}
-use Rattle.truth.specs.Truth.{Holds, Sat}
+use Rattle.truth.specs.Truth.{Holds, Sat, SatBy}
 use Rattle.atom_reader.specs.Parsing.{parseAtom}
 use Rattle.atom_reader.proofs.Spelling.{atom-complete}
 use Rattle.atoms.specs.Facts.{FactsOf}
@@ -46,7 +46,7 @@ pub record EntryOperands (P : List Statement) (ds : List Condition) (k w : ℕ) 
 
 module _ (P : List Statement) (u : List ℕ) (ds : List Condition) (k w : ℕ) (inside : k < length ds) (numbered : Numbered ds) where
   operands : (q : Condition) → part ds k ≡ q → keyIn u w ≡ keyOf ds q → ValidCondition q → Operands (λ p. numberOf ds p < k) q → (codeIn w ≡ 0 → ⊥) → EntryOperands P ds k w
-  unfolding Sat
+  unfolding SatBy
   operands (atom a) e key v o n = let z : _≡_ {A = ℕ} 0 1 = cc (key-operator u w n) in absurd (omega arith)
   operands (unary f p) e key v o n =
       let t : operator (codeIn w) (leftIn w) (startIn w) ≡ operator (unaryCode f) (numberOf ds p) (numberOf ds p) = sym (key-operator u w n) ∙ key in
@@ -107,7 +107,7 @@ module _ {P : List Statement} {n : ℕ} {rows : List ℕ} {codes : List (List �
   pub atom-written : (new : List ℕ) → codeIn w ≡ 0
       → ((Q : List Statement) (a : Atom) (rest : List ℕ) → length Q ≡ n → FactsOf Q rows codes → parseAtom (drop (startIn w) u) ≡ found a rest → Written part-words old new k n (Holds Q a))
       → Written part-words old new k (length P) (Sat P (part ds k))
-  unfolding Sat
+  unfolding SatBy
   atom-written new code h =
       let (a, rest, e, f) = atom-told P u ds k w (r .inside) (r .numbered) (part ds k) refl (r .key) valid code in
       rw e (subst (λ (m : ℕ). Written part-words old new k m (Holds P a)) (sym (r .known .size)) (h P a rest (r .known .size) (r .known .found) f))

@@ -16,7 +16,7 @@ use Rattle.flow.specs.FlowOf.{Flow, FlowOf}
 use Rattle.condition.specs.Condition.{Condition, atom, unary, binary}
 use Rattle.condition.specs.Words.{codeIn, leftIn}
 use Rattle.condition.proofs.Words.{unary-code, binary-code}
-use Rattle.truth.specs.Truth.{Sat}
+use Rattle.truth.specs.Truth.{Sat, SatBy}
 use Rattle.table.specs.Table.{partAt}
 use Rattle.table.specs.Rules.{Operation, one, two, codeOf, ruleOf, SatRule, flowSteps}
 use Rattle.table.specs.Fill.{leftOf, Tells}
@@ -48,7 +48,7 @@ pub record Operands (P : List Statement) (c : Condition) (k w : ℕ) : Type 0 wh
   pub sat : (s : ℕ) → SatRule (steps P) (ruleOf operation) (Sat P (partAt c (leftOf w k))) (Sat P (partAt c (k - 1))) s ↔ Sat P (partAt c k) s
 
 pub operands : (P : List Statement) (t : List ℕ) (c : Condition) (k w : ℕ) (q : Condition) → partAt c k ≡ q → Tells t c k w q → (codeIn w ≡ 0 → ⊥) → Operands P c k w
-unfolding Sat
+unfolding SatBy
 operands P t c k w (atom a) e h n = absurd (n (h .0))
 operands P t c k w (unary o p) e h n =
     let b = unary-code o in

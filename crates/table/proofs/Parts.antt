@@ -20,7 +20,7 @@ use Rattle.condition.specs.Condition.{Condition, atom, unary, binary}
 use Rattle.condition.specs.Words.{codeIn, startIn}
 use Rattle.condition.proofs.Words.{unary-code, binary-code}
 use Rattle.atom_reader.specs.Parsing.{parseAtom}
-use Rattle.truth.specs.Truth.{Holds, Sat}
+use Rattle.truth.specs.Truth.{Holds, Sat, SatBy}
 use Rattle.condition.specs.declared.Atom.{Atom}
 use Rattle.table.specs.Table.{part-words, row, partAt, Written}
 use Rattle.table.specs.Rules.{Operation, codeOf, ruleOf, SatRule, flowSteps, BothWays}
@@ -78,7 +78,7 @@ module _ {P : List Statement} {n : ℕ} {rows : List ℕ} {codes : List (List �
   pub atom-written : (new : List ℕ) → codeIn w ≡ 0
       → ((Q : List Statement) (a : Atom) (rest : List ℕ) → length Q ≡ n → FactsOf Q rows codes → parseAtom (drop (startIn w) t) ≡ found a rest → Written part-words old new k n (Holds Q a))
       → Written part-words old new k (length P) (Sat P (partAt c k))
-  unfolding Sat
+  unfolding SatBy
   atom-written new code h = go (partAt c k) refl (r .tells)
     where
       go : (q : Condition) → partAt c k ≡ q → Tells t c k w q → Written part-words old new k (length P) (Sat P (partAt c k))
