@@ -15,7 +15,7 @@ use Rattle.codes.proofs.Words.{words-unique}
 use Rattle.bits.specs.Row.{member, ZeroRows}
 use Rattle.labelling.specs.Labels.{Labelled}
 use Rattle.condition.specs.Condition.{Condition}
-use Rattle.truth.specs.Truth.{Sat}
+use Rattle.truth.specs.Truth.{SatBy}
 use Rattle.table.specs.Table.{part-words}
 use Rattle.marks.specs.declared.Mark.{Mark}
 use Rattle.marks.specs.declared.Mark.the-variants.{Rm, Rpl}
@@ -36,7 +36,7 @@ key-tells (Rpl n x a) (Rm n′ x′ e′) h = let z : _≡_ {A = ℕ} 0 1 = cc i
 key-tells (Rpl n x a) (Rpl n′ x′ a′) h = ap₂ (λ (y : ℕ) (b : Operand). copiedBefore y b) (cc) (cc)
 
 -- where no key is set nothing is remembered
-pub remembers-none : {P : List Statement} {keys memory : List (List ℕ)} → ZeroRows slots code-words keys → ZeroRows slots part-words memory → Remembers P keys memory
+pub remembers-none : {U : ℕ → ℕ → Type 0} {P : List Statement} {keys memory : List (List ℕ)} → ZeroRows slots code-words keys → ZeroRows slots part-words memory → Remembers U P keys memory
 remembers-none k r = record {
   many-keys = k .many;
   many-rows = r .many;
@@ -45,21 +45,21 @@ remembers-none k r = record {
 
 -- one row more
 pub remembers-more :
-    {P : List Statement} {keys memory : List (List ℕ)} → Remembers P keys memory → (m : Mark) (k : List ℕ) → k ≡ keyWords (keyOf m)
-    → (s : ℕ) → s < slots → (row : List ℕ) → RowFor P m row → Remembers P (set keys s k) (set memory s row)
-remembers-more {P = P} {keys = keys} {memory = memory} g m k is s l row r =
+    {U : ℕ → ℕ → Type 0} {P : List Statement} {keys memory : List (List ℕ)} → Remembers U P keys memory → (m : Mark) (k : List ℕ) → k ≡ keyWords (keyOf m)
+    → (s : ℕ) → s < slots → (row : List ℕ) → RowFor U P m row → Remembers U P (set keys s k) (set memory s row)
+remembers-more {U = U} {P = P} {keys = keys} {memory = memory} g m k is s l row r =
     record {
       many-keys = length-set keys s k ∙ g .many-keys;
       many-rows = length-set memory s row ∙ g .many-rows;
       right = λ i h o e. at i h o e (eqb i s) refl;
     }
   where
-    at : (i : ℕ) → i < slots → (o : Mark) → getD (set keys s k) i [] ≡ keyWords (keyOf o) → (b : Bool) → eqb i s ≡ b → RowFor P o (getD (set memory s row) i [])
+    at : (i : ℕ) → i < slots → (o : Mark) → getD (set keys s k) i [] ≡ keyWords (keyOf o) → (b : Bool) → eqb i s ≡ b → RowFor U P o (getD (set memory s row) i [])
     at i h o e true t =
         let q : i ≡ s = eqb-true i s t in
         let a : k ≡ keyWords (keyOf o) = sym (getD-set-same keys s k [] (omega (arith, g .many-keys))) ∙ rw q at e in
         let b : published m ≡ published o = key-tells m o (words-unique (keyOf m) (keyOf o) (sym is ∙ a)) in
-        rw (q, getD-set-same memory s row [] (omega (arith, g .many-rows))) (subst (λ (c : Condition). Labelled (length P) (member row) (Sat P c)) b (r .0), r .1)
+        rw (q, getD-set-same memory s row [] (omega (arith, g .many-rows))) (subst (λ (c : Condition). Labelled (length P) (member row) (SatBy U P c)) b (r .0), r .1)
     at i h o e false t =
         let q = eqb-false i s t in
         rw (getD-set-other memory s i row [] q) (g .right i h o (sym (getD-set-other keys s i k [] q) ∙ e))

@@ -5,8 +5,9 @@ ghost use Prim.Native.Nat.{_<_};
 ghost use Rattle.language.specs.declared.Statement.{Statement};
 ghost use Rattle.bits.specs.Row.{Zeros, ZeroRows};
 ghost use Rattle.codes.specs.Codes.{code-words};
+ghost use Rattle.atoms.specs.Facts.{usedIn};
 ghost use Rattle.table.specs.Table.{part-words};
-ghost use Rattle.table.specs.Known.{Known, SomeKnown};
+ghost use Rattle.table.specs.Known.{KnownIn, SomeKnown};
 ghost use Rattle.marks.specs.Marks.{ValidMark};
 ghost use Rattle.published.specs.Published.{published-room};
 ghost use Rattle.published_rows.specs.Rows.{published-words, SmallTaken, RowOf, RowFor};
@@ -36,8 +37,8 @@ fn blank_rows() -> [u64; PUBLISHED_WORDS]
     [0; PUBLISHED_WORDS]
 }
 
-// The places at which the condition with this text is true, of the n statements that the facts and the graph are of: it is read and
-// tabulated as any other.
+// The places at which the condition with this text is true, of the n statements that the facts and the graph are of, variables used as
+// the rows have it: it is read and tabulated as any other.
 fn row_of(
     text: &[u8],
     n: usize,
@@ -47,7 +48,7 @@ fn row_of(
 ) -> [u64; WORDS]
     requires { ⌜ SomeKnown n (now rows) (now codes) (now flow) ⌝ }
     requires { ⌜ SmallTaken (now text) ⌝ }
-    ensures { λ r. ⌜ ((P : List Statement) → Known P n (now (rows .entry)) (now (codes .entry)) (now (flow .entry)) → RowOf P (now (text .entry)) r) ⌝ }
+    ensures { λ r. ⌜ ((P : List Statement) → KnownIn P n (now (rows .entry)) (now (codes .entry)) (now (flow .entry)) → RowOf (usedIn (now (rows .entry))) P (now (text .entry)) r) ⌝ }
 {
     let reading = condition_reader::read(text);
     let answer = reading.answer;
@@ -72,7 +73,7 @@ fn published_row(
 ) -> [u64; WORDS]
     requires { ⌜ SomeKnown n (now rows) (now codes) (now flow) ⌝ }
     requires { ⌜ ValidMark m ⌝ }
-    ensures { λ r. ⌜ ((P : List Statement) → Known P n (now (rows .entry)) (now (codes .entry)) (now (flow .entry)) → RowFor P m r) ⌝ }
+    ensures { λ r. ⌜ ((P : List Statement) → KnownIn P n (now (rows .entry)) (now (codes .entry)) (now (flow .entry)) → RowFor (usedIn (now (rows .entry))) P m r) ⌝ }
 {
     let mut text = blank_text();
     let end = published::write_published(m, &mut text);
@@ -135,7 +136,7 @@ pub fn remembered_row(
 ) -> [u64; WORDS]
     requires { ⌜ SomeKnown n (now rows) (now codes) (now flow) ⌝ }
     requires { ⌜ ValidMark m × Remembering n (now rows) (now codes) (now flow) (now keys) (now memory) ⌝ }
-    ensures { λ r. ⌜ ((P : List Statement) → Known P n (now (rows .entry)) (now (codes .entry)) (now (flow .entry)) → RowFor P m r) × Remembering n (now (rows .entry)) (now (codes .entry)) (now (flow .entry)) (now (keys .exit)) (now (memory .exit)) ⌝ }
+    ensures { λ r. ⌜ ((P : List Statement) → KnownIn P n (now (rows .entry)) (now (codes .entry)) (now (flow .entry)) → RowFor (usedIn (now (rows .entry))) P m r) × Remembering n (now (rows .entry)) (now (codes .entry)) (now (flow .entry)) (now (keys .exit)) (now (memory .exit)) ⌝ }
 {
     let key = codes::statement_code(key_of(m));
     let slot = slot_of(m);

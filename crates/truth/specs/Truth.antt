@@ -77,9 +77,6 @@ HoldsAt Used N i s (Trans e) = (x : ℕ) → In x e → Defines i x → ⊥
 abbrev pub HoldsBy : (ℕ → ℕ → Type 0) → List Statement → Atom → ℕ → Type 0
 HoldsBy U P a s = HoldsAt (λ x. U x s) (length P) (at P s) s a
 
-abbrev pub Holds : List Statement → Atom → ℕ → Type 0
-Holds P = HoldsBy (usesOf P) P
-
 -- what is said of one path with one condition, and with two
 abbrev pub SaidOne : PathUnary → (ℕ → Type 0) → (ℕ → ℕ) → Type 0
 SaidOne next X = Next X

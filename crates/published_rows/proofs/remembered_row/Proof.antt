@@ -1,6 +1,7 @@
 -- `published_rows::remembered_row` meets its contract: the row of the slot where the key stands there, else the labelled one, and that is remembered. Assumes nothing.
 use Rattle.published_rows.proofs.Memory.{remembers-more}
 use Rattle.published_rows.specs.Memory.{keyOf, keyWords, Remembers}
+use Rattle.atoms.specs.Facts.{usedIn}
 use Rattle.codes.specs.declared.Code.{Code}
 use Rattle.codes.specs.Codes.{statementCode, codeWords}
 use Rattle.base.proofs.Decides.{decided-true}
@@ -11,7 +12,7 @@ use Rattle.published_rows.proofs.remembered_row.Statement.{statement}
 use Rattle.published_rows.proofs.remembered_row.Tie as tie
 
 -- what is remembered, of some program
-remembered : (s : tie.Start) → Remembers (s .pre .0 .P) (s .args .keys .now) (s .args .memory .now)
+remembered : (s : tie.Start) → Remembers (usedIn (s .args .rows .now)) (s .pre .0 .P) (s .args .keys .now) (s .args .memory .now)
 remembered s = s .pre .1 .1 (s .pre .0 .P) (s .pre .0 .known)
 
 -- the code is that of the mark's key

@@ -4,6 +4,8 @@ use Prim.Native.Nat.{_-_, _<_}
 use native.Mathlib.Omega.{arith}
 use borrow.Author.Needs.{needs}
 use lib.ListN.{length, length-set}
+use Rattle.atoms.specs.Facts.{usedIn}
+use Rattle.table.proofs.By.{known-in}
 use Rattle.published_rows.proofs.Memory.{remembers-none}
 use Rattle.verdicts.proofs.Marks.{statement-at}
 use Rattle.verdicts.proofs.Lists.{JudgedSoFar, judged-none, never-misspelled, line-below, judged-more, judged-all}
@@ -57,8 +59,8 @@ below c =
     line-below (loop c .loop .inv .2 (list .ms) (list .taken) .begins) (list .taken) (c .m .given .1) (c .before .before .line .ensures)
 
 -- the rows that are remembered so far
-remembered : (c : Marked) → Remembers (statements (start c .args .t2)) (loop c .loop .keys) (loop c .loop .memory)
-remembered c = loop c .loop .inv .3 _ (start c .pre .0 .1)
+remembered : (c : Marked) → Remembers (usedIn (start c .args .rows .now)) (statements (start c .args .t2)) (loop c .loop .keys) (loop c .loop .memory)
+remembered c = loop c .loop .inv .3 _ (known-in (start c .pre .0 .1))
 
 slice-aggregate-verdict-of-2 : tie.Need-slice-aggregate-verdict-of-2 Inv-loop μ-loop
 slice-aggregate-verdict-of-2 c = omega (arith, remembered (c .before .before .before .before .before) .many-keys)
@@ -70,7 +72,7 @@ verdict-of-requires : tie.Need-verdict-of-requires Inv-loop μ-loop
 verdict-of-requires c κs =
     let marked = c .before .before .before .before .before .before in
     let i = loop marked .loop .inv in (
-      record { P = statements (start marked .args .t2); known = start marked .pre .0 .1 },
+      record { P = statements (start marked .args .t2); known = known-in (start marked .pre .0 .1) },
       ((line-of _ _ (marked .m .given .1) (marked .before .before .line .ensures) .valid, i .1), i .3),
     )
 

@@ -9,6 +9,8 @@ use lib.ListN.{length}
 use Rattle.language.specs.declared.Statement.{Statement}
 use Rattle.program.specs.Program.{most}
 use Rattle.table.specs.Known.{Known}
+use Rattle.table.proofs.By.{known-in}
+use Rattle.published_rows.proofs.Rows.{row-by}
 use Rattle.bits.specs.Row.{member}
 use Rattle.lockstep.specs.Rules.{Fits, Droppable}
 use Rattle.rewriting.specs.Verdicts.{Inside, place}
@@ -94,7 +96,7 @@ returns-5 c =
     let fit = safe .before .before in
     let tested = fit .before .before .before in
     let r = c .before .before .before .before .before .remembered-row .ensures in (
-      λ P k. judged-unmet P (start tested .args .m) (start tested .args .i) _ (inside tested k .0) (unnamed (fit .before .before) k) (fits fit) (harmless safe) (r .0 P k .0)
+      λ P k. judged-unmet P (start tested .args .m) (start tested .args .i) _ (inside tested k .0) (unnamed (fit .before .before) k) (fits fit) (harmless safe) (row-by k (start tested .args .m) (start tested .pre .1 .0 .0) _ (r .0 P (known-in k)) .0)
           (rw (← placed tested k) (sym (c .before .contains2 .ensures) ∙ not-true _ (c .if5 .taken))),
       r .1,
     )
@@ -105,7 +107,7 @@ returns-6 c =
     let fit = safe .before .before in
     let tested = fit .before .before .before in
     let r = c .before .before .before .before .before .remembered-row .ensures in (
-      λ P k. judged-accepted P (start tested .args .m) (start tested .args .i) _ (inside tested k .0) (unnamed (fit .before .before) k) (fits fit) (harmless safe) (r .0 P k .0)
+      λ P k. judged-accepted P (start tested .args .m) (start tested .args .i) _ (inside tested k .0) (unnamed (fit .before .before) k) (fits fit) (harmless safe) (row-by k (start tested .args .m) (start tested .pre .1 .0 .0) _ (r .0 P (known-in k)) .0)
           (rw (← placed tested k) (sym (c .before .contains2 .ensures) ∙ not-false _ (c .if5 .left))),
       r .1,
     )
