@@ -3,6 +3,7 @@
 use mathlib.Core.Path.{_≡_}
 use mathlib.Core.Bool.{Bool, true, false, _&&_, _||_}
 use mathlib.Core.List.{List, []}
+use mathlib.Core.Logic.{_⊎_}
 use Prim.Native.Nat.{ℕ, zero, suc, _+_, _*_, _<_}
 use lib.Dec.{eqb}
 use lib.ListN.{length, getD}
@@ -65,6 +66,10 @@ usedIn rows x = So (placed rows (usedRow x))
 
 abbrev pub FactsIn : List Statement → ℕ → List ℕ → List (List ℕ) → Type 0
 FactsIn P n rows codes = FactsBy (usedIn rows) P n rows codes
+
+-- U, and x at s too
+abbrev pub Also : (ℕ → ℕ → Type 0) → ℕ → ℕ → ℕ → ℕ → Type 0
+Also U x s y t = U y t ⊎ ((y ≡ x) × (t ≡ s))
 
 -- the numbers of the lent facts
 pub record Sized (rows : List ℕ) (codes : List (List ℕ)) : Type 0 where

@@ -5,7 +5,7 @@ ghost use mathlib.Core.List.{List};
 ghost use Prim.Native.Nat.{ℕ, _+_, _≤_, _<_};
 ghost use lib.Dec.{eqb};
 ghost use lib.ListN.{length};
-ghost use Rattle.language.specs.Spelling.{ValidOperand, ValidExpression, Valid};
+ghost use Rattle.language.specs.Spelling.{ValidVariable, ValidOperand, ValidExpression, Valid};
 ghost use Rattle.language.specs.Kept.{kept-count};
 ghost use Rattle.language.specs.declared.Statement.{Statement as StatementOf};
 ghost use Rattle.program.specs.Program.{at, most, row-words, WellFormed};
@@ -16,7 +16,7 @@ ghost use Rattle.labelling.specs.Labels.{Labelled};
 ghost use Rattle.condition.specs.Condition.{ValidAtom};
 ghost use Rattle.truth.specs.Truth.{InOperand, In, Defines, HoldsBy};
 ghost use Rattle.codes.specs.Codes.{code-words};
-ghost use Rattle.atoms.specs.Facts.{rowNumber, fact-rows, fact-words, placed, FactsOf, usedIn, FactsIn, Sized, notedOperand, notedExpression, notedKept, noted, Marked};
+ghost use Rattle.atoms.specs.Facts.{rowNumber, usedRow, fact-rows, fact-words, placed, FactsOf, usedIn, FactsIn, Sized, notedOperand, notedExpression, notedKept, noted, Marked};
 use codes::CODE_WORDS;
 use condition::Atom;
 use language::Expression;
@@ -150,6 +150,15 @@ pub fn find(p: Program, rows: &mut [u64], codes: &mut [[u64; CODE_WORDS]])
         codes[s] = words;
         s += 1;
     }
+}
+
+// The variable counts as used at place s too.
+pub fn use_also(x: u8, s: usize, rows: &mut [u64])
+    requires { ⌜ ValidVariable x × (s < most) × (length (now rows) ≡ fact-words) ⌝ }
+    ensures { λ _. ⌜ Marked (now (rows .entry)) (now (rows .exit)) (eqb (usedRow x)) s ⌝ }
+{
+    let used = row_number(x, true);
+    mark(used, s, rows);
 }
 
 // Room for a row.
