@@ -16,12 +16,12 @@ use Rattle.lockstep.specs.Rules.{published}
 
 -- the parts of a published condition and their words, the code's PUBLISHED_PARTS and PUBLISHED_WORDS
 abbrev pub published-most : ℕ
-published-most = 10
+published-most = 12
 
 abbrev pub published-words : ℕ
 published-words = part-words * published-most
 
--- the text is taken as a condition of at most ten parts
+-- the text is taken as a condition of at most twelve parts
 pub record SmallTaken (t : List ℕ) : Type 0 where
   pub c : Condition
   pub taken : Taken t c

@@ -11,7 +11,7 @@ ghost use Rattle.table.specs.Known.{KnownIn, SomeKnown};
 ghost use Rattle.marks.specs.Marks.{ValidMark};
 ghost use Rattle.published.specs.Published.{published-room};
 ghost use Rattle.published_rows.specs.Rows.{published-words, SmallTaken, RowOf, RowFor};
-ghost use Rattle.published_rows.specs.Memory.{keyOf, slots, Remembering};
+ghost use Rattle.published_rows.specs.Memory.{keyOf, Keyed, slots, Remembering};
 use codes::CODE_WORDS;
 use language::Expression;
 use language::Operand;
@@ -21,7 +21,7 @@ use published::PUBLISHED_ROOM;
 use table::WORDS;
 
 // The most parts of a published condition, and their words.
-const PUBLISHED_PARTS: usize = 10;
+const PUBLISHED_PARTS: usize = 12;
 
 const PUBLISHED_WORDS: usize = WORDS * PUBLISHED_PARTS;
 
@@ -103,16 +103,29 @@ fn key_of(m: Mark) -> Key
     match m {
         Mark::Rm(_, x, _) => Key::Write(x),
         Mark::Rpl(_, x, a) => Key::Assign(x, Expression::Single(a)),
+        Mark::Cse(_, t, e) => Key::Assign(t, e),
     }
 }
 
-// A number of the mark's published condition, by which the keys spread; two conditions may share one.
+// In each: a number by which the keys spread; two may share one.
+fn operand_number(a: Operand) -> u64
+    ensures { λ r. ⌜ r < 8589934592 ⌝ }
+{
+    match a {
+        Operand::Variable(y) => 2 * (y as u64),
+        Operand::Constant(c) => 2 * (c as u64) % 8589934591 + 1,
+    }
+}
+
 fn number_of(m: Mark) -> u64 {
     match m {
         Mark::Rm(_, x, _) => (x as u64) + 128,
-        Mark::Rpl(_, x, a) => match a {
-            Operand::Variable(y) => (x as u64) + 32 + 128 * (y as u64),
-            Operand::Constant(c) => (x as u64) + 64 + 128 * (c as u64),
+        Mark::Rpl(_, x, a) => (x as u64) + 32 + 64 * operand_number(a),
+        Mark::Cse(_, t, e) => match e {
+            Expression::Single(_) => t as u64,
+            Expression::Binary(a, _, b) => (t as u64)
+                + 37 * operand_number(a)
+                + 101 * operand_number(b),
         },
     }
 }
@@ -135,7 +148,7 @@ pub fn remembered_row(
     memory: &mut [[u64; WORDS]],
 ) -> [u64; WORDS]
     requires { ⌜ SomeKnown n (now rows) (now codes) (now flow) ⌝ }
-    requires { ⌜ ValidMark m × Remembering n (now rows) (now codes) (now flow) (now keys) (now memory) ⌝ }
+    requires { ⌜ ValidMark m × Keyed m × Remembering n (now rows) (now codes) (now flow) (now keys) (now memory) ⌝ }
     ensures { λ r. ⌜ ((P : List Statement) → KnownIn P n (now (rows .entry)) (now (codes .entry)) (now (flow .entry)) → RowFor (usedIn (now (rows .entry))) P m r) × Remembering n (now (rows .entry)) (now (codes .entry)) (now (flow .entry)) (now (keys .exit)) (now (memory .exit)) ⌝ }
 {
     let key = codes::statement_code(key_of(m));
