@@ -27,7 +27,7 @@ module _ {U : ℕ → ℕ → Type 0} {P : List Statement} {n : ℕ} {rows : Lis
   inside forward s t l e = x .flows .forward .graph .inside s t l (x .flows .exact-forward s t l ∙ e)
   inside backward s t l e = x .flows .backward .graph .inside s t l (x .flows .exact-backward s t l ∙ e)
 
-  sat-by : (c : Condition) → ValidCondition c → (s : ℕ) → s < length P → SatBy (usedIn rows) P c s ↔ SatBy U P c s
+  pub sat-by : (c : Condition) → ValidCondition c → (s : ℕ) → s < length P → SatBy (usedIn rows) P c s ↔ SatBy U P c s
   sat-by c v = sat-same P (λ s. s < length P) inside (usedIn rows) U c (each-map (λ y l. x .found .used y l .exact) c (valid-each c v))
 
   pub labelled-by : (c : Condition) → ValidCondition c → {y : ℕ → Bool} → Labelled (length P) y (SatBy (usedIn rows) P c) → Labelled (length P) y (SatBy U P c)

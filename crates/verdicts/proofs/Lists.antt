@@ -13,6 +13,7 @@ use lib.ListN.{length, getD, take, set}
 use lib.Seq.{take-suc, getD-set-same, getD-set-other}
 use Rattle.language.specs.declared.Statement.{Statement}
 use Rattle.bits.specs.Row.{member}
+use Rattle.truth.specs.Truth.{usesOf}
 use Rattle.base.proofs.Bools.{clash, or-case, or-left, or-right}
 use Rattle.marks.specs.Marks.{names, Spells, markAt}
 use Rattle.marks.specs.Reading.{MarkLineRead}
@@ -56,7 +57,7 @@ pub named-same : (row : List ℕ) (m : Mark) (N : ℕ) → (Inside N (names m) �
 named-same row m N f earlier g = record { exact = λ s l. (λ e. inr (g .exact s l .0 e), λ h. ⊎-elim (λ e. absurd (f (omega arith, omega arith))) (g .exact s l .1) h) }
 
 -- each verdict but `Missing` is that of a mark whose statement the program has
-judged-stands : (P : List Statement) (earlier : List Mark) (m : Mark) (v : Verdict) → Judged P earlier m v → Stands v ↔ Inside (length P) (names m)
+judged-stands : (P : List Statement) (earlier : List Mark) (m : Mark) (v : Verdict) → Judged (usesOf P) P earlier m v → Stands v ↔ Inside (length P) (names m)
 judged-stands P earlier m Accepted j = (λ _. j .0, λ _. tt)
 judged-stands P earlier m Missing j = (λ h. absurd h, j)
 judged-stands P earlier m Repeated j = (λ _. j .0, λ _. tt)
@@ -67,7 +68,7 @@ judged-stands P earlier m Unmet j = (λ _. j .0, λ _. tt)
 pub record JudgedSoFar (P : List Statement) (t : List ℕ) (ms : List Mark) (old new row : List ℕ) (j at : ℕ) : Type 0 where
   pub begins : Begins t ms j at
   pub named : NamedIn (length P) row (take j ms)
-  pub judged : (i : ℕ) → i < j → (v : Verdict) × Judged P (take i ms) (markAt ms i) v × (getD new i 0 ≡ number v)
+  pub judged : (i : ℕ) → i < j → (v : Verdict) × Judged (usesOf P) P (take i ms) (markAt ms i) v × (getD new i 0 ≡ number v)
   pub past : (i : ℕ) → j ≤ i → getD new i 0 ≡ getD old i 0
 
 pub judged-none : {P : List Statement} {t : List ℕ} {ms : List Mark} {old : List ℕ} (row : List ℕ) → Spells t ms → ((s : ℕ) → member row s ≡ false)
@@ -90,7 +91,7 @@ module _ {P : List Statement} {t : List ℕ} {ms : List Mark} {old new row : Lis
     next-take : take (j + 1) ms ≡ take j ms ++ m ∷ []
     next-take = rw (add-one, mark-is) (take-suc ms j _ (line-inside (s .begins) is l))
 
-    pub judged-more : (v : Verdict) (b : ℕ) → b ≡ number v → ((earlier : List Mark) → NamedIn (length P) row earlier → Judged P earlier m v) → {row′ : List ℕ}
+    pub judged-more : (v : Verdict) (b : ℕ) → b ≡ number v → ((earlier : List Mark) → NamedIn (length P) row earlier → Judged (usesOf P) P earlier m v) → {row′ : List ℕ}
         → (Stands v ↔ Inside (length P) (names m) → Notes (length P) m row row′) → j < length new → JudgedSoFar P t ms old (set new j b) row′ (j + 1) k
     judged-more v b e f g h =
         let here = f (take j ms) (s .named) in
@@ -102,13 +103,13 @@ module _ {P : List Statement} {t : List ℕ} {ms : List Mark} {old new row : Lis
                 let last = named-last (take j ms) m (i + 1) in
                 (λ a. rw next-take (last .1 (noted .exact i u .0 a)), λ a. noted .exact i u .1 (last .0 (rw next-take at a)));
           };
-          judged = below-more (λ i. (w : Verdict) × Judged P (take i ms) (markAt ms i) w × (getD (set new j b) i 0 ≡ number w)) j
+          judged = below-more (λ i. (w : Verdict) × Judged (usesOf P) P (take i ms) (markAt ms i) w × (getD (set new j b) i 0 ≡ number w)) j
               (λ i u. let q = s .judged i u in (q .0, q .1, getD-set-other new j i b 0 (λ z. omega arith) ∙ q .2))
               (v, rw mark-is at here, getD-set-same new j b 0 h ∙ e);
           past = λ i u. getD-set-other new j i b 0 (λ z. omega arith) ∙ s .past i (omega arith);
         }
 
-  pub judged-all : length t ≤ at → length new ≡ length old → VerdictsOf P ms old new
+  pub judged-all : length t ≤ at → length new ≡ length old → VerdictsOf (usesOf P) P ms old new
   judged-all h e =
       let n = text-done (s .begins) h in
       record { judged = λ i u. s .judged i (omega arith); same = e; past = λ i u. s .past i (omega arith) }

@@ -11,8 +11,9 @@ use Rattle.program.specs.Reading.{statements, Held}
 use Rattle.bits.specs.Row.{member}
 use Rattle.marks.specs.Marks.{names}
 use Rattle.marks.specs.declared.Mark.{Mark}
+use Rattle.truth.specs.Truth.{usesOf}
 use Rattle.marks.specs.Reading as marks
-use Rattle.rewriting.specs.Verdicts.{Inside, Named, place, Judged, Verdicts, acceptedCount, Rewritten}
+use Rattle.rewriting.specs.Verdicts.{Inside, Named, place, Judged, VerdictsBy, Verdicts, acceptedCount, Rewritten}
 use Rattle.rewriting.specs.declared.Verdict.{Verdict}
 use Rattle.verdicts.specs.declared.Rewriting.{Rewriting}
 
@@ -20,10 +21,10 @@ use Rattle.verdicts.specs.declared.Rewriting.{Rewriting}
 pub record NamedIn (n : ℕ) (row : List ℕ) (ms : List Mark) : Type 0 where
   pub exact : (s : ℕ) → s < n → (member row s ≡ true) ↔ Named ms (s + 1)
 
--- v is the verdict of the mark m, whose statement is i, where the row has the places that the earlier marks name
+-- v is the verdict of the mark m by the program's own uses, whose statement is i, where the row has the places that the earlier marks name
 abbrev pub JudgedBy : List Statement → Mark → Statement → List ℕ → Verdict → Type 0
 JudgedBy P m i row v =
-    (earlier : List Mark) → (Inside (length P) (names m) → at P (place m) ≡ i) → NamedIn (length P) row earlier → Judged P earlier m v
+    (earlier : List Mark) → (Inside (length P) (names m) → at P (place m) ≡ i) → NamedIn (length P) row earlier → Judged (usesOf P) P earlier m v
 
 -- the row has the place of the mark m beside those of the earlier ones
 abbrev pub Notes : ℕ → Mark → List ℕ → List ℕ → Type 0
@@ -34,9 +35,9 @@ pub record SomeTaken (t : List ℕ) : Type 0 where
   pub ms : List Mark
   pub taken : marks.Taken t ms
 
--- the verdicts of the marks stand in their bytes, and all bytes beyond are kept
-pub record VerdictsOf (P : List Statement) (ms : List Mark) (old new : List ℕ) : Type 0 where
-  pub judged : Verdicts P ms new
+-- the verdicts of the marks, where variables count as used as U says, stand in their bytes, and all bytes beyond are kept
+pub record VerdictsOf (U : ℕ → ℕ → Type 0) (P : List Statement) (ms : List Mark) (old new : List ℕ) : Type 0 where
+  pub judged : VerdictsBy U P ms new
   pub same : length new ≡ length old
   pub past : (j : ℕ) → length ms ≤ j → getD new j 0 ≡ getD old j 0
 

@@ -8,6 +8,7 @@ ghost use Rattle.language.specs.declared.Statement.{Statement as StatementOf};
 ghost use Rattle.program.specs.Program.{most as statements-most, row-words};
 ghost use Rattle.base.specs.Decides.{Decides};
 ghost use Rattle.program.specs.Reading.{statements, Held};
+ghost use Rattle.truth.specs.Truth.{usesOf};
 ghost use Rattle.table.specs.Known.{Known, SomeKnown};
 ghost use Rattle.marks.specs.Reading.{most, Taken};
 ghost use Rattle.marks.specs.Marks.{ValidMark, names};
@@ -38,7 +39,7 @@ fn is_inside(n: usize, m: Mark) -> bool
 }
 
 // The place that the mark names, of all that there can be.
-fn place_of(m: Mark) -> usize
+pub fn place_of(m: Mark) -> usize
     ensures { λ r. ⌜ (r < statements-most) × (Inside statements-most (names m) → r ≡ place m) ⌝ }
 {
     let k = rewriting::statement_of(m);
@@ -101,7 +102,8 @@ fn note(m: Mark, v: Verdict, named: &mut [u64])
     }
 }
 
-// Judges each mark of the list on the program, whose facts and control-flow graph are lent: line j's verdict fills byte j.
+// Judges each mark of the list on the program, whose facts and control-flow graph are lent, by the program's own uses: line j's verdict fills
+// byte j.
 pub fn judge(
     marks: &[u8],
     p: Program,
@@ -112,7 +114,7 @@ pub fn judge(
 )
     requires { ⌜ Held p × Known (statements p) (p .count) (now rows) (now codes) (now flow) ⌝ }
     requires { ⌜ SomeTaken (now marks) × (most ≤ length (now verdicts)) ⌝ }
-    ensures { λ _. ⌜ ((ms : List MarkOf) → Taken (now (marks .entry)) ms → VerdictsOf (statements p) ms (now (verdicts .entry)) (now (verdicts .exit))) ⌝ }
+    ensures { λ _. ⌜ ((ms : List MarkOf) → Taken (now (marks .entry)) ms → VerdictsOf (usesOf (statements p)) (statements p) ms (now (verdicts .entry)) (now (verdicts .exit))) ⌝ }
 {
     let n = p.count;
     let mut named = atoms::blank_row();
