@@ -145,6 +145,7 @@ static int cse_answers(void) {
     static const char turned[] = "3: mark(cse, i1, i0 + 1)\n2: mark(rm, i1, i0 + 1)\n";
     static const char named[] =
         "3: mark(rm, i2, i0 + 1)\n3: mark(cse, i1, i0 + 1)\n2: mark(rm, i1, i0 + 1)\n";
+    static const char copies[] = "read i0\ni1 := i0\ni2 := i0\nwrite i2\n";
     static const char single[] = "3: mark(cse, i1, i0)\n", wrong[] = "3: mark(cse, i1, i0 + 1 + 1)\n";
     static const char dead[] = "!EX E[!def(i1) U use(i1)]";
     static uint8_t verdicts[256], text[8704];
@@ -181,9 +182,9 @@ static int cse_answers(void) {
     CHECK(verdicts[0] == 14 && verdicts[1] == 12 && verdicts[2] == 0 && third == strlen(dropped));
 
     /* One operand doesn't fit; three are misspelled. */
-    CHECK(rewrites_judge(p, length, (const uint8_t *)single, strlen(single), verdicts, 256, text, 8704,
-                         &first, &second, &third) == 0);
-    CHECK(first == 1 && second == 0 && verdicts[0] == 13 && third == length);
+    CHECK(rewrites_judge((const uint8_t *)copies, strlen(copies), (const uint8_t *)single,
+                         strlen(single), verdicts, 256, text, 8704, &first, &second, &third) == 0);
+    CHECK(first == 1 && second == 0 && verdicts[0] == 13 && third == strlen(copies));
     CHECK(rewrites_judge(p, length, (const uint8_t *)wrong, strlen(wrong), verdicts, 256, text, 8704,
                          &first, &second, &third) == 9);
     CHECK(rewrites_mark_line((const uint8_t *)list, strlen(list), 1, &begin, &end) == 0);
