@@ -1,6 +1,5 @@
 -- Uses added line by line: what is known after j lines. Assumes nothing.
 use mathlib.Core.Path.{_≡_, refl, sym, _∙_, subst}
-use mathlib.Core.Bool.{Bool, true, false}
 use mathlib.Core.List.{List}
 use mathlib.Core.Logic.{_↔_, inl, inr, ⊎-elim}
 use Prim.Native.Nat.{ℕ, _+_, _-_, _≤_, _<_}
@@ -12,7 +11,6 @@ use Rattle.language.specs.declared.Operand.{Operand}
 use Rattle.language.specs.declared.Expression.{Expression}
 use Rattle.language.specs.declared.Statement.{Statement}
 use Rattle.truth.specs.Truth.{usesOf}
-use Rattle.base.proofs.Bools.{clash}
 use Rattle.atoms.specs.Facts.{usedRow, Also, Marked}
 use Rattle.atoms.proofs.Found.{facts-also, facts-same}
 use Rattle.program.specs.Program.{most}
@@ -24,7 +22,7 @@ use Rattle.marks.specs.declared.Mark.the-variants.{Rm, Rpl, Cse}
 use Rattle.rewriting.specs.Verdicts.{number, Inside, place, Judged, Reuses, Widened, VerdictsBy}
 use Rattle.rewriting.specs.declared.Verdict.the-variants.{Accepted}
 use Rattle.rewriting.proofs.Accepted.{zero-accepted, accepted-zero}
-use Rattle.widening.specs.Widening.{Adds, WidenedBelow, WidensOf}
+use Rattle.widening.specs.Widening.{Adds, WidenedBelow}
 use Rattle.widening.specs.declared.Added.{Added}
 use Rattle.widening.specs.declared.Added.the-variants.{Use, Nothing}
 
@@ -77,42 +75,31 @@ added-valid m b t (n, e, is, z) v = subst ValidMark is v .1
 
 -- ---- after j lines
 
-pub record AddedSoFar (P : List Statement) (n : ℕ) (codes : List (List ℕ)) (flow : List ℕ) (ms : List Mark) (rows : List ℕ) (added : Bool) (j : ℕ) : Type 0 where
-  pub known : KnownBy (WidenedBelow P ms j) P n rows codes flow
-  pub same : added ≡ false → (x s : ℕ) → WidenedBelow P ms j x s → usesOf P x s
-
 pub added-none : {P : List Statement} {n : ℕ} {rows : List ℕ} {codes : List (List ℕ)} {flow : List ℕ} (ms : List Mark) → Known P n rows codes flow
-    → AddedSoFar P n codes flow ms rows false 0
-added-none {P = P} ms k = record {
-  known = record { size = k .size; few = k .few; found = facts-same (λ x s v b. (inl, none x s)) (k .found); flow-size = k .flow-size; flows = k .flows };
-  same = λ e x s u. none x s u;
-}
+    → KnownBy (WidenedBelow P ms 0) P n rows codes flow
+added-none {P = P} ms k =
+    record { size = k .size; few = k .few; found = facts-same (λ x s v b. (inl, none x s)) (k .found); flow-size = k .flow-size; flows = k .flows }
   where
     none : (x s : ℕ) → WidenedBelow P ms 0 x s → usesOf P x s
     none x s (inl u) = u
     none x s (inr (i, l, r)) = absurd (omega (arith, l))
 
-module _ {P : List Statement} {n : ℕ} {codes : List (List ℕ)} {flow : List ℕ} {ms : List Mark} {rows : List ℕ} {added : Bool} {j : ℕ}
-    (s : AddedSoFar P n codes flow ms rows added j) (l : j < length ms) (vs : List ℕ) (judged : VerdictsBy (usesOf P) P ms vs) (m : Mark) (is : m ≡ markAt ms j) where
+module _ {P : List Statement} {n : ℕ} {codes : List (List ℕ)} {flow : List ℕ} {ms : List Mark} {rows : List ℕ} {j : ℕ}
+    (k : KnownBy (WidenedBelow P ms j) P n rows codes flow) (l : j < length ms) (vs : List ℕ) (judged : VerdictsBy (usesOf P) P ms vs) (m : Mark) (is : m ≡ markAt ms j) where
   byte-accepted : getD vs j 0 ≡ 0 → Judged (usesOf P) P (take j ms) (markAt ms j) Accepted
   byte-accepted e = let v = judged j l in zero-accepted (usesOf P) P (take j ms) (markAt ms j) (v .0) (sym (v .2) ∙ e) (v .1)
 
   accepted-byte : Judged (usesOf P) P (take j ms) (markAt ms j) Accepted → getD vs j 0 ≡ 0
   accepted-byte h = let v = judged j l in v .2 ∙ accepted-zero (usesOf P) P (take j ms) (markAt ms j) (v .0) h (v .1)
 
-  pub added-nothing : Adds m (getD vs j 0) Nothing → AddedSoFar P n codes flow ms rows added (j + 1)
+  pub added-nothing : Adds m (getD vs j 0) Nothing → KnownBy (WidenedBelow P ms (j + 1)) P n rows codes flow
   added-nothing f =
       let none : (x p : ℕ) → Reuses P (take j ms) (markAt ms j) x p → ⊥ = nothing-added P (take j ms) (markAt ms j) (getD vs j 0) (subst (λ (o : Mark). Adds o (getD vs j 0) Nothing) is f) accepted-byte in
-      let k = s .known in
-      record {
-        known = record { size = k .size; few = k .few; found = facts-same (λ x p v b. none-more P ms j none x p) (k .found); flow-size = k .flow-size; flows = k .flows };
-        same = λ e x p u. s .same e x p (none-back P ms j none x p u);
-      }
+      record { size = k .size; few = k .few; found = facts-same (λ x p v b. none-more P ms j none x p) (k .found); flow-size = k .flow-size; flows = k .flows }
 
   pub added-use : (t q : ℕ) → Adds m (getD vs j 0) (Use t) → (Inside most (names m) → q ≡ place m) → {new : List ℕ} → Marked rows new (eqb (usedRow t)) q
-      → AddedSoFar P n codes flow ms new true (j + 1)
+      → KnownBy (WidenedBelow P ms (j + 1)) P n new codes flow
   added-use t q (a, e, cse, byte) at {new} marked =
-      let k = s .known in
       let accepted = byte-accepted byte in
       let inside : Inside most (names (markAt ms j)) = (accepted .0 .0, omega (arith, accepted .0 .1, k .few)) in
       let here : q ≡ place (markAt ms j) = subst (λ (o : Mark). q ≡ place o) is (at (subst (λ (o : Mark). Inside most (names o)) (sym is) inside)) in
@@ -121,17 +108,13 @@ module _ {P : List Statement} {n : ℕ} {codes : List (List ℕ)} {flow : List �
       let only : (x p : ℕ) → Reuses P (take j ms) (markAt ms j) x p → (x ≡ t) × (p ≡ q) =
       λ x p r. let u = subst (λ (o : Mark). Reuses P (take j ms) o x p) mark r in (sym (u .0), sym (u .1) ∙ sym (here ∙ rw mark)) in
       record {
-        known = record {
-          size = k .size;
-          few = k .few;
-          found = facts-same (λ x p v b. also-more P ms j t q there only x p) (facts-also (k .found) t q (omega (arith, here, accepted .0 .0, accepted .0 .1)) marked);
-          flow-size = k .flow-size;
-          flows = k .flows;
-        };
-        same = λ e x p u. clash refl e;
+        size = k .size;
+        few = k .few;
+        found = facts-same (λ x p v b. also-more P ms j t q there only x p) (facts-also (k .found) t q (omega (arith, here, accepted .0 .0, accepted .0 .1)) marked);
+        flow-size = k .flow-size;
+        flows = k .flows;
       }
 
-pub added-all : {P : List Statement} {n : ℕ} {codes : List (List ℕ)} {flow : List ℕ} {ms : List Mark} {rows : List ℕ} {added : Bool} {j : ℕ}
-    → AddedSoFar P n codes flow ms rows added j → j ≡ length ms → WidensOf P ms n codes flow rows added
-added-all {P = P} {n = n} {codes = codes} {flow = flow} {ms = ms} {rows = rows} {added = added} s e =
-    let a = subst (AddedSoFar P n codes flow ms rows added) e s in record { known = a .known; same = a .same }
+pub added-all : {P : List Statement} {n : ℕ} {codes : List (List ℕ)} {flow : List ℕ} (ms : List Mark) {rows : List ℕ} {j : ℕ}
+    → KnownBy (WidenedBelow P ms j) P n rows codes flow → j ≡ length ms → KnownBy (Widened P ms) P n rows codes flow
+added-all {P = P} {n = n} {codes = codes} {flow = flow} ms {rows = rows} s e = subst (λ (i : ℕ). KnownBy (WidenedBelow P ms i) P n rows codes flow) e s

@@ -1,6 +1,5 @@
 -- Proof devices: what the contracts of the functions that judge with widened uses say. No sentence of the documents stands here.
 use mathlib.Core.Path.{_≡_}
-use mathlib.Core.Bool.{Bool, false}
 use mathlib.Core.List.{List}
 use mathlib.Core.Logic.{_⊎_}
 use Prim.Native.Nat.{ℕ, _≤_, _<_}
@@ -29,16 +28,12 @@ Adds m b Nothing = (n t : ℕ) (e : Expression) → m ≡ Cse n t e → b ≡ 0 
 abbrev pub WidenedBelow : List Statement → List Mark → ℕ → ℕ → ℕ → Type 0
 WidenedBelow P ms j x s = usesOf P x s ⊎ ((i : ℕ) × (i < j) × Reuses P (take i ms) (markAt ms i) x s)
 
--- the facts by P's own uses are now the facts by the widened ones; where nothing was added these are P's own
-pub record WidensOf (P : List Statement) (ms : List Mark) (n : ℕ) (codes : List (List ℕ)) (flow new : List ℕ) (added : Bool) : Type 0 where
-  pub known : KnownBy (Widened P ms) P n new codes flow
-  pub same : added ≡ false → (x s : ℕ) → Widened P ms x s → usesOf P x s
-
--- for every program that the facts and the graph are of, and whose verdicts by its own uses stand in the bytes
-abbrev pub Widens : List ℕ → List ℕ → List ℕ → List ℕ → Bool → Type 0
-Widens t old vs new added =
+-- the facts by P's own uses are now the facts by the widened ones, for every program that the facts and the graph are of, and whose
+-- verdicts by its own uses stand in the bytes
+abbrev pub Widens : List ℕ → List ℕ → List ℕ → List ℕ → Type 0
+Widens t old vs new =
     (P : List Statement) (n : ℕ) (codes : List (List ℕ)) (flow : List ℕ) → Known P n old codes flow
-    → (ms : List Mark) → Taken t ms → VerdictsBy (usesOf P) P ms vs → WidensOf P ms n codes flow new added
+    → (ms : List Mark) → Taken t ms → VerdictsBy (usesOf P) P ms vs → KnownBy (Widened P ms) P n new codes flow
 
 -- an `rm` whose verdict is by its condition
 abbrev pub Open : Mark → ℕ → Type 0

@@ -1,6 +1,5 @@
 // The uses that accepted `cse` marks add, and the `rm` marks of the same list judged with them.
 ghost use mathlib.Core.Path.{_≡_};
-ghost use mathlib.Core.Bool.{Bool};
 ghost use mathlib.Core.List.{List};
 ghost use Prim.Native.Nat.{ℕ, _≤_};
 ghost use lib.ListN.{length};
@@ -46,24 +45,22 @@ fn added_by(m: Mark, b: u8) -> Added
     }
 }
 
-// Adds the uses of the accepted `cse` marks to the rows, and tells whether there are any.
-fn widen(marks: &[u8], rows: &mut [u64], verdicts: &[u8]) -> bool
+// Adds the uses of the accepted `cse` marks to the rows.
+fn widen(marks: &[u8], rows: &mut [u64], verdicts: &[u8])
     requires { ⌜ SomeTaken (now marks) × (length (now rows) ≡ fact-words) × (most ≤ length (now verdicts)) ⌝ }
-    ensures { λ r. ⌜ Widens (now (marks .entry)) (now (rows .entry)) (now (verdicts .entry)) (now (rows .exit)) r ⌝ }
+    ensures { λ _. ⌜ Widens (now (marks .entry)) (now (rows .entry)) (now (verdicts .entry)) (now (rows .exit)) ⌝ }
 {
-    let mut added = false;
     let mut j: usize = 0;
     let mut at: usize = 0;
     while at < marks.len() {
         let MarkRead::Found(m, k) = marks::read::line(marks, at) else {
-            return added;
+            return;
         };
         let place = verdicts::place_of(m);
         let add = added_by(m, verdicts[j]);
         match add {
             Added::Use(t) => {
                 atoms::use_also(t, place, rows);
-                added = true;
                 j += 1;
                 at = k;
             }
@@ -73,7 +70,6 @@ fn widen(marks: &[u8], rows: &mut [u64], verdicts: &[u8]) -> bool
             }
         }
     }
-    added
 }
 
 // Whether the mark with this verdict byte is an `rm` that came to its condition.
@@ -162,8 +158,8 @@ pub fn judge(
     ensures { λ _. ⌜ ((ms : List MarkOf) → Taken (now (marks .entry)) ms → VerdictsOf (Widened (statements p) ms) (statements p) ms (now (verdicts .entry)) (now (verdicts .exit))) ⌝ }
 {
     let n = p.count;
-    verdicts::judge(marks, p, &*rows, codes, flow, verdicts);
-    if widen(marks, rows, &*verdicts) {
+    if verdicts::judge(marks, p, &*rows, codes, flow, verdicts) {
+        widen(marks, rows, &*verdicts);
         judge_again(marks, n, &*rows, codes, flow, verdicts);
     }
 }

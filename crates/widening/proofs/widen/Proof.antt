@@ -7,11 +7,12 @@ use lib.ListN.{length}
 use Rattle.language.specs.declared.Statement.{Statement}
 use Rattle.truth.specs.Truth.{usesOf}
 use Rattle.atoms.specs.Facts.{fact-words}
-use Rattle.table.specs.Known.{Known}
+use Rattle.table.specs.Known.{KnownBy, Known}
 use Rattle.marks.specs.Reading.{most, Taken}
 use Rattle.marks.specs.declared.Mark.{Mark}
 use Rattle.rewriting.specs.Verdicts.{VerdictsBy}
-use Rattle.widening.proofs.Uses.{added-valid, AddedSoFar, added-none, added-nothing, added-use, added-all}
+use Rattle.widening.specs.Widening.{WidenedBelow}
+use Rattle.widening.proofs.Uses.{added-valid, added-none, added-nothing, added-use, added-all}
 use Rattle.marks.proofs.Walk.{Begins, begins-first, line-of, line-further, line-mark, line-next, line-inside, text-done}
 use Rattle.verdicts.proofs.Lists.{never-misspelled, line-below}
 use borrow.Author.Needs.{needs}
@@ -19,14 +20,14 @@ use Rattle.widening.proofs.widen.Statement.{statement}
 use Rattle.widening.proofs.widen.Tie as tie
 
 abbrev Inv-loop : tie.InvT-loop
-Inv-loop marks rows₀ verdicts added₀ j₀ at₀ rows added j at =
+Inv-loop marks rows₀ verdicts j₀ at₀ rows j at =
     (length rows ≡ fact-words)
     × ((ms : List Mark) → Taken marks ms → Begins marks ms j at)
     × ((P : List Statement) (n : ℕ) (codes : List (List ℕ)) (flow : List ℕ) → Known P n rows₀ codes flow
-    → (ms : List Mark) → Taken marks ms → VerdictsBy (usesOf P) P ms verdicts → AddedSoFar P n codes flow ms rows added j)
+    → (ms : List Mark) → Taken marks ms → VerdictsBy (usesOf P) P ms verdicts → KnownBy (WidenedBelow P ms j) P n rows codes flow)
 
 abbrev μ-loop : tie.MeasureT-loop
-μ-loop marks rows₀ verdicts added₀ j₀ at₀ rows added j at = length marks - at
+μ-loop marks rows₀ verdicts j₀ at₀ rows j at = length marks - at
 
 loop-holds : tie.Need-loop-holds Inv-loop μ-loop
 loop-holds c = (c .before .before .before .pre .1, (λ ms t. begins-first (t .spells)), λ P n codes flow k ms t v. added-none ms k)
@@ -111,7 +112,7 @@ same-length-2 c = c .before .loop .inv .0 ∙ sym (c .before .before .before .be
 returns-2 : tie.Need-returns-2 Inv-loop μ-loop
 returns-2 c =
     let l = c .before .loop in
-    λ P n codes flow k ms t v. added-all (l .inv .2 P n codes flow k ms t v) (omega (arith, text-done (l .inv .1 ms t) (c .loop-test .left)))
+    λ P n codes flow k ms t v. added-all ms (l .inv .2 P n codes flow k ms t v) (omega (arith, text-done (l .inv .1 ms t) (c .loop-test .left)))
 
 pub widen-spec : {M : Type 1} → statement M
 widen-spec =
