@@ -15,8 +15,12 @@
    - a review is refused for its first line that is refused alone, its tables are those of its lines'
      parts alone, and there is one for each part that is spelled differently, in the order of endings;
    - a mark that drops fits where its statement stands, and is refused for a fault exactly where it
-     then divides by a variable or by 0; at `write` only what is written is replaced;
-   - the verdict of another that fits is that of its published condition's table;
+     then divides by a variable or by 0; at `write` only what is written is replaced; a sum is reused
+     where its right side stands and has two operands;
+   - the verdict of another that fits is that of its published condition's table. In that of a mark
+     that drops, each statement that is to read the variable by an accepted `cse` of the list, up to
+     twenty, is a use: without them the table may tell otherwise, and never refuses more;
+   - what is dropped becomes `skip`, and what is reused a copy;
    - the rewritten program is taken, and both programs' runs agree, in all nine values where they end,
      in statement and steps where they fault;
    - the lines of a list that is taken, one after another, are the list.
@@ -47,6 +51,7 @@
 #define VERDICT_BYTES 256
 #define TEXT_BYTES 8704
 #define VARIABLES 32
+#define MOST_READERS 20
 #define FIRST_KEPT 24
 #define KEPT 8
 
@@ -638,23 +643,95 @@ static uint8_t judge(struct text program, struct text marks, size_t verdict_room
     return number;
 }
 
+/* Copies the next line of a list that is taken, without its byte 10, and tells its length. */
+static size_t next_mark(struct text marks, size_t *start, char line[128]) {
+    size_t length = 0;
+
+    while (marks.bytes[*start + length] != 10) length++;
+    REQUIRE(length < 128);
+    memcpy(line, marks.bytes + *start, length);
+    line[length] = 0;
+    *start += length + 1;
+    return length;
+}
+
+/* The statements that are to read each variable by the accepted `cse` lines of a list: the first of
+   them, and how many there are. */
+struct readers {
+    unsigned long statements[VARIABLES][MOST_READERS];
+    size_t counts[VARIABLES];
+};
+
+static void find_readers(struct text marks, const struct judgement *answer, struct readers *found) {
+    static char line[128];
+    size_t start = 0;
+
+    memset(found, 0, sizeof *found);
+    for (size_t j = 0; j < answer->marks; j++) {
+        unsigned long n;
+        unsigned variable;
+
+        next_mark(marks, &start, line);
+        if (answer->verdicts[j] != 0) continue;
+        if (sscanf(line, "%lu: mark(cse, i%u,", &n, &variable) != 2) continue;
+        REQUIRE(variable < VARIABLES);
+        if (found->counts[variable] < MOST_READERS)
+            found->statements[variable][found->counts[variable]] = n;
+        found->counts[variable]++;
+    }
+}
+
+/* Puts into a text of so many bytes the condition of a mark that drops, each of the statements that are
+   to read its variable a use. */
+static void put_removal(char *text, size_t room, unsigned variable, const struct readers *readers) {
+    size_t count = readers->counts[variable];
+    size_t at = (size_t)snprintf(text, room, "!EX E[!def(i%u) U ", variable);
+
+    for (size_t k = 0; k < count; k++) at += (size_t)snprintf(text + at, room - at, "(");
+    at += (size_t)snprintf(text + at, room - at, "use(i%u)", variable);
+    for (size_t k = 0; k < count; k++)
+        at += (size_t)snprintf(text + at, room - at, " | node(%lu))",
+                               readers->statements[variable][k]);
+    at += (size_t)snprintf(text + at, room - at, "]");
+    REQUIRE(at < room);
+}
+
 /* Whether the published condition of a mark is true at its statement. The line is one of a list
    that is taken. */
-static int is_true(struct text program, const char *line, size_t n) {
+static int is_true(struct text program, const char *line, size_t n, const struct readers *readers) {
     static struct table answer;
-    static char condition[256];
-    char kind[4], variable[4], right[64];
+    static char condition[LONGEST];
+    char kind[4], right[64];
+    unsigned x;
 
-    REQUIRE(sscanf(line, "%*[0-9]: mark(%3[a-z], %3[i0-9], %63[^)])", kind, variable, right) == 3);
+    REQUIRE(sscanf(line, "%*[0-9]: mark(%3[a-z], i%u, %63[^)])", kind, &x, right) == 3);
     if (strcmp(kind, "rm") == 0)
-        snprintf(condition, sizeof condition, "!EX E[!def(%s) U use(%s)]", variable, variable);
+        put_removal(condition, sizeof condition, x, readers);
+    else if (strcmp(kind, "rpl") == 0)
+        snprintf(condition, sizeof condition,
+                 "AY A[((!def(i%u) & trans(%s)) & !entry) B stmt(i%u := %s)]", x, right, x, right);
     else
         snprintf(condition, sizeof condition,
-                 "AY A[((!def(%s) & trans(%s)) & !entry) B stmt(%s := %s)]", variable, right,
-                 variable, right);
+                 "AY A[((!def(i%u) & trans(%s)) & !entry) B (stmt(i%u := %s) & trans(%s))]", x, right, x,
+                 right, right);
     REQUIRE(tabulate(program, put(&others, condition, strlen(condition)), TABLE_WORDS, &answer) ==
             0);
     return holds(answer.words + 4 * (answer.parts - 1), n);
+}
+
+/* The verdict, accepted or refused by its condition, of a mark that drops: in its list, and by itself. */
+static void check_removal(struct text program, const char *line, size_t n,
+                          const struct readers *readers, int is_accepted) {
+    static const struct readers none;
+    unsigned x;
+    int alone;
+
+    REQUIRE(sscanf(line, "%*[0-9]: mark(rm, i%u,", &x) == 1);
+    alone = is_true(program, line, n, &none);
+    if (is_accepted) REQUIRE(alone);
+    if (readers->counts[x] <= MOST_READERS)
+        REQUIRE(is_true(program, line, n, readers) == is_accepted);
+    met(OF_CALLS, 1400 + (unsigned)(alone != is_accepted) + 2 * (readers->counts[x] > 0));
 }
 
 /* Whether a mark that drops stands beside its statement, and whether it then divides by a variable or
@@ -672,6 +749,31 @@ static int fits_assignment(struct text program, const char *line, size_t n, int 
     return 1;
 }
 
+/* Whether a mark that reuses a sum stands beside its right side, which has two operands. */
+static int fits_sum(struct text program, const char *line, size_t n) {
+    char statement[64], right[64];
+    const char *stands;
+
+    if (sscanf(line, "%*[0-9]: mark(cse, %*[i0-9], %63[^)])", right) != 1) return 0;
+    copy_line(program, n, statement);
+    stands = strstr(statement, " := ");
+    return stands != NULL && strcmp(stands + 4, right) == 0 && strchr(right, ' ') != NULL;
+}
+
+/* What an accepted mark that drops or reuses makes of its statement. */
+static void check_made(struct text program, struct text made, const char *line, size_t n) {
+    char before[64], after[64], wanted[80], variable[4];
+
+    copy_line(program, n, before);
+    copy_line(made, n, after);
+    if (strstr(line, "mark(rm, ") != NULL) REQUIRE(strcmp(after, "skip") == 0);
+    if (sscanf(line, "%*[0-9]: mark(cse, %3[i0-9],", variable) == 1) {
+        *strchr(before, ' ') = 0;
+        snprintf(wanted, sizeof wanted, "%s := %s", before, variable);
+        REQUIRE(strcmp(after, wanted) == 0);
+    }
+}
+
 /* Whether a mark on `write` fits: it replaces the written variable by a variable. */
 static int fits_write(struct text program, const char *line) {
     unsigned variable;
@@ -683,21 +785,18 @@ static int fits_write(struct text program, const char *line) {
 
 static void check_verdicts(struct text program, struct text marks, const struct judgement *answer) {
     static char line[128];
+    static struct readers readers;
+    const struct text made = {answer->text, answer->bytes};
     size_t lines = lines_of(program), start = 0, accepted = 0;
     uint8_t named[257] = {0};
 
+    find_readers(marks, answer, &readers);
     for (size_t j = 0; j < answer->marks; j++) {
-        size_t end = start, length;
-        unsigned long n;
+        size_t length = next_mark(marks, &start, line);
+        unsigned long n = strtoul(line, NULL, 10);
         uint8_t verdict = answer->verdicts[j];
+        int is_removal = strstr(line, "mark(rm, ") != NULL;
 
-        while (marks.bytes[end] != 10) end++;
-        length = end - start;
-        REQUIRE(length < sizeof line);
-        memcpy(line, marks.bytes + start, length);
-        line[length] = 0;
-        start = end + 1;
-        n = strtoul(line, NULL, 10);
         accepted += verdict == 0;
         met(OF_MARKS, verdict);
         if (n < 1 || n > lines) {
@@ -709,10 +808,16 @@ static void check_verdicts(struct text program, struct text marks, const struct 
 
             REQUIRE(verdict == 0 || verdict == 13 || verdict == 14 || verdict == 18);
             REQUIRE((verdict == 18) == may_fault);
-            if (strstr(line, "mark(rm, ") != NULL) REQUIRE((verdict != 13) == fits);
+            if (is_removal) REQUIRE((verdict != 13) == fits);
+            if (strstr(line, "mark(cse, ") != NULL) REQUIRE((verdict != 13) == fits_sum(program, line, n));
             if (n == lines) REQUIRE((verdict != 13) == fits_write(program, line));
-            if (verdict != 13 && verdict != 18 && j < 40)
-                REQUIRE(is_true(program, line, n) == (verdict == 0));
+            if (verdict != 13 && verdict != 18 && j < 40) {
+                if (is_removal)
+                    check_removal(program, line, n, &readers, verdict == 0);
+                else
+                    REQUIRE(is_true(program, line, n, &readers) == (verdict == 0));
+            }
+            if (verdict == 0) check_made(program, made, line, n);
             if (verdict != 13) met_text(OF_MARKS, (uint8_t *)line, length);
             named[n] = 1;
         }

@@ -100,17 +100,25 @@ uint8_t rewrites_review(const uint8_t *program, size_t program_len, const uint8_
                         uint32_t satisfied[32], uint32_t first[32]);
 
 /* Judges each mark of a list on the program, and writes the program with the accepted marks made. A
-   list has zero to 256 lines, each ended by byte 10: `n: mark(rm, X, E)` or `n: mark(rpl, X, A)`.
+   list has zero to 256 lines, each ended by byte 10: `n: mark(rm, X, E)`, `n: mark(rpl, X, A)` or
+   `n: mark(cse, T, E)`, in any order.
    rm  fits where statement n is `X := E`. Where E is `A / B`, B must be a constant other than 0.
-       Condition: `!EX E[!def(X) U use(X)]`. Made: `skip`.
+       Condition: `!EX E[!def(X) U use(X)]`, where `use(X)` holds also at each statement whose
+       `cse` with X for T is accepted, in whatever line of the list it stands: there X gains a
+       reader. Made: `skip`.
    rpl fits where n uses X, and A is a variable if n is an `if` or a `write`; at `write` it fits only
        for the X that is written.
        Condition: `AY A[((!def(X) & trans(A)) & !entry) B stmt(X := A)]`.
        Made: A for every use of X in n.
-   Each mark is judged on the given program. Accepted marks are all made together, refused ones
-   aren't. The new program has the same line count. Started alike, it runs alike: to the same value and
-   the same kept values in the same steps, to a fault at the same statement in the same steps, or spent
-   at the same statement. The values left then may differ. Takes at most 128 KiB of stack.
+   cse fits where n is `Z := E`, and E has two operands.
+       Condition: `AY A[((!def(T) & trans(E)) & !entry) B (stmt(T := E) & trans(E))]`.
+       Made: `Z := T`.
+   Each mark is judged on the given program, `cse` lines before any rm. rewrites_tabulate knows no
+   list: it tells the condition of an rm true also where a `cse` of the list refuses the rm. Accepted
+   marks are all made together, refused ones aren't. The new program has the same line count. Started
+   alike, it runs alike: to the same value and the same kept values in the same steps, to a fault at the
+   same statement in the same steps, or spent at the same statement. The values left then may differ.
+   Takes at most 128 KiB of stack.
 
    Returns 0, and sets
    verdicts    byte j for line j, counted from 0: 0 for a mark that is accepted, else the first that

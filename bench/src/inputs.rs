@@ -50,6 +50,26 @@ pub fn scattered(size: usize) -> Vec<u8> {
     program(size, |n| format!("if i{} goto {} else {}", n % 8, place(n, 97), place(n, 61)))
 }
 
+/// Each sum is computed twice, one line after the other, the first time into one of `i0` to `i15`.
+pub fn sums(size: usize) -> Vec<u8> {
+    program(size, |n| sum(n / 2, n % 2))
+}
+
+/// The same with a jump back in place of every ninth and tenth line, for loops within loops.
+pub fn looped_sums(size: usize) -> Vec<u8> {
+    program(size, |n| match n % 10 {
+        8 => format!("if i29 goto {} else {}", n - 6, n + 1),
+        9 => format!("if i28 goto {} else {}", (n / 20 * 10).max(2), n + 1),
+        _ => sum(n / 2, n % 2),
+    })
+}
+
+/// Sum k, into the variable that holds it first or again.
+fn sum(k: usize, again: usize) -> String {
+    let x = if again == 0 { k % 16 } else { 16 + k % 8 };
+    format!("i{} := i30 + {}", x, k)
+}
+
 pub const OPERATORS: [&str; 12] =
     ["EX", "AX", "EF", "AF", "EG", "AG", "EY", "AY", "ER", "AR", "EM", "AM"];
 
@@ -133,6 +153,53 @@ pub fn different_marks_for(program: &[u8]) -> Vec<u8> {
         Some(Mark { number: at as u32 + 1, variable, kind: Kind::Replace(a) })
     };
     let list: Vec<Mark> = program.statements().iter().enumerate().filter_map(mark).collect();
+    marks::text(&list)
+}
+
+/// A `cse` for each statement, by the variable that the nearest line before computes its right side into, or else by
+/// one that none does. No two have the same condition.
+pub fn cse_marks_for(program: &[u8]) -> Vec<u8> {
+    marks_on_sums(program, |_, _, e| Kind::Reuse(e))
+}
+
+/// The same, with a mark that drops it for each sum that is computed the first time.
+pub fn cse_and_rm_marks_for(program: &[u8]) -> Vec<u8> {
+    marks_on_sums(program, |x, holder, e| match holder {
+        Some(holder) if holder != x => Kind::Reuse(e),
+        _ => Kind::Remove(e),
+    })
+}
+
+/// A mark for each statement, of the kind that is chosen by the variable of an assignment, the one that holds its right
+/// side already, and that right side.
+fn marks_on_sums(program: &[u8], kind: impl Fn(u8, Option<u8>, Expression) -> Kind) -> Vec<u8> {
+    let program = Program::read(program).expect("the program is taken");
+    let statements = program.statements();
+    let holder = |e: Expression, before: usize| {
+        statements[..before].iter().rev().find_map(|statement| match *statement {
+            Statement::Assign(t, right) if right == e => Some(t),
+            _ => None,
+        })
+    };
+    let mark = |(at, statement): (usize, &Statement)| {
+        let number = at as u32 + 1;
+        match *statement {
+            Statement::Assign(x, e) => {
+                let held = holder(e, at);
+                let kind = kind(x, held, e);
+                let variable = match kind {
+                    Kind::Reuse(_) => held.unwrap_or(31),
+                    _ => x,
+                };
+                Mark { number, variable, kind }
+            }
+            _ => {
+                let right = Expression::Single(Operand::Constant(number));
+                Mark { number, variable: 31, kind: Kind::Reuse(right) }
+            }
+        }
+    };
+    let list: Vec<Mark> = statements.iter().enumerate().map(mark).collect();
     marks::text(&list)
 }
 

@@ -5,7 +5,7 @@ mod inputs;
 mod time;
 
 use inputs::{atoms_condition, binary_condition, text, unary_condition, OPERATORS};
-use inputs::{different_marks_for, marks_for};
+use inputs::{cse_and_rm_marks_for, cse_marks_for, different_marks_for, marks_for};
 use oracle::tuned;
 use rewrites::{judge, review, run, tabulate, MOST_STEPS};
 use rewrites::{REVIEW_WORDS, TABLE_WORDS, TEXT_BYTES, VERDICT_BYTES};
@@ -346,41 +346,56 @@ fn time_judging(program: &[u8], marks: &[u8]) -> [f64; 3] {
     times
 }
 
+/// A list of marks for a program.
+type List = fn(&[u8]) -> Vec<u8>;
+
+/// Prints the times of a list by size.
+fn print_list(worst: &mut Worst, flow: &Flow, kind: &str, list: List) {
+    for size in SIZES {
+        let program = (flow.program)(size);
+        let marks = list(&program);
+        let [ours, search, labels] = time_judging(&program, &marks);
+        let answer = judge(&program, &marks, &mut [0; VERDICT_BYTES], &mut [0; TEXT_BYTES]);
+        let answer = answer.expect("the list is taken");
+        let name = format!("{}, {} {}marks, {} statements", flow.name, answer.marks, kind, size);
+        println!(
+            "{:<54} {:>8} {:>10.2} {:>10.2} {:>7.2} {:>10.2} {:>7.2}",
+            name,
+            answer.accepted,
+            ours * 1e6,
+            search * 1e6,
+            ours / search,
+            labels * 1e6,
+            ours / labels
+        );
+        let is_ordinary = flow.is_ordinary && kind.is_empty();
+        worst.meet(is_ordinary, ours / search, format!("judge, {}", name));
+    }
+}
+
+/// Programs that compute each sum twice.
+const SUMS: [Flow; 2] = [
+    Flow { name: "sums", is_ordinary: false, program: inputs::sums },
+    Flow { name: "sums in loops", is_ordinary: false, program: inputs::looped_sums },
+];
+
 fn print_judging(worst: &mut Worst) {
     println!(
         "\nJudging, in microseconds; tuned by a search from each mark's statement, and by labelling all statements for\n\
-         each mark. A mark for each statement; then such that no two have the same condition"
+         each mark. A mark for each statement; then such that no two have the same condition; then on sums that are\n\
+         computed twice, each to be reused, no two by the same condition, or the first dropped and the second reused"
     );
     println!(
         "{:<54} {:>8} {:>10} {:>10} {:>7} {:>10} {:>7}",
         "", "accepted", "ours", "search", "ratio", "labels", "ratio"
     );
-    let lists: [(&str, fn(&[u8]) -> Vec<u8>); 2] =
-        [("", marks_for), ("different ", different_marks_for)];
     for flow in &FLOWS {
-        for (kind, list) in lists {
-            for size in SIZES {
-                let program = (flow.program)(size);
-                let marks = list(&program);
-                let [ours, search, labels] = time_judging(&program, &marks);
-                let answer = judge(&program, &marks, &mut [0; VERDICT_BYTES], &mut [0; TEXT_BYTES]);
-                let answer = answer.expect("the list is taken");
-                let name =
-                    format!("{}, {} {}marks, {} statements", flow.name, answer.marks, kind, size);
-                println!(
-                    "{:<54} {:>8} {:>10.2} {:>10.2} {:>7.2} {:>10.2} {:>7.2}",
-                    name,
-                    answer.accepted,
-                    ours * 1e6,
-                    search * 1e6,
-                    ours / search,
-                    labels * 1e6,
-                    ours / labels
-                );
-                let is_ordinary = flow.is_ordinary && kind.is_empty();
-                worst.meet(is_ordinary, ours / search, format!("judge, {}", name));
-            }
-        }
+        print_list(worst, flow, "", marks_for);
+        print_list(worst, flow, "different ", different_marks_for);
+    }
+    for flow in &SUMS {
+        print_list(worst, flow, "different cse ", cse_marks_for);
+        print_list(worst, flow, "rm and cse ", cse_and_rm_marks_for);
     }
 }
 

@@ -162,7 +162,9 @@ fn words(verdict: Verdict, mark: &Mark, first: usize, statements: &[&[u8]]) -> S
         Verdict::Unfit => {
             let statement = statements.get((n as usize).wrapping_sub(1)).copied().unwrap_or(b"");
             let statement = String::from_utf8_lossy(statement);
-            format!("doesn't fit: statement {n} is `{}`", statement.trim_end())
+            let more =
+                if mark.is_reuse_of_operand() { ", and `cse` takes two operands" } else { "" };
+            format!("doesn't fit: statement {n} is `{}`{more}", statement.trim_end())
         }
         Verdict::MayFault => {
             let divisor = mark.divisor().unwrap_or_default();

@@ -86,7 +86,7 @@ fn expected(refusal: Refusal, text: &[u8]) -> String {
         Refusal::ReviewLines => "1 to 32 lines",
         Refusal::ReviewParts => "at most 128 differing parts",
         Refusal::MarkMisspelled => {
-            "`n: mark(rm, X, E)` or `n: mark(rpl, X, A)`, and byte 10"
+            "`n: mark(rm, X, E)`, `n: mark(rpl, X, A)` or `n: mark(cse, T, E)`, and byte 10"
         }
         Refusal::MarkCount => "at most 256 lines",
     };

@@ -1,5 +1,5 @@
-//! The marks of a list that the library took: each line is then `n: mark(rm, X, E)` or
-//! `n: mark(rpl, X, A)`, and is only taken apart here.
+//! The marks of a list that the library took: each line is then `n: mark(rm, X, E)`,
+//! `n: mark(rpl, X, A)` or `n: mark(cse, T, E)`, and is only taken apart here.
 
 use rewrites::Verdict;
 use serde::Serialize;
@@ -12,7 +12,7 @@ pub struct Mark<'a> {
     /// The statement that it names.
     pub statement: u32,
     kind: &'a str,
-    /// X, and E or A.
+    /// X or T, and E or A.
     variable: &'a str,
     right: &'a str,
 }
@@ -25,13 +25,24 @@ impl<'a> Mark<'a> {
         Some(Mark { text, statement: number.parse().ok()?, kind, variable, right })
     }
 
-    /// Its published condition, with its variables put in.
+    /// Its published condition, with its variables put in. In that of an `rm`, `use` holds also where a
+    /// `cse` of the list with its variable is accepted, which isn't spelled here.
     pub fn condition(&self) -> String {
         let (x, a) = (self.variable, self.right);
         match self.kind {
             "rm" => format!("!EX E[!def({x}) U use({x})]"),
-            _ => format!("AY A[((!def({x}) & trans({a})) & !entry) B stmt({x} := {a})]"),
+            "rpl" => format!("AY A[((!def({x}) & trans({a})) & !entry) B stmt({x} := {a})]"),
+            _ => {
+                format!(
+                    "AY A[((!def({x}) & trans({a})) & !entry) B (stmt({x} := {a}) & trans({a}))]"
+                )
+            }
         }
+    }
+
+    /// Whether it is a `cse` of one operand, which fits nowhere.
+    pub fn is_reuse_of_operand(&self) -> bool {
+        self.kind == "cse" && !self.right.contains(' ')
     }
 
     /// What its right side divides by, if it is a division.

@@ -78,7 +78,7 @@ fn lines_of_marks_are_the_first_misspelled() {
 #[test]
 fn lines_of_reviews_are_the_first_faulty() {
     let mut met = [0; 18];
-    for mut random in cases(4_000) {
+    for mut random in cases(6_000) {
         let program = generate::program(&mut random, 12);
         let text = folder::conditions(&mut random, &program);
         let is_taken = |line: &[u8]| {
@@ -126,32 +126,64 @@ fn texts_of_marks_are_their_lines() {
     }
 }
 
+/// The condition that is shown for a mark; in that of an `rm` these statements, which are to read its variable, are
+/// uses.
+fn condition_beside(mark: &marks::Mark, readers: &[u32]) -> String {
+    let shown = mark.condition();
+    match shown.split_once(" U use(") {
+        Some((before, variable)) => {
+            let used = format!("use({}", variable.trim_end_matches(']'));
+            let used = readers.iter().fold(used, |used, n| format!("({used} | node({n}))"));
+            format!("{before} U {used}]")
+        }
+        None => shown,
+    }
+}
+
 /// A mark that fits, and can't drop a fault, is accepted exactly where the condition that is shown for it is
-/// true.
+/// true, what the accepted `cse` lines of the list are to read counted as used.
 #[test]
 fn conditions_of_marks_decide_their_verdicts() {
-    let mut met = [0; 19];
+    let (mut met, mut by_list) = ([0; 19], 0);
     for mut random in cases(500) {
         let program = generate::program(&mut random, 40);
         let given = program.text();
         let list = oracle::marks::text(&generate::marks(&mut random, &program, 40));
         let (mut verdicts, mut text) = ([0; VERDICT_BYTES], [0; TEXT_BYTES]);
         rewrites::judge(&given, &list, &mut verdicts, &mut text).expect("a list that is taken");
-        for (mark, verdict) in marks::of(&list).iter().zip(verdicts) {
+        let found = marks::of(&list);
+        for (mark, verdict) in found.iter().zip(verdicts) {
             met[usize::from(verdict)] += 1;
             let divides_by = mark.divisor().filter(|_| verdict == 18);
             let may_be_0 = |divisor: &str| divisor == "0" || divisor.starts_with('i');
             assert_eq!(divides_by.map_or(false, may_be_0), verdict == 18, "{}", mark.text);
-            if verdict == 0 || verdict == 14 {
-                let mut table = [0; TABLE_WORDS];
-                let answer = tabulate(&given, mark.condition().as_bytes(), &mut table);
-                let last = 4 * (answer.expect("a condition that is taken").parts as usize - 1);
-                let at = mark.statement as usize - 1;
-                assert_eq!(table[last + at / 64] >> (at % 64) & 1 == 1, verdict == 0);
+            let variable = mark.text.split(", ").nth(1).expect("a variable");
+            let reuse = format!("(cse, {variable},");
+            let accepted = found.iter().zip(verdicts).filter(|(_, verdict)| *verdict == 0);
+            let readers: Vec<u32> = accepted
+                .filter(|(other, _)| other.text.contains(&reuse))
+                .map(|(other, _)| other.statement)
+                .collect();
+            if (verdict == 0 || verdict == 14) && readers.len() <= 20 {
+                let is_true = |condition: String| {
+                    let mut table = [0; TABLE_WORDS];
+                    let answer = tabulate(&given, condition.as_bytes(), &mut table);
+                    let last = 4 * (answer.expect("a condition that is taken").parts as usize - 1);
+                    let at = mark.statement as usize - 1;
+                    table[last + at / 64] >> (at % 64) & 1 == 1
+                };
+                assert_eq!(
+                    is_true(condition_beside(mark, &readers)),
+                    verdict == 0,
+                    "{}",
+                    mark.text
+                );
+                by_list += usize::from(is_true(mark.condition()) != (verdict == 0));
             }
         }
     }
     assert!([0, 11, 12, 13, 14, 18].iter().all(|&verdict| met[verdict] > 50), "{met:?}");
+    assert!(by_list > 50, "{by_list}");
 }
 
 #[test]

@@ -279,6 +279,59 @@ total: folders 1; {counts}
     assert_eq!(told[2], "total 2 2 0 0 10 2 status 0\n");
 }
 
+/// Marks of all three kinds, on sums that are computed twice.
+#[test]
+fn marks_on_sums() {
+    let given = b"read i0\ni1 := i0 + 1\ni2 := i0 + 1\ni3 := 7\ni4 := i2 * i3\ni5 := 7\nwrite i4\n";
+    let marks = b"2: mark(rm, i1, i0 + 1)\n3: mark(cse, i1, i0 + 1)\n5: mark(rpl, i3, 7)\n\
+        6: mark(cse, i3, 7)\n4: mark(cse, i1, i0 + 1)\n3: mark(rm, i2, i0 + 1)\n";
+    let base = folder("sums", &[("given", given), ("marks", marks)]);
+    let output = run_in(&base, &["check", "--text", "."]);
+    assert_eq!((status(&output), &output.stdout), (0, &check::check(given, marks)));
+    let counts = "marks 6, accepted 2, named before 1, doesn't fit 2, condition false 1";
+    let output = run_in(&base, &["check", "--explain", ".", "-o", "new"]);
+    let expected = format!(
+        "\
+.: {counts}
+  line 1: 2: mark(rm, i1, i0 + 1): condition false at 2
+    condition !EX E[!def(i1) U use(i1)]
+  line 2: 3: mark(cse, i1, i0 + 1): accepted
+    condition AY A[((!def(i1) & trans(i0 + 1)) & !entry) B (stmt(i1 := i0 + 1) & trans(i0 + 1))]
+  line 3: 5: mark(rpl, i3, 7): accepted
+    condition AY A[((!def(i3) & trans(7)) & !entry) B stmt(i3 := 7)]
+  line 4: 6: mark(cse, i3, 7): doesn't fit: statement 6 is `i5 := 7`, and `cse` takes two operands
+    condition AY A[((!def(i3) & trans(7)) & !entry) B (stmt(i3 := 7) & trans(7))]
+  line 5: 4: mark(cse, i1, i0 + 1): doesn't fit: statement 4 is `i3 := 7`
+    condition AY A[((!def(i1) & trans(i0 + 1)) & !entry) B (stmt(i1 := i0 + 1) & trans(i0 + 1))]
+  line 6: 3: mark(rm, i2, i0 + 1): named before: line 2 names 3
+    condition !EX E[!def(i2) U use(i2)]
+total: folders 1; {counts}
+"
+    );
+    assert_eq!((status(&output), printed(&output)), (0, expected));
+    let new = fs::read_to_string(base.join("new")).expect("a file is read");
+    let made = "read i0\ni1 := i0 + 1\ni2 := i1\ni3 := 7\ni4 := i2 * 7\ni5 := 7\nwrite i4\n";
+    assert_eq!(new, made);
+    let output = run_in(&base, &["check", "--json", "."]);
+    let json = printed(&output);
+    for words in [
+        "\"counts\":{\"accepted\":2,\"missing\":0,\"repeated\":1,\"unfit\":2,\"may_fault\":0,\"unmet\":1}",
+        "{\"line\":2,\"mark\":\"3: mark(cse, i1, i0 + 1)\",\"statement\":3,\"verdict\":0,\"name\":\"accepted\",\
+         \"words\":\"accepted\",\"condition\":\"AY A[((!def(i1) & trans(i0 + 1)) & !entry) B \
+         (stmt(i1 := i0 + 1) & trans(i0 + 1))]\"}",
+        "{\"line\":1,\"mark\":\"2: mark(rm, i1, i0 + 1)\",\"statement\":2,\"verdict\":14,\"name\":\"unmet\",\
+         \"words\":\"condition false at 2\",\"condition\":\"!EX E[!def(i1) U use(i1)]\"}",
+    ] {
+        assert!(json.contains(words), "{json}");
+    }
+    assert_eq!(told_again(&output.stdout)[0].as_bytes(), check::check(given, marks));
+    // By itself the first line is accepted.
+    let alone = b"2: mark(rm, i1, i0 + 1)\n";
+    let base = folder("sum_alone", &[("given", given), ("marks", alone)]);
+    let output = run_in(&base, &["check", "."]);
+    assert!(printed(&output).starts_with(".: marks 1, accepted 1\n"));
+}
+
 #[test]
 fn the_longest_report() {
     let longest = "i31 := -2147483648 + -2147483648\n".repeat(254);
@@ -298,7 +351,7 @@ fn refusals_in_words() {
     let statement =
         "`read X`, `write X`, `X := A`, `X := A o A`, `if X goto n else m` or `skip`, and byte 10";
     let placed = "`read X` on the first line, `write X` on the last, and neither elsewhere";
-    let mark = "`n: mark(rm, X, E)` or `n: mark(rpl, X, A)`, and byte 10";
+    let mark = "`n: mark(rm, X, E)`, `n: mark(rpl, X, A)` or `n: mark(cse, T, E)`, and byte 10";
     let (author, optimiser) = ("the author of the shift program", "the optimiser");
     let misspelled = format!(
         "{author}: not spelled as a statement, or without its byte 10; expected {statement}"

@@ -124,12 +124,12 @@ fn no_program_is_needed() {
 /// The longest list, whose numbers are the widest.
 #[test]
 fn the_longest_list() {
-    let mark = "2147483647: mark(rm, i31, -2147483648 + -2147483648)";
+    let mark = "2147483647: mark(cse, i31, -2147483648 + -2147483648)";
     let list = format!("{mark}\n").repeat(256);
     let base = folder("longest_lines", &[("marks", list.as_bytes())]);
     let text = printed(&run_in(&base, &["lines", "."]));
     assert!(
-        text.ends_with(&format!("256  13515 13568  {mark}\nmarks 256 bytes 13568\n")),
+        text.ends_with(&format!("256  13770 13824  {mark}\nmarks 256 bytes 13824\n")),
         "{text}"
     );
     assert_eq!(text.lines().count(), 257);
@@ -137,7 +137,7 @@ fn the_longest_list() {
 
 #[test]
 fn refused_lists_in_words() {
-    let forms = "`n: mark(rm, X, E)` or `n: mark(rpl, X, A)`, and byte 10";
+    let forms = "`n: mark(rm, X, E)`, `n: mark(rpl, X, A)` or `n: mark(cse, T, E)`, and byte 10";
     let misspelled = format!("misspelled, or without its byte 10; expected {forms}, found ");
     let many = "1: mark(rm, i0, 1)\n".repeat(257);
     for (list, words) in [

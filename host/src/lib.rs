@@ -65,9 +65,10 @@
 //! assert_eq!(answer.first[..2], [1, 3]);
 //! ```
 //!
-//! A mark proposes to drop an assignment, or to put a copied variable or a constant in place of a
-//! variable that is used. Each mark is judged by a condition. The accepted ones are made, and runs of
-//! the two programs answer alike.
+//! A mark proposes to drop an assignment, to put a copied variable or a constant in place of a
+//! variable that is used, or to put a variable in place of a right side whose value it holds already.
+//! Each mark is judged by a condition. The accepted ones are made, and runs of the two programs answer
+//! alike.
 //!
 //! ```
 //! use rewrites::{judge, Judged, TEXT_BYTES, VERDICT_BYTES};
@@ -571,18 +572,23 @@ pub fn review(program: &[u8], conditions: &[u8], table: &mut [u64]) -> Result<Re
 
 /// Judges each mark of a list on a program, and writes the program with the accepted marks made.
 ///
-/// A list has zero to 256 lines, each ended by byte 10: `n: mark(rm, X, E)` or `n: mark(rpl, X, A)`.
+/// A list has zero to 256 lines, each ended by byte 10: `n: mark(rm, X, E)`, `n: mark(rpl, X, A)` or
+/// `n: mark(cse, T, E)`, in any order.
 ///
 /// - `rm` fits where statement n is `X := E`. Where E is `A / B`, B must be a constant other than 0.
-///   Condition: `!EX E[!def(X) U use(X)]`. Made: `skip`.
+///   Condition: `!EX E[!def(X) U use(X)]`, where `use(X)` holds also at each statement whose `cse` with
+///   X for T is accepted, in whatever line of the list it stands: there X gains a reader. Made: `skip`.
 /// - `rpl` fits where n uses X, and A is a variable if n is an `if` or a `write`; at `write` it fits
 ///   only for the X that is written. Condition: `AY A[((!def(X) & trans(A)) & !entry) B stmt(X := A)]`.
 ///   Made: A for every use of X in n.
+/// - `cse` fits where n is `Z := E`, and E has two operands. Condition:
+///   `AY A[((!def(T) & trans(E)) & !entry) B (stmt(T := E) & trans(E))]`. Made: `Z := T`.
 ///
-/// Each mark is judged on the given program. Line j's verdict fills byte j of the verdicts, counted
-/// from 0: [`Verdict`] names it. Accepted marks are all made together, refused ones aren't. The new
-/// program has the same line count, and fills the front of the text. All further bytes of the
-/// verdicts and of the text are kept.
+/// Each mark is judged on the given program, `cse` lines before any `rm`. [`tabulate`] knows no list: it
+/// tells the condition of an `rm` true also where a `cse` of the list refuses the `rm`. Line j's verdict
+/// fills byte j of the verdicts, counted from 0: [`Verdict`] names it. Accepted marks are all made
+/// together, refused ones aren't. The new program has the same line count, and fills the front of the
+/// text. All further bytes of the verdicts and of the text are kept.
 ///
 /// From every start, and under every budget that isn't refused, runs of the two programs answer the
 /// same value, the same steps and the same kept values, a fault at the same statement after the same
@@ -643,6 +649,18 @@ pub fn review(program: &[u8], conditions: &[u8], table: &mut [u64]) -> Result<Re
 /// assert_eq!(answer.accepted, 1);
 /// assert_eq!(Verdict::from_byte(verdicts[0]), Some(Verdict::MayFault));
 /// assert_eq!(Verdict::from_byte(verdicts[1]), Some(Verdict::Accepted));
+///
+/// // Statement 3 computes what i1 holds. It may read i1 instead, so statement 2 stays.
+/// let program = b"read i0\ni1 := i0 + 1\ni2 := i0 + 1\nwrite i2\n";
+/// let marks = b"2: mark(rm, i1, i0 + 1)\n3: mark(cse, i1, i0 + 1)\n";
+/// let answer = judge(program, marks, &mut verdicts, &mut text)?;
+/// assert_eq!(answer, Judged { marks: 2, accepted: 1, bytes: 39 });
+/// assert_eq!(verdicts[..2], [14, 0]);
+/// assert_eq!(text[..39], *b"read i0\ni1 := i0 + 1\ni2 := i1\nwrite i2\n");
+///
+/// // By itself the first mark is accepted: the given program never uses i1.
+/// let answer = judge(program, &marks[..24], &mut verdicts, &mut text)?;
+/// assert_eq!((answer.accepted, verdicts[0]), (1, 0));
 /// # Ok::<(), rewrites::Refusal>(())
 /// ```
 pub fn judge(

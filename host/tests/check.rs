@@ -89,6 +89,38 @@ fn divisions_are_checked() {
     assert!(output.stdout == check::check(given, marks));
 }
 
+/// Marks of all three kinds: 2 stays for 3 to read, whichever line comes first.
+#[test]
+fn sums_are_checked() {
+    let program = built("check_rewrites");
+    let given = b"read i0\ni1 := i0 + 1\ni2 := i0 + 1\ni3 := 7\ni4 := i2 * i3\nwrite i4\n";
+    let [rm, cse, rpl, single] = [
+        "2: mark(rm, i1, i0 + 1)\n",
+        "3: mark(cse, i1, i0 + 1)\n",
+        "5: mark(rpl, i3, 7)\n",
+        "4: mark(cse, i1, 7)\n",
+    ];
+    let made = "read i0\ni1 := i0 + 1\ni2 := i1\ni3 := 7\ni4 := i2 * 7\nwrite i4\n";
+    let dropped = "read i0\nskip\ni2 := i0 + 1\ni3 := 7\ni4 := i2 * 7\nwrite i4\n";
+    for (marks, expected) in [
+        (
+            format!("{rm}{cse}{rpl}{single}"),
+            format!("marks 4 accepted 2\n2 14\n3 0\n5 0\n4 13\n{made}"),
+        ),
+        (
+            format!("{single}{rpl}{cse}{rm}"),
+            format!("marks 4 accepted 2\n4 13\n5 0\n3 0\n2 14\n{made}"),
+        ),
+        (format!("{rpl}{rm}"), format!("marks 2 accepted 2\n5 0\n2 0\n{dropped}")),
+        (format!("{cse}5: mark(cse, i3, i2 * i3 * 7)\n"), "refused 9\n".to_string()),
+    ] {
+        let files = [("given", given.as_slice()), ("marks", marks.as_bytes())];
+        let output = in_folder(&program, "sums", &files, &[]);
+        assert_eq!(String::from_utf8_lossy(&output.stdout), expected, "{marks}");
+        assert!(output.stdout == check::check(given, marks.as_bytes()));
+    }
+}
+
 /// Each sign that is misspelled, in either file.
 #[test]
 fn misspelled_signs_are_refused() {

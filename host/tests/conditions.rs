@@ -656,6 +656,37 @@ fn stmt_tells_divisions_apart() {
     assert_words(&program, "stmt(i2 := i0 / i2)", &[0]);
 }
 
+// Sums that are computed twice
+
+#[test]
+fn conditions_of_marks_on_a_sum_that_is_computed_twice() {
+    let program = text(&["read i0", "i1 := i0 + 1", "i2 := i0 + 1", "write i2"]);
+    // i1 holds the sum behind 2.
+    assert_words(
+        &program,
+        "AY A[((!def(i1) & trans(i0 + 1)) & !entry) B (stmt(i1 := i0 + 1) & trans(i0 + 1))]",
+        &[2, 13, 14, 12, 1, 14, 12, 2, 14, 2, 14, 12],
+    );
+    // A table shows what the program uses. That 3 shall read i1 is spelled out below.
+    assert_words(&program, "!EX E[!def(i1) U use(i1)]", &[2, 13, 0, 0, 0, 15]);
+    assert_words(&program, "!EX E[!def(i1) U (use(i1) | node(3))]", &[2, 13, 0, 4, 4, 4, 2, 13]);
+    // 2 and 3 change what they compute.
+    let program = text(&["read i0", "i0 := i0 < 7", "i0 := i0 < 7", "write i0"]);
+    assert_words(
+        &program,
+        "AY A[((!def(i0) & trans(i0 < 7)) & !entry) B (stmt(i0 := i0 < 7) & trans(i0 < 7))]",
+        &[7, 8, 8, 8, 1, 14, 8, 6, 8, 0, 0, 0],
+    );
+    // The longest.
+    let e = "-2147483648 + -2147483648";
+    let longest = format!(
+        "AY A[((!def(i31) & trans({e})) & !entry) B (stmt(i31 := {e}) & trans({e}))]",
+        e = e
+    );
+    assert_eq!(longest.len(), 141);
+    assert_number(longest.as_bytes(), 0);
+}
+
 // Parts, lengths and spelling
 
 /// `true` after so many `!`.

@@ -208,6 +208,28 @@ fn the_longest_fault_is_printed() {
     same(1, &printed(&comparer, "longest_faults", &files, &[]), &expected, &files);
 }
 
+// Sums that are computed once
+
+/// What is read holds the sum, so no variable differs but the one that another mark drops.
+#[test]
+fn sums_are_compared() {
+    let comparer = built("compare_runs");
+    let given = b"read i0\ni1 := i0 + 1\ni2 := i0 + 1\ni3 := i2\nwrite i2\n";
+    let list = b"2: mark(rm, i1, i0 + 1)\n4: mark(rm, i3, i2)\n3: mark(cse, i1, i0 + 1)\n";
+    let expected = "marks 3 accepted 2\n\
+         \x20     1    1  read i0                           read i0                         \n\
+         \x20     2    2  i1 := i0 + 1                      i1 := i0 + 1                    \n\
+         \x20     3    3  i2 := i0 + 1                      i2 := i1                        \n\
+         \x20     4    4  i3 := i2                          skip                              i3 6 0\n\
+         \x20     5    5  write i2                          write i2                          i3 6 0\n\
+         given ended 6 steps 5 kept 0 0 0 0 0 0 0 0\nrewritten ended 6 steps 5 kept 0 0 0 0 0 0 0 0\n\
+         statements and outcome agree\n";
+    let start = b"5\n100\n";
+    let files = [("given", &given[..]), ("marks", &list[..]), ("start", &start[..])];
+    assert_eq!(desk::compare(given, list, start), expected);
+    same(0, &printed(&comparer, "sums", &files, &[]), expected, &files);
+}
+
 // The longest statement fills its column
 
 /// 253 of the longest statement and a copy, between `read` and `write`.

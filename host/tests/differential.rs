@@ -13,7 +13,7 @@ use common::{option, P};
 use coverage::Tally;
 use lent::{Lent, Text};
 use oracle::condition::{self, Atom, Condition, Demand, Direction, Part, Quantifier};
-use oracle::generate::{self, Damage, Random, WrongSign};
+use oracle::generate::{self, Damage, Random, WrongReuse, WrongSign};
 use oracle::machine::{self, kept_of, Outcome, Run, State, Values};
 use oracle::marks::{self, Judge, Kind, Mark};
 use oracle::program::{is_kept, Expression, Operand, Operator, Program, Statement, LARGEST, LEAST};
@@ -90,6 +90,18 @@ fn wrongly_signed(random: &mut Random, text: &mut Vec<u8>) -> Option<WrongSign> 
     let sign = random.pick(&WrongSign::ALL);
     generate::wrong_sign(random, sign, text);
     Some(sign)
+}
+
+/// Spells one of a list's `cse` lines in a wrong way, and tells in which.
+fn wrongly_reused(random: &mut Random, list: &mut Vec<u8>) -> Option<WrongReuse> {
+    let wrong = random.pick(&WrongReuse::ALL);
+    generate::wrong_reuse(random, wrong, list);
+    Some(wrong)
+}
+
+/// The wrong ways to spell `cse` for which lists were refused.
+fn wrong_reuses(kind: &'static str) -> Tally<Shown<WrongReuse>> {
+    Tally::new(kind, WrongReuse::ALL.map(Shown))
 }
 
 /// The wrong signs for which texts were refused as misspelled.
@@ -998,15 +1010,118 @@ fn mark_kind(kind: Kind, statement: &Statement) -> &'static str {
             "rpl by a constant below zero in an assignment"
         }
         (Kind::Replace(Operand::Constant(_)), _) => "rpl by a constant in an assignment",
+        (Kind::Reuse(e), _) if division(&e).is_some() => "cse of a division",
+        (Kind::Reuse(Expression::Pair(Operand::Constant(_), _, Operand::Constant(_))), _) => {
+            "cse of two constants"
+        }
+        (Kind::Reuse(e), Statement::Assign(z, _)) if e.mentions(*z) => "cse into an operand",
+        (Kind::Reuse(_), _) => "cse",
     }
 }
 
 #[rustfmt::skip]
-const MARK_KINDS: [&str; 7] = [
+const MARK_KINDS: [&str; 11] = [
     "rm", "rm of a constant below zero", "rpl in if", "rpl in write",
     "rpl by a variable in an assignment", "rpl by a constant in an assignment",
-    "rpl by a constant below zero in an assignment",
+    "rpl by a constant below zero in an assignment", "cse", "cse of a division",
+    "cse of two constants", "cse into an operand",
 ];
+
+#[rustfmt::skip]
+const CSE_VERDICTS: [&str; 9] = [
+    "accepted", "accepted into the same variable", "refused 11", "refused 12",
+    "refused 13 for one operand alone", "refused 13 for a right side", "refused 13 at another statement",
+    "refused 14", "refused 14 though it was computed, by what it changes itself",
+];
+
+/// What became of a `cse`.
+fn cse_verdict(program: &Program, mark: &Mark, verdict: u8) -> Option<&'static str> {
+    let e = match mark.kind {
+        Kind::Reuse(e) => e,
+        _ => return None,
+    };
+    let statement = program.statement(mark.number);
+    let source = Statement::Assign(mark.variable, e);
+    Some(match (verdict, statement) {
+        (0, Some(Statement::Assign(z, _))) if *z == mark.variable => {
+            "accepted into the same variable"
+        }
+        (0, _) => "accepted",
+        (11, _) => "refused 11",
+        (12, _) => "refused 12",
+        (13, Some(Statement::Assign(_, right))) if *right == e => {
+            "refused 13 for one operand alone"
+        }
+        (13, Some(Statement::Assign(..))) => "refused 13 for a right side",
+        (13, _) => "refused 13 at another statement",
+        (_, _) if e.mentions(mark.variable) && program.statements().contains(&source) => {
+            "refused 14 though it was computed, by what it changes itself"
+        }
+        _ => "refused 14",
+    })
+}
+
+#[rustfmt::skip]
+const RM_BESIDE_CSE: [&str; 5] = [
+    "refused only by a cse above it", "refused only by a cse below it", "refused by another use too",
+    "accepted beside an accepted cse of its variable", "accepted beside a refused cse that would refuse it",
+];
+
+/// What became of an `rm` in a list that has a `cse` of its variable, where it was judged by its condition.
+fn rm_beside_cse(
+    program: &Program,
+    list: &[Mark],
+    verdicts: &[u8],
+    line: usize,
+) -> Option<&'static str> {
+    let mark = &list[line];
+    let is_of_it = |other: &Mark| other.is_reuse() && other.variable == mark.variable;
+    if !matches!(mark.kind, Kind::Remove(_)) || !list.iter().any(is_of_it) {
+        return None;
+    }
+    let judge = Judge::new(program);
+    let by = |list: &[Mark], verdicts: &[u8]| {
+        judge.verdict_beside(mark, false, &marks::gained_uses(list, verdicts))
+    };
+    let is_reuse_made = || list.iter().zip(verdicts).any(|(other, &v)| v == 0 && is_of_it(other));
+    let as_if_accepted = || {
+        let all: Vec<u8> = verdicts.iter().map(|&v| if v == 11 { 11 } else { 0 }).collect();
+        by(list, &all)
+    };
+    match verdicts[line] {
+        14 if judge.verdict(mark, false) == 14 => Some("refused by another use too"),
+        14 => match (by(&list[..line], verdicts), by(&list[line..], &verdicts[line..])) {
+            (14, 0) => Some("refused only by a cse above it"),
+            (0, 14) => Some("refused only by a cse below it"),
+            _ => None,
+        },
+        0 if is_reuse_made() => Some("accepted beside an accepted cse of its variable"),
+        0 if as_if_accepted() == 14 => Some("accepted beside a refused cse that would refuse it"),
+        _ => None,
+    }
+}
+
+/// The kinds of marks among which some are accepted.
+fn kinds_made(list: &[Mark], verdicts: &[u8]) -> &'static str {
+    let made = |kind: fn(&Kind) -> bool| {
+        list.iter().zip(verdicts).any(|(mark, &verdict)| verdict == 0 && kind(&mark.kind))
+    };
+    let (removed, replaced, reused) = (
+        made(|kind| matches!(kind, Kind::Remove(_))),
+        made(|kind| matches!(kind, Kind::Replace(_))),
+        made(|kind| matches!(kind, Kind::Reuse(_))),
+    );
+    match (removed, replaced, reused) {
+        (true, true, true) => "rm, rpl and cse",
+        (true, false, true) => "rm and cse",
+        (false, true, true) => "rpl and cse",
+        (false, false, true) => "cse alone",
+        (_, _, false) => "no cse",
+    }
+}
+
+const KINDS_MADE: [&str; 5] =
+    ["no cse", "cse alone", "rm and cse", "rpl and cse", "rm, rpl and cse"];
 
 #[rustfmt::skip]
 const MARKS_ON_KEPT: [&str; 7] = [
@@ -1036,13 +1151,13 @@ fn mark_on_kept(program: &Program, mark: &Mark, verdict: u8) -> Option<&'static 
 }
 
 #[rustfmt::skip]
-const MARKS_ON_DIVISIONS: [&str; 14] = [
+const MARKS_ON_DIVISIONS: [&str; 16] = [
     "rm by a constant accepted", "rm by a constant refused 14", "rm by a constant below zero accepted",
     "rm by a variable refused 18, unused", "rm by a variable refused 18, used",
     "rm by 0 refused 18, unused", "rm by 0 refused 18, used", "rm refused 13", "rm refused 12",
     "rpl of a dividend accepted", "rpl of a divisor by a variable accepted",
     "rpl of a divisor by 0 accepted", "rpl of a divisor by another constant accepted",
-    "rpl of a divisor refused 14",
+    "rpl of a divisor refused 14", "cse accepted", "cse refused 14",
 ];
 
 /// What became of a mark on a statement that divides.
@@ -1078,6 +1193,8 @@ fn mark_on_division(program: &Program, mark: &Mark, verdict: u8) -> Option<&'sta
         },
         (Kind::Replace(_), _, 0) if a.mentions(mark.variable) => "rpl of a dividend accepted",
         (Kind::Replace(_), _, 14) if b.mentions(mark.variable) => "rpl of a divisor refused 14",
+        (Kind::Reuse(_), _, 0) => "cse accepted",
+        (Kind::Reuse(_), _, 14) => "cse refused 14",
         _ => return None,
     })
 }
@@ -1113,10 +1230,15 @@ fn judgements_are_as_by_the_oracle_and_keep_runs() {
     let mut runs = Tally::new("runs of both programs", classes);
     let mut on_kept = Tally::new("marks on what is kept", MARKS_ON_KEPT);
     let mut on_divisions = Tally::new("marks on divisions", MARKS_ON_DIVISIONS);
+    let mut cses = Tally::new("cse", CSE_VERDICTS);
+    let mut beside_cse = Tally::new("rm in a list with a cse of its variable", RM_BESIDE_CSE);
+    let mut runs_by_kinds = Tally::new("lists made and run, by what is accepted", KINDS_MADE);
+    let mut reuses = wrong_reuses("wrong cse lines refused");
     let mut program_signs = Signs::new("wrong signs of programs judged", 2);
     let mut mark_signs = Signs::new("wrong signs of marks", 9);
     let mut of_rm = Constants::new("constants of rm");
     let mut of_rpl = Constants::new("constants of rpl");
+    let mut of_cse = Constants::new("constants of cse");
     let mut otherwise = Tally::new("rm of -40 at 0 - 40, or the other way round", [13]);
     let mut too_small = Tally::new("bytes of new text refused 1", [8_192, 8_703]);
     let mut enough = Tally::new("bytes of new text that do", [8_704, 8_705]);
@@ -1130,7 +1252,7 @@ fn judgements_are_as_by_the_oracle_and_keep_runs() {
         });
         let mut list = marks::text(&generate::marks(random, &program, count));
         let mut rooms = (VERDICT_BYTES, TEXT_BYTES);
-        let (mut program_sign, mut mark_sign) = (None, None);
+        let (mut program_sign, mut mark_sign, mut reuse) = (None, None, None);
         if !is_whole(case) {
             match random.below(40) {
                 0..=3 => damaged(random, &mut text, &mut of_programs),
@@ -1142,6 +1264,7 @@ fn judgements_are_as_by_the_oracle_and_keep_runs() {
                 0..=2 => damaged(random, &mut list, &mut of_lists),
                 3 => list = generate::mark_soup(random),
                 4 => mark_sign = wrongly_signed(random, &mut list),
+                5 => reuse = wrongly_reused(random, &mut list),
                 _ => {}
             }
             match random.below(40) {
@@ -1160,6 +1283,9 @@ fn judgements_are_as_by_the_oracle_and_keep_runs() {
         let number = answer.as_ref().err().copied().unwrap_or(0);
         program_signs.met(program_sign, number);
         mark_signs.met(mark_sign, number);
+        if let Some(wrong) = reuse.filter(|_| number == 9) {
+            reuses.met(Shown(wrong));
+        }
         match answer {
             Err(1) if rooms.0 >= VERDICT_BYTES => too_small.met(rooms.1),
             Ok(_) => enough.met(rooms.1),
@@ -1172,8 +1298,15 @@ fn judgements_are_as_by_the_oracle_and_keep_runs() {
                 let list = marks::read(&list).expect("its marks are taken");
                 sizes.met(program.count());
                 counts.met(list.len());
-                for (mark, &verdict) in list.iter().zip(&judged.verdicts) {
+                for (line, mark) in list.iter().enumerate() {
+                    let verdict = judged.verdicts[line];
                     verdicts.met(verdict);
+                    if let Some(class) = cse_verdict(&program, mark, verdict) {
+                        cses.met(class);
+                    }
+                    if let Some(class) = rm_beside_cse(&program, &list, &judged.verdicts, line) {
+                        beside_cse.met(class);
+                    }
                     if let Some(class) = mark_on_kept(&program, mark, verdict) {
                         on_kept.met(class);
                     }
@@ -1193,6 +1326,7 @@ fn judgements_are_as_by_the_oracle_and_keep_runs() {
                             }
                         }
                         Kind::Replace(a) => of_rpl.met(&Expression::Single(a)),
+                        Kind::Reuse(e) => of_cse.met(&e),
                     }
                     if verdict == 0 {
                         let statement = program.statement(mark.number).expect("it has a statement");
@@ -1206,6 +1340,7 @@ fn judgements_are_as_by_the_oracle_and_keep_runs() {
                     _ => "in part",
                 });
                 if made > 0 {
+                    runs_by_kinds.met(kinds_made(&list, &judged.verdicts));
                     runs_stay(random, &case.to_string(), &text, &judged.text, &mut runs);
                 }
             }
@@ -1226,8 +1361,13 @@ fn judgements_are_as_by_the_oracle_and_keep_runs() {
     mark_signs.met.report();
     of_rm.0.report();
     of_rpl.0.report();
+    of_cse.0.report();
     on_kept.report();
     on_divisions.report();
+    cses.report();
+    beside_cse.report();
+    runs_by_kinds.report();
+    reuses.report();
     otherwise.report();
     too_small.report();
     enough.report();
@@ -1308,9 +1448,10 @@ fn lines_of_marks_are_as_by_the_oracle() {
     let mut counts = Tally::new("marks of a list with lines", 0..=256);
     let mut kinds = Tally::new("lines asked for", LINE_KINDS);
     let mut largest = Tally::new("largest line asked for", [u32::MAX]);
-    let mut lengths = Tally::new("bytes of a line", 19..=36);
+    let mut lengths = Tally::new("bytes of a line", 19..=37);
     let mut damages = damages("damages of lists with lines");
     let mut signs = Signs::new("wrong signs of lists with lines", 9);
+    let mut reuses = wrong_reuses("wrong cse lines of lists with lines");
     for (case, mut random) in cases("mark_line") {
         let random = &mut random;
         // The marks needn't fit, so the program is small.
@@ -1321,18 +1462,22 @@ fn lines_of_marks_are_as_by_the_oracle() {
             _ => random.below(16),
         });
         let mut list = marks::text(&generate::marks(random, &program, count));
-        let mut sign = None;
+        let (mut sign, mut reuse) = (None, None);
         if !is_whole(case) {
             match random.below(10) {
                 0..=2 => damaged(random, &mut list, &mut damages),
                 3 => list = generate::mark_soup(random),
                 4 => sign = wrongly_signed(random, &mut list),
+                5 => reuse = wrongly_reused(random, &mut list),
                 _ => {}
             }
         }
         let line = line_near(random, count);
         let answer = mark_line_agrees(random, &case.to_string(), &list, line);
         signs.met(sign, answer.as_ref().err().copied().unwrap_or(0));
+        if let Some(wrong) = reuse.filter(|_| answer == Err(9)) {
+            reuses.met(Shown(wrong));
+        }
         match answer {
             Err(number) => refusals.met(number),
             Ok(bounds) => {
@@ -1351,6 +1496,7 @@ fn lines_of_marks_are_as_by_the_oracle() {
     lengths.report();
     damages.report();
     signs.met.report();
+    reuses.report();
 }
 
 // Whole ranges of cases
@@ -1423,6 +1569,41 @@ fn every_divisor_is_dropped_as_by_the_oracle() {
         }
     }
     verdicts.report();
+}
+
+/// Each variable holds a sum that is computed again into each, is read there and is to go.
+#[test]
+fn every_pair_of_variables_shares_a_sum_as_by_the_oracle() {
+    let random = &mut Random::new(9);
+    let mut alone = Tally::new("verdicts of an rm alone", [0, 14]);
+    let mut of_rm = Tally::new("verdicts of the rm beside the cse", [14]);
+    let mut of_cse = Tally::new("verdicts of the cse", [0, 14]);
+    let mut runs = Tally::new("runs of sums that are shared", ["ended"]);
+    for t in 0..VARIABLES {
+        for z in 0..VARIABLES {
+            let program = format!("read i0\ni{t} := i1 + 5\ni{z} := i1 + 5\nwrite i{z}\n");
+            let rm = format!("2: mark(rm, i{t}, i1 + 5)\n");
+            let cse = format!("3: mark(cse, i{t}, i1 + 5)\n");
+            let mut judged = |list: String| {
+                let rooms = (VERDICT_BYTES, TEXT_BYTES);
+                let text = program.as_bytes();
+                let judged = judgement_agrees(random, &list, text, list.as_bytes(), rooms);
+                let judged = judged.expect("the list is taken");
+                runs_stay(random, &list, text, &judged.text, &mut runs);
+                judged.verdicts
+            };
+            alone.met(judged(rm.clone())[0]);
+            let mut verdicts = judged(format!("{rm}{cse}"));
+            of_rm.met(verdicts[0]);
+            of_cse.met(verdicts[1]);
+            verdicts.reverse();
+            assert_eq!(judged(format!("{cse}{rm}")), verdicts, "{program}");
+        }
+    }
+    alone.report();
+    of_rm.report();
+    of_cse.report();
+    runs.report();
 }
 
 #[test]
@@ -1542,6 +1723,10 @@ const EACH_KIND: &[u8] = b"read i0\ni1 := i0\ni2 := i1 + 7\nif i2 goto 5 else 6\
 /// A program with constants below zero in each place.
 const BELOW_ZERO: &[u8] = b"read i0\ni1 := -2147483648\ni2 := -1 - -40\ni2 := i1 - -7\nwrite i2\n";
 
+/// A program that computes sums twice.
+const TWICE: &[u8] =
+    b"read i0\ni1 := i0 + 1\ni2 := i0 + 1\ni3 := i2 * i1\ni4 := i2 * i1\nwrite i4\n";
+
 /// A program with divisions.
 const DIVIDING: &[u8] = b"read i0\ni1 := i0 / i2\ni2 := -7 / -2\ni1 := 1 / 0\nwrite i2\n";
 
@@ -1559,8 +1744,9 @@ fn programs_edited_by_one_byte_are_as_by_the_oracle() {
 fn conditions_edited_by_one_byte_are_as_by_the_oracle() {
     let random = &mut Random::new(3);
     let mut numbers = Tally::new("answers to edited conditions", [0, 7]);
-    let conditions: [&[u8]; 5] = [
+    let conditions: [&[u8]; 6] = [
         b"AY A[((!def(i2) & trans(7)) & !entry) B stmt(i2 := 7)]",
+        b"AY A[((!def(i3) & trans(i1 + i2)) & !entry) B (stmt(i3 := i1 + i2) & trans(i1 + i2))]",
         b"(trans(i1 / i2) & stmt(i3 := i1 / 0))",
         b"(trans(-7) & stmt(i2 := -2147483648 - -1))",
         b"E[EX exit S (node(4) | AM !stmt(if i0 goto 6 else 8))]",
@@ -1583,9 +1769,12 @@ fn marks_edited_by_one_byte_are_as_by_the_oracle() {
     let list = b"4: mark(rpl, i2, 7)\n3: mark(rm, i2, 7)\n4: mark(rm, i3, i1 + i2)\n";
     let below_zero = b"4: mark(rpl, i2, -2147483648)\n3: mark(rm, i2, -7 - -40)\n";
     let dividing = b"2: mark(rm, i1, i0 / i2)\n3: mark(rm, i2, -7 / -2)\n4: mark(rm, i1, 1 / 0)\n";
+    let twice = b"3: mark(cse, i1, i0 + 1)\n5: mark(cse, i3, i2 * i1)\n4: mark(rm, i3, i2 * i1)\n";
     let rooms = (VERDICT_BYTES, TEXT_BYTES);
     let of_p = edits(list).chain(edits(below_zero)).map(|text| (P.as_bytes(), text));
-    for (program, text) in of_p.chain(edits(dividing).map(|text| (DIVIDING, text))) {
+    let of_others =
+        edits(dividing).map(|text| (DIVIDING, text)).chain(edits(twice).map(|text| (TWICE, text)));
+    for (program, text) in of_p.chain(of_others) {
         for line in [0, 1, 2, 3, u32::MAX] {
             let _ = mark_line_agrees(random, "edit", &text, line);
         }

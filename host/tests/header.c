@@ -136,6 +136,63 @@ static int division_answers(void) {
     return 0;
 }
 
+/* A sum that is computed twice, and what then stays. */
+static int cse_answers(void) {
+    static const char given[] = "read i0\ni1 := i0 + 1\ni2 := i0 + 1\nwrite i2\n";
+    static const char reused[] = "read i0\ni1 := i0 + 1\ni2 := i1\nwrite i2\n";
+    static const char dropped[] = "read i0\nskip\ni2 := i0 + 1\nwrite i2\n";
+    static const char list[] = "2: mark(rm, i1, i0 + 1)\n3: mark(cse, i1, i0 + 1)\n";
+    static const char turned[] = "3: mark(cse, i1, i0 + 1)\n2: mark(rm, i1, i0 + 1)\n";
+    static const char named[] =
+        "3: mark(rm, i2, i0 + 1)\n3: mark(cse, i1, i0 + 1)\n2: mark(rm, i1, i0 + 1)\n";
+    static const char copies[] = "read i0\ni1 := i0\ni2 := i0\nwrite i2\n";
+    static const char single[] = "3: mark(cse, i1, i0)\n", wrong[] = "3: mark(cse, i1, i0 + 1 + 1)\n";
+    static const char dead[] = "!EX E[!def(i1) U use(i1)]";
+    static uint8_t verdicts[256], text[8704];
+    const uint8_t *p = (const uint8_t *)given;
+    const size_t length = strlen(given), line = 24;
+    const uint32_t values[32] = {0};
+    uint64_t table[256] = {0};
+    uint32_t ended, steps, statement, left[32], kept[8], first, second, third;
+    size_t begin, end;
+    int32_t value;
+
+    CHECK(rewrites_judge(p, length, (const uint8_t *)list, strlen(list), verdicts, 256, text, 8704,
+                         &first, &second, &third) == 0);
+    CHECK(first == 2 && second == 1 && third == strlen(reused));
+    CHECK(verdicts[0] == 14 && verdicts[1] == 0);
+    CHECK(memcmp(text, reused, strlen(reused)) == 0);
+    CHECK(rewrites_run(text, third, values, 4, 4, &ended, &value, &steps, &statement, left, kept) == 0);
+    CHECK(ended == 1 && value == 5 && steps == 4);
+    CHECK(rewrites_judge(p, length, (const uint8_t *)turned, strlen(turned), verdicts, 256, text, 8704,
+                         &first, &second, &third) == 0);
+    CHECK(verdicts[0] == 0 && verdicts[1] == 14 && third == strlen(reused));
+    CHECK(memcmp(text, reused, strlen(reused)) == 0);
+
+    /* The rm by itself, by its condition's table too, and beside a cse that isn't accepted. */
+    CHECK(rewrites_judge(p, length, (const uint8_t *)list, line, verdicts, 256, text, 8704, &first,
+                         &second, &third) == 0);
+    CHECK(first == 1 && second == 1 && verdicts[0] == 0 && third == strlen(dropped));
+    CHECK(memcmp(text, dropped, strlen(dropped)) == 0);
+    CHECK(rewrites_tabulate(p, length, (const uint8_t *)dead, strlen(dead), table, 256, &first, &second,
+                            &third) == 0);
+    CHECK(first == 6 && (table[4 * 5] & 2) == 2);
+    CHECK(rewrites_judge(p, length, (const uint8_t *)named, strlen(named), verdicts, 256, text, 8704,
+                         &first, &second, &third) == 0);
+    CHECK(verdicts[0] == 14 && verdicts[1] == 12 && verdicts[2] == 0 && third == strlen(dropped));
+
+    /* One operand doesn't fit; three are misspelled. */
+    CHECK(rewrites_judge((const uint8_t *)copies, strlen(copies), (const uint8_t *)single,
+                         strlen(single), verdicts, 256, text, 8704, &first, &second, &third) == 0);
+    CHECK(first == 1 && second == 0 && verdicts[0] == 13 && third == strlen(copies));
+    CHECK(rewrites_judge(p, length, (const uint8_t *)wrong, strlen(wrong), verdicts, 256, text, 8704,
+                         &first, &second, &third) == 9);
+    CHECK(rewrites_mark_line((const uint8_t *)list, strlen(list), 1, &begin, &end) == 0);
+    CHECK(begin == line && end == strlen(list));
+    CHECK(rewrites_mark_line((const uint8_t *)wrong, strlen(wrong), 0, &begin, &end) == 9);
+    return 0;
+}
+
 static int tabulate_answers(void) {
     uint8_t (*const tabulate)(const uint8_t *, size_t, const uint8_t *, size_t, uint64_t *, size_t,
                               uint32_t *, uint32_t *, uint32_t *) = rewrites_tabulate;
@@ -379,7 +436,7 @@ static int mark_line_answers(void) {
 }
 
 int main(void) {
-    return run_answers() || kept_answers() || division_answers() || tabulate_answers() ||
-           review_answers() || full_review_answers() || judge_answers() || below_zero_answers() ||
-           mark_line_answers();
+    return run_answers() || kept_answers() || division_answers() || cse_answers() ||
+           tabulate_answers() || review_answers() || full_review_answers() || judge_answers() ||
+           below_zero_answers() || mark_line_answers();
 }

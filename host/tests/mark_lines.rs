@@ -98,8 +98,9 @@ fn marks_up_to_256_have_their_lines_and_257_are_refused_10() {
     for (line, bytes) in [
         ("0: mark(rm, i0, 0)", 19),
         ("2147483647: mark(rm, i31, 2147483647 + 2147483647)", 51),
-        // The longest.
         ("2147483647: mark(rm, i31, -2147483648 + -2147483648)", 53),
+        // The longest.
+        ("2147483647: mark(cse, i31, -2147483648 + -2147483648)", 54),
     ] {
         for count in [1, 2, 255, MOST_MARKS] {
             let list = repeated(line, count);
@@ -130,6 +131,10 @@ fn lines_of_every_length_lie_end_to_end() {
             ["0", "i31", "-40", "i0 + i1", "-2147483648 < 2147483647"]
                 .map(|right| format!("{}: mark(rm, i9, {})", n, right))
         })
+        .chain(
+            ["9: mark(rpl, i31, -40)", "9: mark(cse, i9, i0)", "10: mark(cse, i9, i0 + i1)"]
+                .map(Into::into),
+        )
         .collect();
     let list = text(&marks);
     let mut begin = 0;
@@ -167,7 +172,11 @@ fn the_list_ends_at_its_length() {
 
 #[test]
 fn a_misspelled_line_is_refused_9_whichever_is_asked_for() {
-    let bad = ["", " ", "x", "4: mark(rm, i2)", "4: mark(rm, i2, 7)\r", "4: mark(rm, i2, -0)"];
+    #[rustfmt::skip]
+    let bad = [
+        "", " ", "x", "4: mark(rm, i2)", "4: mark(rm, i2, 7)\r", "4: mark(rm, i2, -0)", "4: mark(cs, i2, 7)",
+        "4: mark(cse, i2, i0 + 1 + 2)", "4: mark(cse, i2, i0 +)",
+    ];
     for bad in bad {
         for at in 0..=5 {
             let mut marks: Vec<&str> = std::str::from_utf8(LIST).expect("a text").lines().collect();

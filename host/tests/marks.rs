@@ -398,6 +398,20 @@ const MISSPELLED: &[&str] = &[
     // `rpl` takes no two operands.
     "4: mark(rpl, i2, 3 + 4)", "4: mark(rpl, i2, i0 - 1)", "4: mark(rpl, i1, i0 + 0)",
     "4: mark(rpl, i2, 14 / 2)", "4: mark(rpl, i1, i0 / 1)",
+    // `cse` takes one or two.
+    "4: mark(cse, i2, i1 + i2 + i3)", "4: mark(cse, i2, 1 + 2 + 3)", "4: mark(cse, i2, )",
+    "4: mark(cse, i2)", "4: mark(cse, i2, i1 +)", "4: mark(cse, i2, + i1)", "4: mark(cse, i2, i1+i2)",
+    "4: mark(cse, i2, i1 +i2)", "4: mark(cse, i2, i1 % i2)", "4: mark(cse, i2, (i1 + i2))",
+    "4: mark(cse, i2, i3 := i1 + i2)", "4: mark(cse, i2, i1 + i2, 7)", "4: mark(cse, i2, i1, i2)",
+    "4: mark(cse, i2, i1 + i32)", "4: mark(cse, i32, i1 + i2)", "4: mark(cse, 7, i1 + i2)",
+    "4: mark(cse, i2, i1 + i2) ", "4: mark(cse, i2, i1 + i2))", "4: mark(cse, i2, i1 + i2",
+    "4: mark(cse i2, i1 + i2)", "4: mark(cse,i2, i1 + i2)", "4: mark(cse, i2,i1 + i2)",
+    "4: mark(cse , i2, i1 + i2)", "4: mark( cse, i2, i1 + i2)", "4: mark(cse,  i2, i1 + i2)",
+    "4: mark(cs, i2, i1 + i2)", "4: mark(se, i2, i1 + i2)", "4: mark(csee, i2, i1 + i2)",
+    "4: mark(ccse, i2, i1 + i2)", "4: mark(ces, i2, i1 + i2)", "4: mark(CSE, i2, i1 + i2)",
+    "4: mark(Cse, i2, i1 + i2)", "4: mark(rse, i2, i1 + i2)", "4: mark(cpl, i2, i1)",
+    "4: mark(cm, i2, i1)", "4: mark(rcse, i2, i1 + i2)", "4: mark(crm, i2, i1)", "4: mark(c, i2, i1)",
+    "-4: mark(cse, i2, i1 + i2)", "04: mark(cse, i2, i1 + i2)", "4 mark(cse, i2, i1 + i2)",
 ];
 
 #[test]
@@ -419,7 +433,11 @@ fn misspelled_lines_are_refused_9() {
 #[test]
 fn a_dropped_byte_is_refused_9_unless_a_mark_is_left() {
     // `i1 + 7` without its `i` is `1 + 7`.
-    for (line, left) in [("4: mark(rpl, i2, 7)", None), ("4: mark(rm, i2, i1 + 7)", Some(16))] {
+    for (line, left) in [
+        ("4: mark(rpl, i2, 7)", None),
+        ("4: mark(rm, i2, i1 + 7)", Some(16)),
+        ("4: mark(cse, i2, i1 + 7)", Some(17)),
+    ] {
         for at in 0..line.len() {
             let mut damaged = line.to_string();
             damaged.remove(at);
@@ -430,7 +448,7 @@ fn a_dropped_byte_is_refused_9_unless_a_mark_is_left() {
 
 #[test]
 fn a_doubled_byte_is_refused_9_unless_it_is_a_digit() {
-    for line in ["4: mark(rpl, i2, 7)", "4: mark(rm, i2, i1 + 7)"] {
+    for line in ["4: mark(rpl, i2, 7)", "4: mark(rm, i2, i1 + 7)", "4: mark(cse, i2, i1 + 7)"] {
         for (at, byte) in line.bytes().enumerate() {
             let mut damaged = line.to_string();
             damaged.insert(at, byte.into());
@@ -444,17 +462,22 @@ fn spelled_marks_of_each_kind_are_taken() {
     for x in 0..32 {
         assert_number(&text(&[format!("4: mark(rm, i{}, i{})", x, 31 - x)]), 0);
         assert_number(&text(&[format!("4: mark(rpl, i{}, i{})", x, 31 - x)]), 0);
+        assert_number(&text(&[format!("4: mark(cse, i{}, i{})", x, 31 - x)]), 0);
     }
     for a in ["0", "1", "10", "2147483647", "i0", "i31"] {
         assert_number(&text(&[format!("4: mark(rm, i2, {})", a)]), 0);
         assert_number(&text(&[format!("4: mark(rpl, i2, {})", a)]), 0);
+        assert_number(&text(&[format!("4: mark(cse, i2, {})", a)]), 0);
         for o in ["+", "-", "*", "/", "<", "="] {
             assert_number(&text(&[format!("4: mark(rm, i2, {} {} i9)", a, o)]), 0);
             assert_number(&text(&[format!("4: mark(rm, i2, 5 {} {})", o, a)]), 0);
+            assert_number(&text(&[format!("4: mark(cse, i2, {} {} i9)", a, o)]), 0);
+            assert_number(&text(&[format!("4: mark(cse, i2, 5 {} {})", o, a)]), 0);
         }
     }
     for n in ["0", "1", "8", "9", "10", "99", "256", "257", "1000000000", "2147483647"] {
         assert_number(&text(&[format!("{}: mark(rm, i2, 7)", n)]), 0);
+        assert_number(&text(&[format!("{}: mark(cse, i2, i1 + 7)", n)]), 0);
     }
 }
 
@@ -473,12 +496,15 @@ fn numbers_over_2147483647_are_refused_9() {
 }
 
 /// Marks with a constant in each place that takes one, spelled C.
-const CONSTANT_PLACES: [&str; 5] = [
+const CONSTANT_PLACES: [&str; 8] = [
     "4: mark(rm, i2, C)",
     "4: mark(rm, i2, C + i1)",
     "4: mark(rm, i2, i1 - C)",
     "4: mark(rm, i2, C = C)",
     "4: mark(rpl, i2, C)",
+    "4: mark(cse, i2, C)",
+    "4: mark(cse, i2, i1 - C)",
+    "4: mark(cse, i2, C = C)",
 ];
 
 fn assert_number_at_places(constant: &str, expected: u8) {
@@ -1360,6 +1386,514 @@ fn both_arms_of_an_if_set_what_is_kept() {
     assert_judged(&beside, &marks, &[]);
 }
 
+// Work done twice: `cse`, and an `rm` in the same list
+
+/// The program of which the request speaks: 3 computes what i1 holds since 2.
+const TWICE: [&str; 4] = ["read i0", "i1 := i0 + 1", "i2 := i0 + 1", "write i2"];
+const REUSED: (&str, u8) = ("3: mark(cse, i1, i0 + 1)", 0);
+const MADE: (usize, &str) = (3, "i2 := i1");
+const DROPPED: (usize, &str) = (2, "skip");
+
+/// The mark that drops 2, with this verdict.
+fn rm_of_2(verdict: u8) -> (&'static str, u8) {
+    ("2: mark(rm, i1, i0 + 1)", verdict)
+}
+
+#[test]
+fn cse_puts_the_variable_for_the_right_side() {
+    assert_judged(&TWICE, &[REUSED], &[MADE]);
+    for o in ["+", "-", "*", "/", "<", "="] {
+        for (a, b) in [("i0", "1"), ("i3", "i4"), ("5", "6"), ("-7", "i31"), ("i5", "i5")] {
+            let [source, again] = ["i1", "i2"].map(|x| format!("{} := {} {} {}", x, a, o, b));
+            let program = ["read i0", &source, "skip", &again, "write i2"];
+            let mark = format!("4: mark(cse, i1, {} {} {})", a, o, b);
+            assert_judged(&program, &[(&mark, 0)], &[(4, "i2 := i1")]);
+        }
+    }
+    // Statements behind it use what it stores.
+    let program = ["read i0", "i1 := i0 * i0", "i2 := i0 * i0", "i3 := i2 + i1", "write i3"];
+    assert_judged(&program, &[("3: mark(cse, i1, i0 * i0)", 0)], &[(3, "i2 := i1")]);
+    assert_eq!(value(&program, 3), 18);
+    assert_eq!(value(&changed(&program, &[(3, "i2 := i1")]), 3), 18);
+}
+
+#[test]
+fn cse_fits_the_same_right_side_of_two_operands() {
+    // 14 shows that the mark fits: whether 3 computes what T holds is asked by the condition.
+    for fitting in
+        ["3: mark(cse, i2, i0 + 1)", "3: mark(cse, i0, i0 + 1)", "3: mark(cse, i31, i0 + 1)"]
+    {
+        assert_judged(&TWICE, &[(fitting, 14)], &[]);
+    }
+    for unfit in [
+        // Another order, operator or operand.
+        "3: mark(cse, i1, 1 + i0)",
+        "3: mark(cse, i1, i0 - 1)",
+        "3: mark(cse, i1, i0 + 2)",
+        "3: mark(cse, i1, i0 + -1)",
+        "3: mark(cse, i1, i1 + 1)",
+        "3: mark(cse, i1, i0)",
+        "3: mark(cse, i1, 1)",
+        // No assignment.
+        "1: mark(cse, i1, i0 + 1)",
+        "4: mark(cse, i1, i0 + 1)",
+        "4: mark(cse, i1, i2)",
+    ] {
+        assert_judged(&TWICE, &[(unfit, 13)], &[]);
+    }
+    let program = ["read i0", "i1 := i0 + 1", "skip", "if i0 goto 5 else 5", "write i1"];
+    assert_judged(&program, &[("3: mark(cse, i1, i0 + 1)", 13)], &[]);
+    assert_judged(&program, &[("4: mark(cse, i1, i0 + 1)", 13)], &[]);
+    assert_judged(&program, &[("4: mark(cse, i1, i0)", 13)], &[]);
+    // 11 comes before 13, 12 too.
+    assert_judged(&TWICE, &[("0: mark(cse, i1, i0)", 11), ("5: mark(cse, i1, i0)", 11)], &[]);
+    assert_judged(&TWICE, &[REUSED, ("3: mark(cse, i1, i0)", 12)], &[MADE]);
+}
+
+#[test]
+fn cse_of_one_operand_is_spelled_and_gets_13() {
+    for right in ["i0", "7", "-40", "0", "i31"] {
+        let [source, again] = ["i1", "i2"].map(|x| format!("{} := {}", x, right));
+        let program = ["read i0", &source, &again, "write i2"];
+        let mark = format!("3: mark(cse, i1, {})", right);
+        assert!(holds(&program, &published(&mark), 3), "{}", mark);
+        assert_judged(&program, &[(&mark, 13)], &[]);
+    }
+}
+
+#[test]
+fn cse_is_refused_where_t_may_hold_something_else() {
+    // 3 changes the operand of the right side that 2 itself computes: with 9 it is 0, then 1.
+    assert_refused_rightly(
+        &["read i0", "i0 := i0 < 7", "i0 := i0 < 7", "write i0"],
+        "3: mark(cse, i0, i0 < 7)",
+        "AY A[((!def(i0) & trans(i0 < 7)) & !entry) B stmt(i0 := i0 < 7)]",
+        (3, "i0 := i0"),
+        9,
+        [1, 0],
+    );
+    // Nothing computes it before.
+    assert_refused_rightly(
+        &["read i0", "i1 := i2 * 3", "write i1"],
+        "2: mark(cse, i3, i2 * 3)",
+        "AY A[(!def(i3) & trans(i2 * 3)) B (stmt(i3 := i2 * 3) & trans(i2 * 3))]",
+        (2, "i1 := i3"),
+        0,
+        [3006, 1003],
+    );
+    // An operand is set in between.
+    assert_refused_rightly(
+        &["read i0", "i1 := i0 + 1", "i0 := 5", "i2 := i0 + 1", "write i2"],
+        "4: mark(cse, i1, i0 + 1)",
+        "AY A[(!def(i1) & !entry) B (stmt(i1 := i0 + 1) & trans(i0 + 1))]",
+        (4, "i2 := i1"),
+        2,
+        [6, 3],
+    );
+    // T is.
+    assert_refused_rightly(
+        &["read i0", "i1 := i0 + 1", "i1 := 9", "i2 := i0 + 1", "write i2"],
+        "4: mark(cse, i1, i0 + 1)",
+        "AY A[(trans(i0 + 1) & !entry) B (stmt(i1 := i0 + 1) & trans(i0 + 1))]",
+        (4, "i2 := i1"),
+        2,
+        [3, 9],
+    );
+    // It is asked before the statement.
+    assert_refused_rightly(
+        &["read i0", "i1 := i0 + 1", "write i1"],
+        "2: mark(cse, i1, i0 + 1)",
+        "A[((!def(i1) & trans(i0 + 1)) & !entry) B (stmt(i1 := i0 + 1) & trans(i0 + 1))]",
+        (2, "i1 := i1"),
+        2,
+        [3, 1001],
+    );
+    // `i2 + i0` is another right side.
+    let program = ["read i0", "i1 := i0 + i2", "i3 := i2 + i0", "write i3"];
+    assert_judged(&program, &[("3: mark(cse, i1, i2 + i0)", 14)], &[]);
+    assert_judged(&program, &[("3: mark(cse, i1, i0 + i2)", 13)], &[]);
+}
+
+#[test]
+fn cse_asks_every_path() {
+    // T is set anew on one arm.
+    let program =
+        ["read i0", "i1 := i0 + 1", "if i0 goto 4 else 5", "i1 := 3", "i2 := i0 + 1", "write i2"];
+    let e = "((!def(i1) & trans(i0 + 1)) & !entry) B (stmt(i1 := i0 + 1) & trans(i0 + 1))";
+    for other in [format!("EY E[{}]", e), format!("EY A[{}]", e)] {
+        let mark = "5: mark(cse, i1, i0 + 1)";
+        assert_refused_rightly(&program, mark, &other, (5, "i2 := i1"), 7, [8, 3]);
+    }
+    // An operand is.
+    let program =
+        ["read i0", "i1 := i0 + 1", "if i0 goto 4 else 5", "i0 := 3", "i2 := i0 + 1", "write i2"];
+    let mark = "5: mark(cse, i1, i0 + 1)";
+    assert_refused_rightly(&program, mark, &format!("EY E[{}]", e), (5, "i2 := i1"), 7, [4, 8]);
+    // The arms meet one statement before.
+    let program = [
+        "read i0",
+        "i1 := i0 + 1",
+        "if i0 goto 4 else 5",
+        "i1 := 3",
+        "skip",
+        "i2 := i0 + 1",
+        "write i2",
+    ];
+    let mark = "6: mark(cse, i1, i0 + 1)";
+    assert_refused_rightly(&program, mark, &format!("AY E[{}]", e), (6, "i2 := i1"), 7, [8, 3]);
+    // Computed on both arms, and on one.
+    let both = [
+        "read i0",
+        "if i0 goto 3 else 5",
+        "i1 := i0 + 1",
+        "if i0 goto 6 else 6",
+        "i1 := i0 + 1",
+        "i2 := i0 + 1",
+        "write i2",
+    ];
+    assert_judged_in_any_order(
+        &both,
+        &[
+            ("6: mark(cse, i1, i0 + 1)", 0),
+            ("3: mark(rm, i1, i0 + 1)", 14),
+            ("5: mark(rm, i1, i0 + 1)", 14),
+        ],
+        &[(6, "i2 := i1")],
+    );
+    for marks in [[("3: mark(rm, i1, i0 + 1)", 0)], [("5: mark(rm, i1, i0 + 1)", 0)]] {
+        assert_judged(&both, &marks, &[(marks[0].0[..1].parse().expect("a number"), "skip")]);
+    }
+    let one = changed(&both, &[(5, "skip")]);
+    assert_judged(&one, &[("6: mark(cse, i1, i0 + 1)", 14)], &[]);
+}
+
+#[test]
+fn a_sum_before_a_loop_is_held_in_it() {
+    let program = [
+        "read i0",
+        "i1 := i2 * i3",
+        "i4 := i2 * i3",
+        "i0 := i0 - 1",
+        "if i0 goto 3 else 6",
+        "write i4",
+    ];
+    let with = |letter: &str| {
+        format!(
+            "AY A[((!def(i1) & trans(i2 * i3)) & !entry) {} (stmt(i1 := i2 * i3) & trans(i2 * i3))]",
+            letter
+        )
+    };
+    assert!(holds(&program, &with("B"), 3) && !holds(&program, &with("S"), 3));
+    assert_judged_in_any_order(
+        &program,
+        &[("3: mark(cse, i1, i2 * i3)", 0), ("2: mark(rm, i1, i2 * i3)", 14)],
+        &[(3, "i4 := i1")],
+    );
+    // What the loop sets for the next round is read there too.
+    let program = [
+        "read i0",
+        "i1 := i2 * i3",
+        "i4 := i2 * i3",
+        "i1 := i2 * i3",
+        "i0 := i0 - 1",
+        "if i0 goto 3 else 7",
+        "write i4",
+    ];
+    assert_judged_in_any_order(
+        &program,
+        &[
+            ("3: mark(cse, i1, i2 * i3)", 0),
+            ("2: mark(rm, i1, i2 * i3)", 14),
+            ("4: mark(rm, i1, i2 * i3)", 14),
+        ],
+        &[(3, "i4 := i1")],
+    );
+    // An operand that the loop sets.
+    let program = changed(&program, &[(5, "i2 := i2 - 1"), (6, "if i2 goto 3 else 7")]);
+    assert_judged(&program, &[("3: mark(cse, i1, i2 * i3)", 14)], &[]);
+}
+
+#[test]
+fn rm_stays_where_a_cse_of_the_list_reads_its_variable() {
+    assert_judged(&TWICE, &[rm_of_2(14), REUSED], &[MADE]);
+    assert_judged(&TWICE, &[REUSED, rm_of_2(14)], &[MADE]);
+    assert_judged(&TWICE, &[rm_of_2(0)], &[DROPPED]);
+    // The condition of the `rm`, by itself, is true: with both made, i1 is what it was.
+    assert!(holds(&TWICE, &published(rm_of_2(14).0), 2));
+    assert_eq!([value(&TWICE, 4), value(&changed(&TWICE, &[DROPPED, MADE]), 4)], [5, 1001]);
+    // The rewritten program shows the use.
+    let new = changed(&TWICE, &[MADE]);
+    assert_judged(&new, &[rm_of_2(14)], &[]);
+}
+
+#[test]
+fn a_cse_on_a_statement_that_an_earlier_line_names_adds_no_use() {
+    let earlier = "3: mark(rm, i2, i0 + 1)";
+    let repeated = (REUSED.0, 12);
+    assert_judged(&TWICE, &[(earlier, 14), repeated, rm_of_2(0)], &[DROPPED]);
+    assert_judged(&TWICE, &[(earlier, 14), rm_of_2(0), repeated], &[DROPPED]);
+    assert_judged(&TWICE, &[rm_of_2(0), (earlier, 14), repeated], &[DROPPED]);
+    // Where it comes first, the other gets 12.
+    assert_judged(&TWICE, &[REUSED, (earlier, 12), rm_of_2(14)], &[MADE]);
+    assert_judged(&TWICE, &[rm_of_2(14), REUSED, (earlier, 12)], &[MADE]);
+    // An unfit `cse` names 3 as well.
+    let unfit = ("3: mark(cse, i1, i0 + 2)", 13);
+    assert_judged(&TWICE, &[unfit, repeated, rm_of_2(0)], &[DROPPED]);
+}
+
+#[test]
+fn a_cse_that_is_refused_adds_no_use() {
+    // 14: 3 sets i0.
+    assert_judged_in_any_order(
+        &["read i0", "i1 := i0 + 1", "i0 := 3", "i2 := i0 + 1", "write i2"],
+        &[("4: mark(cse, i1, i0 + 1)", 14), rm_of_2(0)],
+        &[DROPPED],
+    );
+    // 13: another right side, one operand, no assignment.
+    let program = ["read i0", "i1 := i0 + 1", "i2 := i0 + 2", "write i2"];
+    for unfit in ["3: mark(cse, i1, i0 + 1)", "3: mark(cse, i1, i0)", "4: mark(cse, i1, i0 + 1)"] {
+        assert_judged_in_any_order(&program, &[(unfit, 13), rm_of_2(0)], &[DROPPED]);
+    }
+    assert_judged_in_any_order(
+        &["read i0", "i1 := i0", "i2 := i0", "write i2"],
+        &[("3: mark(cse, i1, i0)", 13), ("2: mark(rm, i1, i0)", 0)],
+        &[DROPPED],
+    );
+    // 11.
+    for lacking in
+        ["0: mark(cse, i1, i0 + 1)", "5: mark(cse, i1, i0 + 1)", "259: mark(cse, i1, i0 + 1)"]
+    {
+        assert_judged_in_any_order(&TWICE, &[(lacking, 11), rm_of_2(0)], &[DROPPED]);
+    }
+}
+
+#[test]
+fn the_use_that_a_cse_adds_is_of_its_variable_at_its_statement() {
+    // i3 holds the sum too, and is the one that is read.
+    assert_judged_in_any_order(
+        &["read i0", "i1 := i0 + 1", "i3 := i0 + 1", "i2 := i0 + 1", "write i2"],
+        &[("4: mark(cse, i3, i0 + 1)", 0), rm_of_2(0), ("3: mark(rm, i3, i0 + 1)", 14)],
+        &[DROPPED, (4, "i2 := i3")],
+    );
+    // 4 stores for nothing: no path from it comes to 3.
+    assert_judged_in_any_order(
+        &["read i0", "i1 := i0 + 1", "i2 := i0 + 1", "i1 := 4", "write i2"],
+        &[REUSED, ("4: mark(rm, i1, 4)", 0), rm_of_2(14)],
+        &[MADE, (4, "skip")],
+    );
+    // 2 stores into the variable that 4 sets, which is no use of it.
+    assert_judged_in_any_order(
+        &["read i0", "i2 := 9", "i1 := i0 + 1", "i2 := i0 + 1", "write i2"],
+        &[("4: mark(cse, i1, i0 + 1)", 0), ("2: mark(rm, i2, 9)", 0)],
+        &[(2, "skip"), (4, "i2 := i1")],
+    );
+    // i1 before it is set: 3 stops the use at 4.
+    assert_judged_in_any_order(
+        &["read i0", "i1 := 9", "i1 := i0 + 1", "i2 := i0 + 1", "write i2"],
+        &[
+            ("4: mark(cse, i1, i0 + 1)", 0),
+            ("2: mark(rm, i1, 9)", 0),
+            ("3: mark(rm, i1, i0 + 1)", 14),
+        ],
+        &[(2, "skip"), (4, "i2 := i1")],
+    );
+    // What the given program uses is used, whatever is read.
+    assert_judged_in_any_order(
+        &["read i0", "i3 := 4", "i1 := i3 + 1", "i2 := i3 + 1", "write i2"],
+        &[("4: mark(cse, i1, i3 + 1)", 0), ("2: mark(rm, i3, 4)", 14)],
+        &[(4, "i2 := i1")],
+    );
+    // A table of the same program knows nothing of it.
+    assert!(!holds(&TWICE, "use(i1)", 3) && holds(&TWICE, "use(i0)", 3));
+}
+
+#[test]
+fn cse_into_the_same_variable_or_an_operand() {
+    // 3 sets i1 and reads it.
+    assert_judged_in_any_order(
+        &["read i0", "i1 := i0 + 1", "i1 := i0 + 1", "write i1"],
+        &[REUSED, rm_of_2(14)],
+        &[(3, "i1 := i1")],
+    );
+    let program = ["read i0", "i1 := i0 + 1", "i1 := i0 + 1", "write i1"];
+    assert_judged(&program, &[rm_of_2(0)], &[DROPPED]);
+    // 3 sets i0, after it is summed.
+    assert_judged_in_any_order(
+        &["read i0", "i1 := i0 + 1", "i0 := i0 + 1", "write i0"],
+        &[REUSED, rm_of_2(14)],
+        &[(3, "i0 := i1")],
+    );
+    // Constants alone.
+    assert_judged_in_any_order(
+        &["read i0", "i1 := 5 + 6", "i2 := 5 + 6", "write i2"],
+        &[("3: mark(cse, i1, 5 + 6)", 0), ("2: mark(rm, i1, 5 + 6)", 14)],
+        &[MADE],
+    );
+}
+
+#[test]
+fn cse_of_a_division() {
+    // Where 2 faults, 3 isn't reached.
+    assert_judged_in_any_order(
+        &["read i0", "i1 := i0 / i2", "i3 := i0 / i2", "write i3"],
+        &[("3: mark(cse, i1, i0 / i2)", 0), ("2: mark(rm, i1, i0 / i2)", 18)],
+        &[(3, "i3 := i1")],
+    );
+    assert_judged_in_any_order(
+        &["read i0", "i1 := i0 / 0", "i3 := i0 / 0", "write i3"],
+        &[("3: mark(cse, i1, i0 / 0)", 0), ("2: mark(rm, i1, i0 / 0)", 18)],
+        &[(3, "i3 := i1")],
+    );
+    assert_judged_in_any_order(
+        &["read i0", "i1 := i0 / 2", "i3 := i0 / 2", "write i3"],
+        &[("3: mark(cse, i1, i0 / 2)", 0), ("2: mark(rm, i1, i0 / 2)", 14)],
+        &[(3, "i3 := i1")],
+    );
+    // 18 is of `rm` alone.
+    let program = ["read i0", "i1 := i0 / i2", "write i1"];
+    assert_judged(&program, &[("2: mark(cse, i3, i0 / i2)", 14)], &[]);
+    assert_judged(&program, &[("2: mark(cse, i3, i0 / i3)", 13)], &[]);
+}
+
+#[test]
+fn cse_by_a_variable_that_is_kept() {
+    // 4 sets it again before the end, so that alone 2 may go.
+    let program = ["read i0", "i24 := i0 + 1", "i2 := i0 + 1", "i24 := 3", "write i2"];
+    assert_judged_in_any_order(
+        &program,
+        &[("3: mark(cse, i24, i0 + 1)", 0), ("2: mark(rm, i24, i0 + 1)", 14)],
+        &[(3, "i2 := i24")],
+    );
+    assert_judged(&program, &[("2: mark(rm, i24, i0 + 1)", 0)], &[DROPPED]);
+    // A kept variable is set by the reuse, and kept.
+    let program = ["read i0", "i1 := i0 + 1", "i31 := i0 + 1", "write i0"];
+    assert_judged_in_any_order(&program, &[REUSED, rm_of_2(14)], &[(3, "i31 := i1")]);
+    assert_eq!(kept(&changed(&program, &[(3, "i31 := i1")]), 3), given_kept(&[(31, 4)]));
+}
+
+#[test]
+fn cse_at_an_unreachable_statement() {
+    // 3 steps back to itself for ever.
+    let program = ["read i0", "if i0 goto 4 else 4", "i1 := i2 + 3", "write i0"];
+    assert_judged(&program, &[("3: mark(cse, i5, i2 + 3)", 0)], &[(3, "i1 := i5")]);
+    // Not where it sets an operand.
+    let program = changed(&program, &[(3, "i2 := i2 + 3")]);
+    assert_judged(&program, &[("3: mark(cse, i5, i2 + 3)", 14)], &[]);
+    // 4 comes from 3 alone, and no run comes to either.
+    let program = ["read i0", "if i0 goto 5 else 5", "i1 := i2 + 3", "i4 := i2 + 3", "write i0"];
+    assert_judged_in_any_order(
+        &program,
+        &[("4: mark(cse, i1, i2 + 3)", 0), ("3: mark(rm, i1, i2 + 3)", 14)],
+        &[(4, "i4 := i1")],
+    );
+    assert_judged(&program, &[("3: mark(rm, i1, i2 + 3)", 0)], &[(3, "skip")]);
+    // 4 stands before 5 as well, and sets i1 otherwise.
+    let program =
+        ["read i0", "i1 := i0 + 1", "if i0 goto 5 else 5", "i1 := 4", "i2 := i0 + 1", "write i2"];
+    assert_judged(&program, &[("5: mark(cse, i1, i0 + 1)", 14)], &[]);
+}
+
+#[test]
+fn a_sum_counts_though_it_is_rewritten() {
+    // Each is judged on the given program: 3 is made a copy, and computes the sum for 4 all the same.
+    let program = ["read i0", "i1 := i0 + 1", "i2 := i0 + 1", "i3 := i0 + 1", "write i3"];
+    assert_judged_in_any_order(
+        &program,
+        &[REUSED, ("4: mark(cse, i2, i0 + 1)", 0), rm_of_2(14)],
+        &[MADE, (4, "i3 := i2")],
+    );
+    assert_judged_in_any_order(
+        &program,
+        &[REUSED, ("4: mark(cse, i1, i0 + 1)", 0), rm_of_2(14)],
+        &[MADE, (4, "i3 := i1")],
+    );
+    // 4 reads what 3 stores.
+    assert_judged_in_any_order(
+        &program,
+        &[("3: mark(rm, i2, i0 + 1)", 14), ("4: mark(cse, i2, i0 + 1)", 0), rm_of_2(0)],
+        &[DROPPED, (4, "i3 := i2")],
+    );
+    // In the source an operand is replaced.
+    assert_judged_in_any_order(
+        &["read i0", "i5 := i0", "i1 := i5 + 1", "i2 := i5 + 1", "write i2"],
+        &[
+            ("3: mark(rpl, i5, i0)", 0),
+            ("4: mark(cse, i1, i5 + 1)", 0),
+            ("2: mark(rm, i5, i0)", 14),
+        ],
+        &[(3, "i1 := i0 + 1"), (4, "i2 := i1")],
+    );
+    // Once the copy is made, 3 is no sum.
+    let new = changed(&program, &[MADE]);
+    assert_judged(&new, &[("3: mark(cse, i1, i0 + 1)", 13)], &[]);
+    assert_judged(&new, &[("4: mark(cse, i2, i0 + 1)", 14)], &[]);
+    assert_judged(&new, &[("4: mark(cse, i1, i0 + 1)", 0)], &[(4, "i3 := i1")]);
+}
+
+#[test]
+fn marks_of_all_three_kinds_are_made_together() {
+    let program = [
+        "read i0",
+        "i1 := i0 + 1",
+        "i2 := i0 + 1",
+        "i3 := 7",
+        "i4 := i2 * i3",
+        "i6 := i3",
+        "i5 := i4",
+        "write i5",
+    ];
+    assert_judged_in_any_order(
+        &program,
+        &[
+            REUSED,
+            ("5: mark(rpl, i3, 7)", 0),
+            rm_of_2(14),
+            // Never used.
+            ("6: mark(rm, i6, i3)", 0),
+            ("8: mark(rpl, i5, i4)", 0),
+            // Used at 5.
+            ("4: mark(rm, i3, 7)", 14),
+        ],
+        &[MADE, (5, "i4 := i2 * 7"), (6, "skip"), (8, "write i4")],
+    );
+}
+
+/// Lines with their verdicts, lent.
+fn lent(marks: &[(String, u8)]) -> Vec<(&str, u8)> {
+    marks.iter().map(|(line, verdict)| (&line[..], *verdict)).collect()
+}
+
+#[test]
+fn lists_of_256_cse_are_judged() {
+    // 127 sums, each computed twice, and with each an `rm` that only its `cse` refuses.
+    let mut program = vec!["read i0".to_string()];
+    program.extend((0..127).flat_map(|k| ["i1", "i2"].map(|x| format!("{} := i0 + {}", x, k))));
+    program.push("write i2".to_string());
+    let rm = |k: usize, verdict| (format!("{}: mark(rm, i1, i0 + {})", 2 * k + 2, k), verdict);
+    let cse = |k: usize| (format!("{}: mark(cse, i1, i0 + {})", 2 * k + 3, k), 0);
+    let mut marks: Vec<(String, u8)> = (0..127).flat_map(|k| [rm(k, 14), cse(k)]).collect();
+    marks.push(("1: mark(cse, i1, i0 + 1)".to_string(), 13));
+    marks.push(("256: mark(cse, i1, i0 + 1)".to_string(), 13));
+    assert_eq!(marks.len(), 256);
+    let made: Vec<(usize, &str)> = (0..127).map(|k| (2 * k + 3, "i2 := i1")).collect();
+    assert_judged(&program, &lent(&marks), &made);
+    marks.reverse();
+    assert_judged(&program, &lent(&marks), &made);
+    let alone: Vec<(String, u8)> = (0..127).map(|k| rm(k, 0)).collect();
+    let dropped: Vec<(usize, &str)> = (0..127).map(|k| (2 * k + 2, "skip")).collect();
+    assert_judged(&program, &lent(&alone), &dropped);
+
+    // 253 statements read one variable.
+    let mut program = vec!["i2 := i0 + 1"; 256];
+    (program[0], program[1], program[255]) = ("read i0", "i1 := i0 + 1", "write i2");
+    let mut marks: Vec<(String, u8)> =
+        (3..256).map(|n| (format!("{}: mark(cse, i1, i0 + 1)", n), 0)).collect();
+    marks.push((rm_of_2(14).0.to_string(), 14));
+    let made: Vec<(usize, &str)> = (3..256).map(|n| (n, "i2 := i1")).collect();
+    assert_judged(&program, &lent(&marks), &made);
+    assert_judged(&program, &[rm_of_2(0)], &[DROPPED]);
+}
+
 // Unreachable statements
 
 #[test]
@@ -1746,10 +2280,15 @@ fn endless_runs_stay_alike() {
 fn published(mark: &str) -> String {
     let parts: Vec<&str> = mark.trim_end_matches(')').splitn(3, ", ").collect();
     let (x, a) = (parts[1], parts[2]);
-    if parts[0].ends_with("rm") {
-        format!("!EX E[!def({}) U use({})]", x, x)
-    } else {
-        format!("AY A[((!def({}) & trans({})) & !entry) B stmt({} := {})]", x, a, x, a)
+    let (_, kind) = parts[0].split_once('(').expect("a mark");
+    match kind {
+        "rm" => format!("!EX E[!def({}) U use({})]", x, x),
+        "rpl" => format!("AY A[((!def({}) & trans({})) & !entry) B stmt({} := {})]", x, a, x, a),
+        _ => format!(
+            "AY A[((!def({x}) & trans({e})) & !entry) B (stmt({x} := {e}) & trans({e}))]",
+            x = x,
+            e = a
+        ),
     }
 }
 
@@ -1783,4 +2322,49 @@ fn a_mark_that_fits_is_accepted_where_tabulate_shows_its_condition_true() {
         }
     }
     assert!(met > 1000 && unmet > 1000 && may_fault > 50, "{} {} {}", met, unmet, may_fault);
+}
+
+/// The condition of an `rm`, with `use` of its variable also at these statements.
+fn published_beside(mark: &str, statements: &[usize]) -> String {
+    let x = mark.split(", ").nth(1).expect("a variable");
+    let mut used = format!("use({})", x);
+    for n in statements {
+        used = format!("({} | node({}))", used, n);
+    }
+    format!("!EX E[!def({}) U {}]", x, used)
+}
+
+/// In a list, where the uses that accepted `cse` lines add are spelled out. Without them some verdicts
+/// differ from what `tabulate` shows.
+#[test]
+fn an_rm_is_judged_with_the_uses_that_accepted_cse_lines_add() {
+    let mut random = Random::new(0x5be0_cd19_137e_2179);
+    let (mut met, mut unmet, mut by_cse) = (0, 0, 0);
+    for _ in 0..2000 {
+        let size = 3 + random.below(30);
+        let program = generate::program(&mut random, size);
+        let marks = generate::marks(&mut random, &program, 16);
+        let marks: Vec<String> = marks.iter().map(|mark| mark.to_string()).collect();
+        let given = program.to_string();
+        let lines: Vec<&str> = given.lines().collect();
+        let mut verdicts = [99; VERDICT_BYTES];
+        judge(given.as_bytes(), &text(&marks), &mut verdicts, &mut [0; TEXT_BYTES])
+            .expect("the list is taken");
+        let number = |mark: &str| mark.split(':').next().and_then(|n| n.parse().ok()).expect("n");
+        for (mark, verdict) in marks.iter().zip(verdicts) {
+            if !mark.contains("(rm, ") || !matches!(verdict, 0 | 14) {
+                continue;
+            }
+            let (n, x) = (number(mark), mark.split(", ").nth(1).expect("a variable"));
+            let reads =
+                |(other, v): &(&String, u8)| *v == 0 && other.contains(&format!("(cse, {},", x));
+            let readers: Vec<usize> =
+                marks.iter().zip(verdicts).filter(reads).map(|(other, _)| number(other)).collect();
+            let holds_beside = holds(&lines, &published_beside(mark, &readers), n);
+            assert_eq!(verdict, if holds_beside { 0 } else { 14 }, "{} {:?}", given, marks);
+            *(if holds_beside { &mut met } else { &mut unmet }) += 1;
+            by_cse += usize::from(holds(&lines, &published(mark), n) != holds_beside);
+        }
+    }
+    assert!(met > 1000 && unmet > 500 && by_cse > 50, "{} {} {}", met, unmet, by_cse);
 }

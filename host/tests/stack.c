@@ -90,6 +90,23 @@ static void put_line(void) {
     conditions[conditions_len++] = 10;
 }
 
+/* 256 lines, in which each of 127 sums is computed twice, and 256 marks: the second of each is to read
+   the first's variable, and the first is to go, which only that refuses. */
+static void put_sums(void) {
+    int line, sum;
+
+    program_len = sprintf((char *)program, "read i31\n");
+    for (line = 2; line < 256; line++) {
+        sum = line / 2;
+        program_len += sprintf((char *)program + program_len, "i%d := i31 + %d\n", line % 2, sum);
+        marks_len += sprintf((char *)marks + marks_len, "%d: mark(%s, i0, i31 + %d)\n", line,
+                             line % 2 ? "cse" : "rm", sum);
+    }
+    program_len += sprintf((char *)program + program_len, "write i31\n");
+    for (line = 1; line <= 256; line += 255)
+        marks_len += sprintf((char *)marks + marks_len, "%d: mark(cse, i0, i31 + 1)\n", line);
+}
+
 int main(int count, char **arguments) {
     static const struct {
         const char *open, *middle, *close;
@@ -105,6 +122,12 @@ int main(int count, char **arguments) {
     int fails = 0, line;
 
     for (k = 0; k < 5 && k + 1 < (size_t)count; k++) most[k] = strtoul(arguments[k + 1], NULL, 10);
+
+    put_sums();
+    bytes = overwritten(judge) - alone;
+    printf("%7lu bytes of stack: judge, 256 marks, of which 127 add a use\n", (unsigned long)bytes);
+    fails += number != 0 || bytes > most[1];
+    marks_len = 0;
 
     /* 256 lines: each goes to the line before. */
     program_len = sprintf((char *)program, "read i31\n");

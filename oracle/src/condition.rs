@@ -325,11 +325,15 @@ impl Atom {
     }
 }
 
+/// A use that no text shows: a variable, and the index from 0 of a statement at which it counts as used too.
+pub type GainedUse = (u8, usize);
+
 /// The truth of one condition's parts at a program's statements, found where it is asked for.
 pub struct Checker<'a> {
     program: &'a Program,
     steps: &'a Steps,
     parts: &'a [Part],
+    gained: &'a [GainedUse],
     /// What has been found, by part and statement index.
     known: Vec<Option<bool>>,
 }
@@ -358,9 +362,19 @@ enum Place {
 
 impl<'a> Checker<'a> {
     pub fn new(program: &'a Program, steps: &'a Steps, condition: &'a Condition) -> Checker<'a> {
+        Checker::with_uses(program, steps, condition, &[])
+    }
+
+    /// The same with `use` holding also where these say.
+    pub fn with_uses(
+        program: &'a Program,
+        steps: &'a Steps,
+        condition: &'a Condition,
+        gained: &'a [GainedUse],
+    ) -> Checker<'a> {
         let parts = condition.parts();
         let known = vec![None; parts.len() * program.statements().len()];
-        Checker { program, steps, parts, known }
+        Checker { program, steps, parts, gained, known }
     }
 
     fn slot(&self, part: usize, at: usize) -> usize {
@@ -386,6 +400,7 @@ impl<'a> Checker<'a> {
             return answer;
         }
         let answer = match self.parts[part] {
+            Part::Atom(Atom::Use(x)) if self.gained.contains(&(x, at)) => true,
             Part::Atom(atom) => atom.holds(self.program, at),
             Part::Not(p) => !self.holds(p, at),
             Part::And(p, q) => self.holds(p, at) && self.holds(q, at),

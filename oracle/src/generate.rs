@@ -180,6 +180,76 @@ impl Style {
         }
     }
 
+    /// What is computed twice: two operands, mostly such that nothing of them is set where they are computed.
+    fn sum(&self, random: &mut Random) -> Expression {
+        let (a, b) = (self.operand(random), self.operand(random));
+        joined(random, a, b)
+    }
+
+    /// A variable for a sum: one of the program's, or any, which is then hardly used for anything else.
+    fn holder(&self, random: &mut Random) -> u8 {
+        if random.chance(50) {
+            random.below(usize::from(VARIABLES)) as u8
+        } else {
+            self.variable(random)
+        }
+    }
+
+    /// A statement between two computations of a sum: one that changes nothing of it, or sets a variable of it or
+    /// the one that holds it.
+    fn between(&self, random: &mut Random, holder: u8, sum: Expression) -> Statement {
+        match random.below(8) {
+            0 => Statement::Assign(holder, Expression::Single(self.operand(random))),
+            1 => Statement::Assign(self.variable(random), sum),
+            2 | 3 => {
+                let used = Expression::Single(Operand::Variable(holder));
+                Statement::Assign(self.holder(random), used)
+            }
+            4 | 5 => {
+                Statement::Assign(self.holder(random), Expression::Single(self.operand(random)))
+            }
+            _ => Statement::Skip,
+        }
+    }
+
+    /// A sum that is computed again, some statements on, mostly into another variable.
+    fn repeated_sum(&self, random: &mut Random, lines: &mut Vec<Statement>) {
+        let (holder, sum) = (self.holder(random), self.sum(random));
+        lines.push(Statement::Assign(holder, sum));
+        for _ in 0..random.between(1, 2) {
+            for _ in 0..random.pick(&[0, 0, 0, 1, 2]) {
+                lines.push(self.between(random, holder, sum));
+            }
+            let again = if random.chance(10) { holder } else { self.holder(random) };
+            lines.push(Statement::Assign(again, sum));
+        }
+    }
+
+    /// An `if` at statement `at` whose arms both compute a sum, or one of them something else, and meet where it is
+    /// computed again.
+    fn sum_on_both_arms(&self, random: &mut Random, at: usize, lines: &mut Vec<Statement>) {
+        let (tested, holder, sum) = (self.variable(random), self.holder(random), self.sum(random));
+        let one = Statement::Assign(holder, sum);
+        let other = if random.chance(70) { one } else { self.between(random, holder, sum) };
+        let goto =
+            |n: usize, m: usize| Statement::Branch { tested, then: n as u32, other: m as u32 };
+        let again = Statement::Assign(self.holder(random), sum);
+        lines.extend([goto(at + 3, at + 1), one, goto(at + 4, at + 4), other, again]);
+    }
+
+    /// A sum at statement `at`, and a loop of three statements in which it is computed again.
+    fn sum_before_a_loop(&self, random: &mut Random, at: usize, lines: &mut Vec<Statement>) {
+        let (counter, holder, sum) = (self.holder(random), self.holder(random), self.sum(random));
+        let less =
+            Expression::Pair(Operand::Variable(counter), Operator::Minus, Operand::Constant(1));
+        lines.extend([
+            Statement::Assign(holder, sum),
+            Statement::Assign(self.holder(random), sum),
+            Statement::Assign(counter, less),
+            Statement::Branch { tested: counter, then: at as u32 + 1, other: at as u32 + 4 },
+        ]);
+    }
+
     /// A division of any operand, often at an end of its range, by a divisor of any kind: a constant, or a variable
     /// that has just been set to it.
     fn division(&self, random: &mut Random, lines: &mut Vec<Statement>) {
@@ -290,7 +360,8 @@ fn expression(random: &mut Random) -> Expression {
     }
 }
 
-/// A program of 2 to 256 statements with loops, copies, divisions, dead assignments and unreachable statements.
+/// A program of 2 to 256 statements with loops, copies, divisions, sums that are computed twice, dead assignments and
+/// unreachable statements.
 pub fn program(random: &mut Random, size: usize) -> Program {
     let style = Style::new(random);
     let mut lines = vec![Statement::Read(style.variable(random))];
@@ -300,7 +371,7 @@ pub fn program(random: &mut Random, size: usize) -> Program {
             lines.push(style.branch(random, at, size));
             continue;
         }
-        match random.below(13) {
+        match random.below(17) {
             0 => lines.push(Statement::Skip),
             // A loop that counts down.
             1 if style.branches > 0 && at + 2 < size => {
@@ -335,6 +406,13 @@ pub fn program(random: &mut Random, size: usize) -> Program {
                 style.kept_on_both_arms(random, at, &mut lines);
             }
             6 | 7 => style.division(random, &mut lines),
+            8..=10 => style.repeated_sum(random, &mut lines),
+            11 if style.branches > 0 && at + 5 <= size => {
+                style.sum_on_both_arms(random, at, &mut lines);
+            }
+            12 if style.branches > 0 && at + 4 <= size => {
+                style.sum_before_a_loop(random, at, &mut lines);
+            }
             _ => style.copies(random, &mut lines),
         }
     }
@@ -597,7 +675,7 @@ pub fn any_review(random: &mut Random, program: &Program) -> Vec<u8> {
     text
 }
 
-/// The marks that fit a statement and that a copy nearest before it, in line order, suggests.
+/// The marks that fit a statement and that a copy, or the same right side, nearest before it, in line order, suggests.
 fn fitting(random: &mut Random, program: &Program, number: u32) -> Vec<Mark> {
     let before = number as usize - 1;
     let statements = program.statements();
@@ -605,6 +683,17 @@ fn fitting(random: &mut Random, program: &Program, number: u32) -> Vec<Mark> {
     let mut marks = Vec::new();
     if let Statement::Assign(x, e) = statement {
         marks.push(Mark { number, variable: x, kind: Kind::Remove(e) });
+        let computed = |at: usize| match statements[at] {
+            Statement::Assign(t, right) if right == e => Some(t),
+            _ => None,
+        };
+        let nearest = (0..before).rev().find_map(computed);
+        let any = (0..statements.len()).find_map(computed).filter(|_| random.chance(30));
+        if matches!(e, Expression::Pair(..)) {
+            let kind = Kind::Reuse(e);
+            let holders = nearest.into_iter().chain(any);
+            marks.extend(holders.map(|variable| Mark { number, variable, kind }));
+        }
     }
     for x in (0..VARIABLES).filter(|&x| statement.shows(x)) {
         let copied = |at: usize| match statements[at] {
@@ -624,10 +713,17 @@ fn fitting(random: &mut Random, program: &Program, number: u32) -> Vec<Mark> {
     marks
 }
 
-/// A mark that fits a statement, and replaces a variable by anything. Lists of such marks have many different
-/// conditions, and some of them again.
+/// A mark that fits a statement, and replaces a variable by anything, or its right side by any variable. Lists of such
+/// marks have many different conditions, and some of them again.
 fn fitting_by_any(random: &mut Random, program: &Program, number: u32) -> Option<Mark> {
     let statement = program.statement(number)?;
+    match *statement {
+        Statement::Assign(_, e @ Expression::Pair(..)) if random.chance(30) => {
+            let variable = variable_near(random, program);
+            return Some(Mark { number, variable, kind: Kind::Reuse(e) });
+        }
+        _ => {}
+    }
     let used: Vec<u8> = (0..VARIABLES).filter(|&x| statement.shows(x)).collect();
     let by = match statement {
         Statement::Assign(..) if random.chance(60) => Operand::Constant(constant(random)),
@@ -653,9 +749,48 @@ fn dropping(
     (!marks.is_empty()).then(|| random.pick(&marks))
 }
 
+/// A mark, on a statement that the list doesn't name, that reuses what another assignment computes: before it or not,
+/// changed in between or not.
+fn reusing(random: &mut Random, program: &Program, list: &[Mark]) -> Option<Mark> {
+    let computed = |(at, statement): (usize, &Statement)| match *statement {
+        Statement::Assign(x, e @ Expression::Pair(..)) => Some((at, x, e)),
+        _ => None,
+    };
+    let all: Vec<(usize, u8, Expression)> =
+        program.statements().iter().enumerate().filter_map(computed).collect();
+    let is_named = |at: usize| list.iter().any(|mark| mark.number as usize == at + 1);
+    let mut marks = Vec::new();
+    for &(at, _, e) in all.iter().filter(|&&(at, ..)| !is_named(at)) {
+        let others = all.iter().filter(|&&(other, _, right)| other != at && right == e);
+        marks.extend(others.map(|&(_, variable, _)| Mark {
+            number: at as u32 + 1,
+            variable,
+            kind: Kind::Reuse(e),
+        }));
+    }
+    (!marks.is_empty()).then(|| random.pick(&marks))
+}
+
+/// A mark that drops what a `cse` of the list asks for: an assignment of its right side to its variable.
+fn dropping_source(random: &mut Random, program: &Program, list: &[Mark]) -> Option<Mark> {
+    let asked: Vec<(u8, Expression)> = list
+        .iter()
+        .filter_map(|mark| match mark.kind {
+            Kind::Reuse(e) => Some((mark.variable, e)),
+            _ => None,
+        })
+        .collect();
+    if asked.is_empty() {
+        return None;
+    }
+    let source = random.pick(&asked);
+    dropping(random, program, |x, e| (x, *e) == source)
+}
+
 /// Any mark at all for this statement number.
 fn any_mark(random: &mut Random, program: &Program, number: u32) -> Mark {
     let kind = match expression_near(random, program) {
+        e if random.chance(20) => Kind::Reuse(e),
         Expression::Single(a) if random.chance(60) => Kind::Replace(a),
         e => Kind::Remove(e),
     };
@@ -663,8 +798,8 @@ fn any_mark(random: &mut Random, program: &Program, number: u32) -> Mark {
 }
 
 /// A list of marks for a program. In most lists most are such that they are accepted by themselves, if there are
-/// such; the others fit only, drop what is kept, drop a division, name a statement again, name one that the program
-/// lacks, replace a kept variable at `write`, or are any.
+/// such; the others fit only, drop what is kept, drop a division, reuse a sum, drop what a `cse` asks for, name a
+/// statement again, name one that the program lacks, replace a kept variable at `write`, or are any.
 pub fn marks(random: &mut Random, program: &Program, count: usize) -> Vec<Mark> {
     let judge = Judge::new(program);
     let mut unnamed: Vec<u32> = (1..=program.count()).collect();
@@ -673,7 +808,14 @@ pub fn marks(random: &mut Random, program: &Program, count: usize) -> Vec<Mark> 
     let is_varied = random.chance(15);
     while list.len() < count {
         let somewhere = 1 + random.below(program.count() as usize) as u32;
-        let mark = match random.below(100) {
+        if random.chance(10) {
+            // Above the `cse` or below it.
+            if let Some(mark) = dropping_source(random, program, &list) {
+                list.insert(random.below(list.len() + 1), mark);
+                continue;
+            }
+        }
+        let mark = match random.below(110) {
             0..=67 if is_varied => {
                 unnamed.pop().and_then(|number| fitting_by_any(random, program, number))
             }
@@ -712,6 +854,7 @@ pub fn marks(random: &mut Random, program: &Program, count: usize) -> Vec<Mark> 
                 let (number, variable) = (program.count(), kept(random));
                 Some(Mark { number, variable, kind: Kind::Replace(by) })
             }
+            100.. => reusing(random, program, &list),
             _ => None,
         };
         list.push(mark.unwrap_or_else(|| any_mark(random, program, somewhere)));
@@ -830,6 +973,91 @@ pub fn wrong_sign(random: &mut Random, sign: WrongSign, text: &mut Vec<u8>) {
     let number = sign.spelled(&String::from_utf8_lossy(&text[begin..end]));
     let is_signed = begin > 0 && text[begin - 1] == b'-';
     text.splice(begin - usize::from(is_signed)..end, number.into_bytes());
+}
+
+/// A way to spell a `cse` line that no list has.
+#[derive(Clone, Copy, Debug, PartialEq, Eq, PartialOrd, Ord)]
+pub enum WrongReuse {
+    /// `i0 + 1 + 1`.
+    ThreeOperands,
+    /// `i0 +`.
+    OperatorBehind,
+    /// Nothing where the right side stands.
+    NoOperand,
+    /// `7` where the variable stands.
+    NoVariable,
+    /// `i1 := i0 + 1` where the right side stands.
+    Statement,
+    /// `cs`, `csee` and the like.
+    Word,
+    /// A space less.
+    SpaceLess,
+    /// A space more.
+    SpaceMore,
+    /// `i1, i1, i0 + 1`.
+    FourItems,
+}
+
+impl WrongReuse {
+    pub const ALL: [WrongReuse; 9] = [
+        WrongReuse::ThreeOperands,
+        WrongReuse::OperatorBehind,
+        WrongReuse::NoOperand,
+        WrongReuse::NoVariable,
+        WrongReuse::Statement,
+        WrongReuse::Word,
+        WrongReuse::SpaceLess,
+        WrongReuse::SpaceMore,
+        WrongReuse::FourItems,
+    ];
+
+    /// What it makes of the line of a mark with this variable and right side.
+    fn spelled(self, random: &mut Random, mark: &Mark, e: &Expression) -> String {
+        let (n, t) = (mark.number, mark.variable);
+        let sign = operator(random);
+        match self {
+            WrongReuse::ThreeOperands => {
+                let a = random.pick(&e.operands());
+                format!("{n}: mark(cse, i{t}, {a} {sign} {e} {sign} {a})")
+            }
+            WrongReuse::OperatorBehind => format!("{n}: mark(cse, i{t}, {e} {sign})"),
+            WrongReuse::NoOperand => format!("{n}: mark(cse, i{t}, )"),
+            WrongReuse::NoVariable => format!("{n}: mark(cse, 7, {e})"),
+            WrongReuse::Statement => format!("{n}: mark(cse, i{t}, i{t} := {e})"),
+            WrongReuse::Word => {
+                let words =
+                    ["cs", "se", "ce", "csee", "ccse", "ces", "CSE", "Cse", "rse", "cpl", "rcse"];
+                format!("{n}: mark({}, i{t}, {e})", random.pick(&words))
+            }
+            WrongReuse::SpaceLess | WrongReuse::SpaceMore => {
+                let line = mark.to_string();
+                let spaces: Vec<usize> = line.match_indices(' ').map(|(at, _)| at).collect();
+                let at = random.pick(&spaces);
+                let space = if self == WrongReuse::SpaceLess { "" } else { "  " };
+                format!("{}{space}{}", &line[..at], &line[at + 1..])
+            }
+            WrongReuse::FourItems => format!("{n}: mark(cse, i{t}, i{t}, {e})"),
+        }
+    }
+}
+
+/// Spells one of a list's `cse` lines in such a way; where it has none, one is put at its end.
+pub fn wrong_reuse(random: &mut Random, wrong: WrongReuse, list: &mut Vec<u8>) {
+    let reuse = |line: &[u8]| match line.strip_suffix(b"\n").and_then(Mark::read) {
+        Some(mark @ Mark { kind: Kind::Reuse(e), .. }) => Some((mark, e)),
+        _ => None,
+    };
+    let mut lines = lines(list);
+    let mut found: Vec<usize> =
+        (0..lines.len()).filter(|&at| reuse(&lines[at]).is_some()).collect();
+    if found.is_empty() {
+        found.push(lines.len());
+        lines.push(b"2: mark(cse, i1, i0 + 1)\n".to_vec());
+    }
+    let at = random.pick(&found);
+    let (mark, e) = reuse(&lines[at]).expect("such a line");
+    lines[at] = format!("{}\n", wrong.spelled(random, &mark, &e)).into_bytes();
+    *list = lines.concat();
 }
 
 /// A kind of damage to a text.
@@ -1033,8 +1261,8 @@ pub fn nested_condition(random: &mut Random) -> Vec<u8> {
 }
 
 #[rustfmt::skip]
-const MARK_PIECES: [&str; 28] = [
-    "1", "2", "0", "257", ":", " ", "mark", "(", "rm", "rpl", ",", ", ", "i0", "i1", "i32", "7",
+const MARK_PIECES: [&str; 29] = [
+    "1", "2", "0", "257", ":", " ", "mark", "(", "rm", "rpl", "cse", ",", ", ", "i0", "i1", "i32", "7",
     " + ", "+", ")", "2147483648", "-7", "-0", "-2147483648", "-2147483649", " - ", "-", " / ", "/",
 ];
 
@@ -1044,7 +1272,7 @@ pub fn mark_soup(random: &mut Random) -> Vec<u8> {
         0 => soup(random, &MARK_PIECES, 10),
         1 => format!(
             "2: mark({}, i0, {})",
-            random.pick(&["rm", "rpl"]),
+            random.pick(&["rm", "rpl", "cse"]),
             soup(random, &MARK_PIECES, 4)
         ),
         _ => format!("2: mark({})", soup(random, &MARK_PIECES, 6)),

@@ -4,7 +4,7 @@ use std::collections::HashMap;
 use std::fmt;
 use std::ops::Range;
 
-use crate::condition::{Checker, Condition};
+use crate::condition::{Checker, Condition, GainedUse};
 use crate::program::{expression, number, variable, Expression, Operand, Program, Statement};
 use crate::steps::Steps;
 
@@ -21,6 +21,8 @@ pub enum Kind {
     Remove(Expression),
     /// `rpl`: this operand stands for each use of the variable.
     Replace(Operand),
+    /// `cse`: the variable, which holds the value of this right side already, stands for it.
+    Reuse(Expression),
 }
 
 #[derive(Clone, Copy, Debug, PartialEq, Eq)]
@@ -44,6 +46,7 @@ fn lenient(line: &[u8]) -> Option<Mark> {
     let kind = match (*kind, right) {
         (b"rm", _) => Kind::Remove(right),
         (b"rpl", Expression::Single(a)) => Kind::Replace(a),
+        (b"cse", _) => Kind::Reuse(right),
         _ => return None,
     };
     let x = x.strip_prefix(b" ")?;
@@ -56,6 +59,10 @@ impl Mark {
         lenient(line).filter(|mark| mark.to_string().as_bytes() == line)
     }
 
+    pub fn is_reuse(&self) -> bool {
+        matches!(self.kind, Kind::Reuse(_))
+    }
+
     fn fits(&self, statement: &Statement) -> bool {
         match self.kind {
             Kind::Remove(e) => *statement == Statement::Assign(self.variable, e),
@@ -65,10 +72,13 @@ impl Mark {
                 statement.shows(self.variable)
                     && (matches!(a, Operand::Variable(_)) || !wants_variable)
             }
+            Kind::Reuse(Expression::Single(_)) => false,
+            Kind::Reuse(e) => matches!(statement, Statement::Assign(_, right) if *right == e),
         }
     }
 
-    /// The condition that the mark has to meet at its statement.
+    /// The condition that the mark has to meet at its statement. In that of `rm`, `use` holds also where a statement gains
+    /// one by the list.
     pub fn condition(&self) -> Condition {
         let x = self.variable;
         let text = match self.kind {
@@ -76,6 +86,9 @@ impl Mark {
             Kind::Replace(a) => {
                 format!("AY A[((!def(i{x}) & trans({a})) & !entry) B stmt(i{x} := {a})]")
             }
+            Kind::Reuse(e) => format!(
+                "AY A[((!def(i{x}) & trans({e})) & !entry) B (stmt(i{x} := {e}) & trans({e}))]"
+            ),
         };
         Condition::read(text.as_bytes()).expect("each mark's condition is well spelled")
     }
@@ -92,6 +105,9 @@ impl Mark {
                 Statement::Branch { tested: y, then, other }
             }
             (Kind::Replace(Operand::Variable(y)), Statement::Write(_)) => Statement::Write(y),
+            (Kind::Reuse(_), Statement::Assign(defined, _)) => {
+                Statement::Assign(defined, Expression::Single(Operand::Variable(x)))
+            }
             (_, unchanged) => unchanged,
         }
     }
@@ -103,6 +119,7 @@ impl fmt::Display for Mark {
         match self.kind {
             Kind::Remove(e) => write!(f, "{number}: mark(rm, i{x}, {e})"),
             Kind::Replace(a) => write!(f, "{number}: mark(rpl, i{x}, {a})"),
+            Kind::Reuse(e) => write!(f, "{number}: mark(cse, i{x}, {e})"),
         }
     }
 }
@@ -136,8 +153,13 @@ impl<'a> Judge<'a> {
         Judge { program, steps: Steps::new(program) }
     }
 
-    /// A mark's verdict; `named` tells whether an earlier line names its statement.
+    /// The verdict of a mark by itself; `named` tells whether an earlier line names its statement.
     pub fn verdict(&self, mark: &Mark, named: bool) -> u8 {
+        self.verdict_beside(mark, named, &[])
+    }
+
+    /// The same in a list by which statements gain these uses.
+    pub fn verdict_beside(&self, mark: &Mark, named: bool, gained: &[GainedUse]) -> u8 {
         let statement = match self.program.statement(mark.number) {
             Some(statement) => statement,
             None => return 11,
@@ -152,7 +174,7 @@ impl<'a> Judge<'a> {
             return 18;
         }
         let condition = mark.condition();
-        let mut checker = Checker::new(self.program, &self.steps, &condition);
+        let mut checker = Checker::with_uses(self.program, &self.steps, &condition, gained);
         if checker.whole_holds(mark.number as usize - 1) {
             0
         } else {
@@ -172,16 +194,37 @@ impl<'a> Judge<'a> {
             && checker.whole_holds(mark.number as usize - 1)
     }
 
-    /// The verdicts of a whole list, in its order.
+    /// The verdicts of a whole list, in its order. The lines of `cse` are judged first: where one is accepted, its
+    /// statement gains a use, which counts for each `rm`.
     pub fn verdicts(&self, marks: &[Mark]) -> Vec<u8> {
-        // The numbers that earlier lines name, each with the first line that does.
-        let mut named = HashMap::new();
-        let verdict = |(line, mark): (usize, &Mark)| {
-            let first = *named.entry(mark.number).or_insert(line);
-            self.verdict(mark, first < line)
-        };
-        marks.iter().enumerate().map(verdict).collect()
+        // The numbers that lines name, each with the first line that does.
+        let mut first = HashMap::new();
+        for (line, mark) in marks.iter().enumerate() {
+            first.entry(mark.number).or_insert(line);
+        }
+        let is_named = |line: usize| first[&marks[line].number] < line;
+        let (early, late): (Vec<usize>, Vec<usize>) =
+            (0..marks.len()).partition(|&line| marks[line].is_reuse());
+        let mut verdicts = vec![0; marks.len()];
+        for line in early {
+            verdicts[line] = self.verdict(&marks[line], is_named(line));
+        }
+        // No line that isn't judged yet is one of `cse`.
+        let gained = gained_uses(marks, &verdicts);
+        for line in late {
+            verdicts[line] = self.verdict_beside(&marks[line], is_named(line), &gained);
+        }
+        verdicts
     }
+}
+
+/// The uses that statements gain by the `cse` lines among these that are accepted.
+pub fn gained_uses(marks: &[Mark], verdicts: &[u8]) -> Vec<GainedUse> {
+    let accepted = marks.iter().zip(verdicts).filter(|(_, &verdict)| verdict == 0);
+    accepted
+        .filter(|(mark, _)| mark.is_reuse())
+        .map(|(mark, _)| (mark.variable, mark.number as usize - 1))
+        .collect()
 }
 
 /// The program with all accepted marks made.

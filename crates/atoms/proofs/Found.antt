@@ -1,8 +1,8 @@
 -- The facts of a program, found statement by statement. Assumes nothing.
-use mathlib.Core.Path.{_≡_, refl, sym, ap, _∙_, subst}
-use mathlib.Core.Bool.{Bool, true, false, _&&_, _||_, or-false}
+use mathlib.Core.Path.{_≡_, refl, sym, ap, ap₂, _∙_, subst}
+use mathlib.Core.Bool.{Bool, true, false, _&&_, _||_, or-false, and-false}
 use mathlib.Core.List.{List, []}
-use mathlib.Core.Logic.{_↔_, _⊎_, inl, inr, ⊎-elim}
+use mathlib.Core.Logic.{_↔_, Iff·trans, _⊎_, inl, inr, ⊎-elim}
 use Prim.Native.Nat.{ℕ, zero, suc, _+_, _*_, _≤_, _<_}
 use native.Mathlib.Decide.{ℕ-discrete}
 use native.Mathlib.Numerals.{add-one}
@@ -27,12 +27,12 @@ use Rattle.program.proofs.Held.{held, at-held, held-valid, length-held}
 use Rattle.bits.specs.Row.{member, rowOf, Kept, Zeros, ZeroRows}
 use Rattle.bits.proofs.Rows.{zeros-member}
 use Rattle.bits.proofs.Tables.{row-length, row-zeros, row-kept, replaced, replaced-row, replaced-kept}
-use Rattle.base.proofs.Bools.{split, clash, or-case, or-left, or-right}
+use Rattle.base.proofs.Bools.{split, clash, and-left, and-right, and-both, or-case, or-left, or-right}
 use Rattle.labelling.specs.Labels.{Labelled}
 use Rattle.labelling.proofs.Labels.{label-skip, label-join}
 use Rattle.truth.specs.Truth.{InOperand, In, Defines, Uses}
 use Rattle.codes.specs.Codes.{statementCode, code-words, codeWords}
-use Rattle.atoms.specs.Facts.{definedRow, usedRow, fact-rows, fact-words, placed, FactsBelow, notedOperand, notedExpression, notedKept, noted, Marked}
+use Rattle.atoms.specs.Facts.{definedRow, usedRow, fact-rows, fact-words, placed, FactsBy, FactsBelow, Also, notedOperand, notedExpression, notedKept, noted, Marked}
 use Rattle.atoms.proofs.Rows.{label-same}
 
 -- ---- one place in some rows
@@ -218,6 +218,48 @@ module _ (P : List Statement) (s : ℕ) (low : s < most) (i : Statement) (is : a
 
       here : getD next s [] ≡ codeWords (statementCode (at P s))
       here = rw is (getD-set-same codes s (codeWords (statementCode i)) [] (omega (arith, below .many-codes)))
+
+-- ---- one use more
+
+module _ {U : ℕ → ℕ → Type 0} {P : List Statement} {n : ℕ} {f g : List ℕ} {codes : List (List ℕ)} (facts : FactsBy U P n f codes)
+    (x s : ℕ) (low : s < n) (m : Marked f g (eqb (usedRow x)) s) where
+  module _ (y : ℕ) (l : y < variables) where
+    also-defined : Labelled n (placed g (definedRow y)) (λ t. Defines (at P t) y)
+    also-defined =
+        label-same n (placed f (definedRow y)) (placed g (definedRow y)) (λ t. Defines (at P t) y)
+        (λ j. m .bits (definedRow y) j (omega arith) ∙ ap (λ (b : Bool). placed f (definedRow y) j || (b && eqb s j)) (ne-eqb (usedRow x) (definedRow y) (omega arith)) ∙ or-false _)
+        (facts .defined y l)
+
+    abbrev own : Bool
+    own = eqb (usedRow x) (usedRow y)
+
+    also-iff : (t : ℕ) → t < n → ((placed f (usedRow y) t || (own && eqb s t)) ≡ true) ↔ Also U x s y t
+    also-iff t b =
+        let old = placed f (usedRow y) t in
+        let new = own && eqb s t in (
+          λ e. ⊎-elim (λ h. inl (facts .used y l .exact t b .0 h)) (λ h. inr (used-iff x y .0 (and-left own (eqb s t) h), sym (eqb-true s t (and-right own (eqb s t) h)))) (or-case old new e),
+          λ h. ⊎-elim (λ u. or-left old new (facts .used y l .exact t b .1 u)) (λ u. or-right old new (and-both own (eqb s t) (used-iff x y .1 (u .0)) (eq-eqb s t (sym (u .1))))) h,
+        )
+
+    also-used : Labelled n (placed g (usedRow y)) (Also U x s y)
+    also-used = record {
+      exact = λ t b. rw (m .bits (usedRow y) t (omega arith)) (also-iff t b);
+      beyond = λ t b. m .bits (usedRow y) t (omega arith) ∙ ap₂ _||_ (facts .used y l .beyond t b) (ap (λ (z : Bool). own && z) (ne-eqb s t (omega arith)) ∙ and-false own);
+    }
+
+  pub facts-also : FactsBy (Also U x s) P n g codes
+  facts-also = record { many = m .same ∙ facts .many; many-codes = facts .many-codes; defined = also-defined; used = also-used; coded = facts .coded }
+
+-- the same uses said in other words
+pub facts-same : {U W : ℕ → ℕ → Type 0} {P : List Statement} {n : ℕ} {rows : List ℕ} {codes : List (List ℕ)} → ((x s : ℕ) → x < variables → s < n → U x s ↔ W x s)
+    → FactsBy U P n rows codes → FactsBy W P n rows codes
+facts-same u f = record {
+  many = f .many;
+  many-codes = f .many-codes;
+  defined = f .defined;
+  used = λ x l. record { exact = λ s b. Iff·trans (f .used x l .exact s b) (u x s l b); beyond = f .used x l .beyond };
+  coded = f .coded;
+}
 
 -- ---- of the code's program
 

@@ -21,12 +21,11 @@ use Rattle.bits.specs.Row.{member}
 use Rattle.base.proofs.Bools.{split, clash, and-left, and-right, and-both, not-of-false, false-of-not}
 use Rattle.ctl.specs.Paths.{So}
 use Rattle.labelling.specs.Labels.{Labelled}
-use Rattle.truth.specs.Truth.{InOperand, In, Defines, Holds}
-use Rattle.condition.specs.declared.Atom.the-variants.{Entry, Exit}
+use Rattle.truth.specs.Truth.{InOperand, In, Defines}
 use Rattle.codes.specs.Codes.{statementCode, codeWords}
 use Rattle.codes.specs.declared.Code.{Code}
 use Rattle.codes.proofs.Words.{words-unique}
-use Rattle.atoms.specs.Facts.{definedRow, placed, FactsBelow, FactsOf}
+use Rattle.atoms.specs.Facts.{definedRow, placed, FactsBy, FactsIn}
 
 -- the same places, and what is said of them in other words
 label-as : (n : ℕ) (y y′ : ℕ → Bool) (X X′ : ℕ → Type 0) → ((j : ℕ) → y′ j ≡ y j) → ((s : ℕ) → s < n → X s ↔ X′ s) → Labelled n y X → Labelled n y′ X′
@@ -69,16 +68,26 @@ module _ (n : ℕ) (y : ℕ → Bool) where
     beyond = λ s l. f s ∙ ap (λ (t : Bool). t && not (d s)) (b s l);
   }
 
-pub entry-row : (P : List Statement) (n : ℕ) (y : ℕ → Bool) → Labelled n y (λ s. s + 1 ≡ 1) → Labelled n y (Holds P Entry)
-entry-row P n y = label-as n y y (λ s. s + 1 ≡ 1) (Holds P Entry) (λ j. refl) (λ s l. (λ e. omega arith, λ e. omega arith))
+pub entry-row : (n : ℕ) (y : ℕ → Bool) → Labelled n y (λ s. s + 1 ≡ 1) → Labelled n y (λ s. s ≡ 0)
+entry-row n y = label-as n y y (λ s. s + 1 ≡ 1) (λ s. s ≡ 0) (λ j. refl) (λ s l. (λ e. omega arith, λ e. omega arith))
 
-pub exit-row : (P : List Statement) (n : ℕ) (y : ℕ → Bool) → length P ≡ n → Labelled n y (λ s. s + 1 ≡ n) → Labelled n y (Holds P Exit)
+pub exit-row : (P : List Statement) (n : ℕ) (y : ℕ → Bool) → length P ≡ n → Labelled n y (λ s. s + 1 ≡ n) → Labelled n y (λ s. s + 1 ≡ length P)
 exit-row P n y size = subst (λ (m : ℕ). Labelled n y (λ s. s + 1 ≡ m)) (sym size)
 
-pub sized : (P : List Statement) (n : ℕ) (rows : List ℕ) (codes : List (List ℕ)) → length P ≡ n → FactsOf P rows codes → FactsBelow P n rows codes
+pub sized : {U : ℕ → ℕ → Type 0} (P : List Statement) (n : ℕ) (rows : List ℕ) (codes : List (List ℕ)) → length P ≡ n → FactsBy U P (length P) rows codes → FactsBy U P n rows codes
 sized P n rows codes size f = rw size at f
 
-module _ (P : List Statement) (n : ℕ) (rows : List ℕ) (codes : List (List ℕ)) (found : FactsBelow P n rows codes) where
+-- of whatever uses these are the facts, they are those of the uses that the rows have
+pub facts-in : {U : ℕ → ℕ → Type 0} {P : List Statement} {n : ℕ} {rows : List ℕ} {codes : List (List ℕ)} → FactsBy U P n rows codes → FactsIn P n rows codes
+facts-in f = record {
+  many = f .many;
+  many-codes = f .many-codes;
+  defined = f .defined;
+  used = λ x l. record { exact = λ s b. (λ h. h, λ h. h); beyond = f .used x l .beyond };
+  coded = f .coded;
+}
+
+module _ {U : ℕ → ℕ → Type 0} (P : List Statement) (n : ℕ) (rows : List ℕ) (codes : List (List ℕ)) (found : FactsBy U P n rows codes) where
   -- a test of the code at place s is one of the statement
   pub statement-iff : (s : ℕ) → s < n → (i : Statement) (c : Code) → c ≡ statementCode i → (b : Bool) → Decides b (getD codes s [] ≡ codeWords c) → (b ≡ true) ↔ (at P s ≡ i)
   statement-iff s l i c is b d =

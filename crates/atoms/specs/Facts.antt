@@ -3,6 +3,7 @@
 use mathlib.Core.Path.{_≡_}
 use mathlib.Core.Bool.{Bool, true, false, _&&_, _||_}
 use mathlib.Core.List.{List, []}
+use mathlib.Core.Logic.{_⊎_}
 use Prim.Native.Nat.{ℕ, zero, suc, _+_, _*_, _<_}
 use lib.Dec.{eqb}
 use lib.ListN.{length, getD}
@@ -16,8 +17,9 @@ use Rattle.language.specs.declared.Statement.{Statement}
 use Rattle.language.specs.declared.Statement.the-variants.{Read, Write, Assign, Branch, Skip}
 use Rattle.program.specs.Program.{at, most, row-words}
 use Rattle.bits.specs.Row.{member, rowOf}
+use Rattle.ctl.specs.Paths.{So}
 use Rattle.labelling.specs.Labels.{Labelled}
-use Rattle.truth.specs.Truth.{Defines, Uses}
+use Rattle.truth.specs.Truth.{Defines, usesOf}
 use Rattle.codes.specs.Codes.{statementCode, codeWords}
 
 -- a variable x has two rows, one after the other: the places that define it, and those that use it
@@ -42,16 +44,32 @@ fact-words = row-words * fact-rows
 abbrev pub placed : List ℕ → ℕ → ℕ → Bool
 placed rows r = member (rowOf row-words rows r)
 
--- the facts of the first n statements of P: the rows of the variables, and the codes of the statements
-pub record FactsBelow (P : List Statement) (n : ℕ) (rows : List ℕ) (codes : List (List ℕ)) : Type 0 where
+-- the facts of the first n statements of P, where variables count as used as U says: the rows of the variables, and the codes of the
+-- statements
+pub record FactsBy (U : ℕ → ℕ → Type 0) (P : List Statement) (n : ℕ) (rows : List ℕ) (codes : List (List ℕ)) : Type 0 where
   pub many : length rows ≡ fact-words
   pub many-codes : length codes ≡ most
   pub defined : (x : ℕ) → x < variables → Labelled n (placed rows (definedRow x)) (λ s. Defines (at P s) x)
-  pub used : (x : ℕ) → x < variables → Labelled n (placed rows (usedRow x)) (λ s. Uses (at P s) x)
+  pub used : (x : ℕ) → x < variables → Labelled n (placed rows (usedRow x)) (U x)
   pub coded : (s : ℕ) → s < n → getD codes s [] ≡ codeWords (statementCode (at P s))
+
+-- by P's own uses
+abbrev pub FactsBelow : List Statement → ℕ → List ℕ → List (List ℕ) → Type 0
+FactsBelow P n rows codes = FactsBy (usesOf P) P n rows codes
 
 abbrev pub FactsOf : List Statement → List ℕ → List (List ℕ) → Type 0
 FactsOf P rows codes = FactsBelow P (length P) rows codes
+
+-- the uses that the rows have; the facts by any uses are the facts by these
+abbrev pub usedIn : List ℕ → ℕ → ℕ → Type 0
+usedIn rows x = So (placed rows (usedRow x))
+
+abbrev pub FactsIn : List Statement → ℕ → List ℕ → List (List ℕ) → Type 0
+FactsIn P n rows codes = FactsBy (usedIn rows) P n rows codes
+
+-- U, and x at s too
+abbrev pub Also : (ℕ → ℕ → Type 0) → ℕ → ℕ → ℕ → ℕ → Type 0
+Also U x s y t = U y t ⊎ ((y ≡ x) × (t ≡ s))
 
 -- the numbers of the lent facts
 pub record Sized (rows : List ℕ) (codes : List (List ℕ)) : Type 0 where

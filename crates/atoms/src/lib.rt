@@ -5,7 +5,7 @@ ghost use mathlib.Core.List.{List};
 ghost use Prim.Native.Nat.{ℕ, _+_, _≤_, _<_};
 ghost use lib.Dec.{eqb};
 ghost use lib.ListN.{length};
-ghost use Rattle.language.specs.Spelling.{ValidOperand, ValidExpression, Valid};
+ghost use Rattle.language.specs.Spelling.{ValidVariable, ValidOperand, ValidExpression, Valid};
 ghost use Rattle.language.specs.Kept.{kept-count};
 ghost use Rattle.language.specs.declared.Statement.{Statement as StatementOf};
 ghost use Rattle.program.specs.Program.{at, most, row-words, WellFormed};
@@ -14,9 +14,9 @@ ghost use Rattle.bits.specs.Row.{member, rowOf, Zeros, ZeroRows};
 ghost use Rattle.ctl.specs.Paths.{So};
 ghost use Rattle.labelling.specs.Labels.{Labelled};
 ghost use Rattle.condition.specs.Condition.{ValidAtom};
-ghost use Rattle.truth.specs.Truth.{InOperand, In, Defines, Holds};
+ghost use Rattle.truth.specs.Truth.{InOperand, In, Defines, HoldsBy};
 ghost use Rattle.codes.specs.Codes.{code-words};
-ghost use Rattle.atoms.specs.Facts.{rowNumber, fact-rows, fact-words, placed, FactsBelow, FactsOf, Sized, notedOperand, notedExpression, notedKept, noted, Marked};
+ghost use Rattle.atoms.specs.Facts.{rowNumber, usedRow, fact-rows, fact-words, placed, FactsOf, usedIn, FactsIn, Sized, notedOperand, notedExpression, notedKept, noted, Marked};
 use codes::CODE_WORDS;
 use condition::Atom;
 use language::Expression;
@@ -152,6 +152,15 @@ pub fn find(p: Program, rows: &mut [u64], codes: &mut [[u64; CODE_WORDS]])
     }
 }
 
+// The variable counts as used at place s too.
+pub fn use_also(x: u8, s: usize, rows: &mut [u64])
+    requires { ⌜ ValidVariable x × (s < most) × (length (now rows) ≡ fact-words) ⌝ }
+    ensures { λ _. ⌜ Marked (now (rows .entry)) (now (rows .exit)) (eqb (usedRow x)) s ⌝ }
+{
+    let used = row_number(x, true);
+    mark(used, s, rows);
+}
+
 // Room for a row.
 pub fn blank_row() -> [u64; ROW_WORDS]
     ensures { λ r. ⌜ Zeros row-words r ⌝ }
@@ -189,7 +198,7 @@ fn copy(from: &[u64], out: &mut [u64])
 // The places below n at which the statement i stands.
 fn statement_row(i: Statement, n: usize, codes: &[[u64; CODE_WORDS]], out: &mut [u64])
     requires { ⌜ (n ≤ most) × (length (now codes) ≡ most) × (length (now out) ≡ row-words) ⌝ }
-    ensures { λ _. ⌜ ((P : List StatementOf) (rows : List ℕ) → FactsBelow P n rows (now (codes .entry)) → Labelled n (member (now (out .exit))) (λ s. at P s ≡ i)) ⌝ }
+    ensures { λ _. ⌜ ((P : List StatementOf) (rows : List ℕ) → FactsIn P n rows (now (codes .entry)) → Labelled n (member (now (out .exit))) (λ s. at P s ≡ i)) ⌝ }
 {
     let c = codes::statement_code(i);
     bits::clear(out);
@@ -208,7 +217,7 @@ fn statement_row(i: Statement, n: usize, codes: &[[u64; CODE_WORDS]], out: &mut 
 fn keeping(a: Operand, all: &[u64], rows: &[u64], out: &mut [u64])
     requires { ⌜ ValidOperand a × (length (now rows) ≡ fact-words) ⌝ }
     requires { ⌜ (length (now all) ≡ row-words) × (length (now out) ≡ row-words) ⌝ }
-    ensures { λ _. ⌜ ((P : List StatementOf) (n : ℕ) (codes : List (List ℕ)) → FactsBelow P n (now (rows .entry)) codes → ((s : ℕ) → n ≤ s → member (now (all .entry)) s ≡ false) → Labelled n (member (now (out .exit))) (λ s. So (member (now (all .entry))) s × ((x : ℕ) → InOperand x a → Defines (at P s) x → ⊥))) ⌝ }
+    ensures { λ _. ⌜ ((P : List StatementOf) (n : ℕ) (codes : List (List ℕ)) → FactsIn P n (now (rows .entry)) codes → ((s : ℕ) → n ≤ s → member (now (all .entry)) s ≡ false) → Labelled n (member (now (out .exit))) (λ s. So (member (now (all .entry))) s × ((x : ℕ) → InOperand x a → Defines (at P s) x → ⊥))) ⌝ }
 {
     match a {
         Operand::Variable(x) => bits::difference(all, row_at(rows, row_number(x, false)), out),
@@ -220,7 +229,7 @@ fn keeping(a: Operand, all: &[u64], rows: &[u64], out: &mut [u64])
 fn trans_row(e: Expression, n: usize, rows: &[u64], out: &mut [u64])
     requires { ⌜ ValidExpression e × (length (now rows) ≡ fact-words) ⌝ }
     requires { ⌜ (n ≤ most) × (length (now out) ≡ row-words) ⌝ }
-    ensures { λ _. ⌜ ((P : List StatementOf) (codes : List (List ℕ)) → FactsBelow P n (now (rows .entry)) codes → Labelled n (member (now (out .exit))) (λ s. (x : ℕ) → In x e → Defines (at P s) x → ⊥)) ⌝ }
+    ensures { λ _. ⌜ ((P : List StatementOf) (codes : List (List ℕ)) → FactsIn P n (now (rows .entry)) codes → Labelled n (member (now (out .exit))) (λ s. (x : ℕ) → In x e → Defines (at P s) x → ⊥)) ⌝ }
 {
     let mut places = blank_row();
     bits::below(n, &mut places);
@@ -234,11 +243,11 @@ fn trans_row(e: Expression, n: usize, rows: &[u64], out: &mut [u64])
     }
 }
 
-// The places of the n statements that these are the facts of, at which the atom holds.
+// The places of the n statements that these are the facts of, at which the atom holds, variables used as the rows have it.
 pub fn row(a: Atom, n: usize, rows: &[u64], codes: &[[u64; CODE_WORDS]], out: &mut [u64])
     requires { ⌜ ValidAtom a × Sized (now rows) (now codes) ⌝ }
     requires { ⌜ (n ≤ most) × (length (now out) ≡ row-words) ⌝ }
-    ensures { λ _. ⌜ ((P : List StatementOf) → length P ≡ n → FactsOf P (now (rows .entry)) (now (codes .entry)) → Labelled n (member (now (out .exit))) (Holds P a)) ⌝ }
+    ensures { λ _. ⌜ ((P : List StatementOf) → length P ≡ n → FactsIn P (length P) (now (rows .entry)) (now (codes .entry)) → Labelled n (member (now (out .exit))) (HoldsBy (usedIn (now (rows .entry))) P a)) ⌝ }
 {
     match a {
         Atom::True => bits::below(n, out),

@@ -2,6 +2,7 @@
 use mathlib.Core.Path.{_≡_, refl, subst}
 use mathlib.Core.Bool.{Bool, true, false, not, _&&_, _||_}
 use mathlib.Core.Logic.{_⊎_, inl}
+use mathlib.Core.List.{List}
 use Prim.Native.Nat.{ℕ, _+_, _≤_, _<_}
 use native.Mathlib.Omega.{arith}
 use lib.Dec.{eqb, leb, ltb}
@@ -13,12 +14,13 @@ use Rattle.language.specs.declared.Expression.{Expression}
 use Rattle.language.specs.declared.Expression.the-variants.{Single, Binary}
 use Rattle.language.specs.declared.Statement.{Statement}
 use Rattle.language.specs.declared.Statement.the-variants.{Read, Write, Assign, Branch, Skip}
+use Rattle.program.specs.Program.{at}
 use Rattle.base.specs.Decides.{Decides}
 use Rattle.base.proofs.Decides.{decides, decides-eqb, decides-either}
 use Rattle.base.proofs.Bools.{clash, and-left, and-right, and-both}
 use Rattle.condition.specs.declared.Atom.{Atom}
 use Rattle.condition.specs.declared.Atom.the-variants.{True, False, Entry, Exit, Node, Stmt, Def, Use, Trans}
-use Rattle.truth.specs.Truth.{InOperand, In, Defines, Shows, Writes, Uses, HoldsAt}
+use Rattle.truth.specs.Truth.{InOperand, In, Defines, Shows, Writes, Uses, usesOf, HoldsAt}
 use Rattle.codes.specs.Codes.{statementCode}
 use Rattle.codes.proofs.Codes.{code-unique}
 use Rattle.codes.proofs.Truths.{decides-none}
@@ -112,6 +114,17 @@ uses-decides i x =
     decides-or (Shows i x) (Writes i × Kept x) (shows i x) (writes i && kept x) (shows-decides i x)
     (decides-and (Writes i) (Kept x) (writes i) (kept x) (writes-decides i) (kept-decides x))
 
+-- tests of a variable and a place answer what counts as used
+abbrev pub DecidesUses : (ℕ → ℕ → Bool) → (ℕ → ℕ → Type 0) → Type 0
+DecidesUses used U = (x s : ℕ) → Decides (used x s) (U x s)
+
+-- the uses of a program
+abbrev pub own-uses : List Statement → ℕ → ℕ → Bool
+own-uses P x s = uses (at P s) x
+
+pub own-decides : (P : List Statement) → DecidesUses (own-uses P) (usesOf P)
+own-decides P x s = uses-decides (at P s) x
+
 -- no variable of the expression is defined
 abbrev keeps : Statement → Expression → Bool
 keeps (Read y) e = not (in-expression y e)
@@ -144,10 +157,10 @@ abbrev same-rear : Statement → Statement → Bool
 same-rear i j = same (statementCode i .second) (statementCode j .second) (statementCode i .third) (statementCode j .third)
 
 -- the four numbers of their codes are the same
-abbrev same-statement : Statement → Statement → Bool
+abbrev pub same-statement : Statement → Statement → Bool
 same-statement i j = same-front i j && same-rear i j
 
-statement-decides : (i j : Statement) → Decides (same-statement i j) (i ≡ j)
+pub statement-decides : (i j : Statement) → Decides (same-statement i j) (i ≡ j)
 statement-decides i j = decides (same-statement i j) there (λ e h. clash (subst (λ (x : Statement). same-statement i x ≡ true) h alike) e)
   where
     there : same-statement i j ≡ true → i ≡ j
@@ -161,26 +174,27 @@ statement-decides i j = decides (same-statement i j) there (λ e h. clash (subst
         and-both (same-front i i) (same-rear i i) (same-self (statementCode i .kind) (statementCode i .first))
         (same-self (statementCode i .second) (statementCode i .third))
 
--- at place s of N, where the statement i stands
-unfoldable pub holds : ℕ → Statement → ℕ → Atom → Bool
-holds N i s True = true
-holds N i s False = false
-holds N i s Entry = eqb s 0
-holds N i s Exit = eqb (s + 1) N
-holds N i s (Node n) = eqb (s + 1) n
-holds N i s (Stmt j) = same-statement i j
-holds N i s (Def x) = defines i x
-holds N i s (Use x) = uses i x
-holds N i s (Trans e) = keeps i e
+-- at place s of N, where the statement i stands and the variables of which `used` is true count as used
+unfoldable pub holds : (ℕ → Bool) → ℕ → Statement → ℕ → Atom → Bool
+holds used N i s True = true
+holds used N i s False = false
+holds used N i s Entry = eqb s 0
+holds used N i s Exit = eqb (s + 1) N
+holds used N i s (Node n) = eqb (s + 1) n
+holds used N i s (Stmt j) = same-statement i j
+holds used N i s (Def x) = defines i x
+holds used N i s (Use x) = used x
+holds used N i s (Trans e) = keeps i e
 
-pub holds-decides : (N : ℕ) (i : Statement) (s : ℕ) (a : Atom) → Decides (holds N i s a) (HoldsAt N i s a)
+pub holds-decides : (used : ℕ → Bool) (Used : ℕ → Type 0) → ((x : ℕ) → Decides (used x) (Used x))
+    → (N : ℕ) (i : Statement) (s : ℕ) (a : Atom) → Decides (holds used N i s a) (HoldsAt Used N i s a)
 unfolding holds
-holds-decides N i s True = tt
-holds-decides N i s False = λ h. h
-holds-decides N i s Entry = decides-eqb s 0
-holds-decides N i s Exit = decides-eqb (s + 1) N
-holds-decides N i s (Node n) = decides-eqb (s + 1) n
-holds-decides N i s (Stmt j) = statement-decides i j
-holds-decides N i s (Def x) = defines-decides i x
-holds-decides N i s (Use x) = uses-decides i x
-holds-decides N i s (Trans e) = keeps-decides i e
+holds-decides used Used d N i s True = tt
+holds-decides used Used d N i s False = λ h. h
+holds-decides used Used d N i s Entry = decides-eqb s 0
+holds-decides used Used d N i s Exit = decides-eqb (s + 1) N
+holds-decides used Used d N i s (Node n) = decides-eqb (s + 1) n
+holds-decides used Used d N i s (Stmt j) = statement-decides i j
+holds-decides used Used d N i s (Def x) = defines-decides i x
+holds-decides used Used d N i s (Use x) = d x
+holds-decides used Used d N i s (Trans e) = keeps-decides i e

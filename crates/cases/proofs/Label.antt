@@ -1,5 +1,5 @@
--- A labeller that computes: for every condition on every program, the places at which it is true by paths. So each condition is decided at
--- each place. Assumes nothing.
+-- A labeller that computes: for every condition on every program, the places at which it is true by paths, where tests tell what counts as
+-- used. So each condition is decided at each place. Assumes nothing.
 use mathlib.Core.Path.{_≡_, refl, sym, _∙_}
 use mathlib.Core.List.{List}
 use mathlib.Core.Bool.{Bool, true, false, not, _&&_, _||_}
@@ -15,14 +15,13 @@ use Rattle.ctl.proofs.Least.{every, any, tests, test, tests-at, grow, done, lea
 use Rattle.ctl.proofs.Paths.{next-iff, finally-iff, globally-iff}
 use Rattle.ctl.proofs.Until.{until-table}
 use Rattle.ctl.proofs.Weak.{non, nor, weak-table}
-use Rattle.labelling.proofs.Labels.{said-iff}
-use Rattle.labelling.specs.declared.Operator.the-variants as op
 use Rattle.flow.specs.Flow.{some, steps}
 use Rattle.flow.proofs.Model.{steps-graph}
 use Rattle.condition.specs.Condition.{PathUnary, next, finally, globally, PathBinary, until, weak, Unary, negation, Binary, conjunction, disjunction, Condition, atom, unary, binary}
-use Rattle.truth.specs.Truth.{SaidOne, SaidTwo, Sat}
+use Rattle.truth.specs.Truth.{SaidOne, SaidTwo, usesOf, Sat, SatBy}
+use Rattle.truth.proofs.By.{unary-same, binary-same}
 use Rattle.base.proofs.Decides.{decides-iff}
-use Rattle.cases.proofs.Atoms.{holds, holds-decides}
+use Rattle.cases.proofs.Atoms.{DecidesUses, own-uses, own-decides, holds, holds-decides}
 
 -- a set made by a test has the places at which the test holds
 tests-iff : (n : ℕ) (f : ℕ → Bool) (s : ℕ) → s < n → (test (tests n f) s ≡ true) ↔ (f s ≡ true)
@@ -82,53 +81,52 @@ module _ (P : List Statement) (w : WellFormed P) where
 
   -- ---- conditions
 
-  -- the places at which the condition is true
+  module _ (used : ℕ → ℕ → Bool) where
+    -- the places at which the condition is true, where `used` tells which variable counts as used at which place
+    unfoldable pub labelBy : Condition → List Bool
+    unfolding tests holds one-set two-set
+    labelBy (atom a) = tests (length P) (λ s. holds (λ x. used x s) (length P) (at P s) s a)
+    labelBy (unary negation p) = let t = labelBy p in tests (length P) (λ s. not (test t s))
+    labelBy (unary (Unary.path k d o) p) = let t = labelBy p in one-set o k d (test t)
+    labelBy (binary conjunction p q) = let t = labelBy p in let u = labelBy q in tests (length P) (λ s. test t s && test u s)
+    labelBy (binary disjunction p q) = let t = labelBy p in let u = labelBy q in tests (length P) (λ s. test t s || test u s)
+    labelBy (binary (Binary.path k d o) p q) = let t = labelBy p in let u = labelBy q in two-set o k d (test t) (test u)
+
+    module _ (U : ℕ → ℕ → Type 0) (decided : DecidesUses used U) where
+      -- the set of a condition is its truth by paths, at every place
+      pub labelled-by : (c : Condition) (s : ℕ) → s < length P → (test (labelBy c) s ≡ true) ↔ SatBy U P c s
+      unfolding labelBy SatBy
+      labelled-by (atom a) s l =
+          Iff·trans (tests-iff (length P) (λ s. holds (λ x. used x s) (length P) (at P s) s a) s l) (decides-iff (holds (λ x. used x s) (length P) (at P s) s a) (holds-decides (λ x. used x s) (λ x. U x s) (λ x. decided x s) (length P) (at P s) s a))
+      labelled-by (unary negation p) s l =
+          Iff·trans (tests-iff (length P) (λ s. not (test (labelBy p) s)) s l) (
+            λ e x. clash (labelled-by p s l .1 x) (false-of-not (test (labelBy p) s) e),
+            λ n. ⊎-elim (λ t. absurd (n (labelled-by p s l .0 t))) (not-of-false (test (labelBy p) s)) (split (test (labelBy p) s)),
+          )
+      labelled-by (unary (Unary.path k d o) p) s l =
+          Iff·trans (one-set-iff k d s l o (test (labelBy p))) (unary-same P (λ t. t < length P) (λ d. steps-graph P w d .inside) (Unary.path k d o) (So (test (labelBy p))) (SatBy U P p) (labelled-by p) s l)
+      labelled-by (binary conjunction p q) s l =
+          Iff·trans (tests-iff (length P) (λ s. test (labelBy p) s && test (labelBy q) s) s l) (
+            λ e. (labelled-by p s l .0 (and-left (test (labelBy p) s) (test (labelBy q) s) e), labelled-by q s l .0 (and-right (test (labelBy p) s) (test (labelBy q) s) e)),
+            λ h. and-both (test (labelBy p) s) (test (labelBy q) s) (labelled-by p s l .1 (h .0)) (labelled-by q s l .1 (h .1)),
+          )
+      labelled-by (binary disjunction p q) s l =
+          Iff·trans (tests-iff (length P) (λ s. test (labelBy p) s || test (labelBy q) s) s l) (
+            λ e. ⊎-elim (λ t. inl (labelled-by p s l .0 t)) (λ t. inr (labelled-by q s l .0 t)) (or-case (test (labelBy p) s) (test (labelBy q) s) e),
+            λ h. ⊎-elim (λ x. or-left (test (labelBy p) s) (test (labelBy q) s) (labelled-by p s l .1 x)) (λ x. or-right (test (labelBy p) s) (test (labelBy q) s) (labelled-by q s l .1 x)) h,
+          )
+      labelled-by (binary (Binary.path k d o) p q) s l =
+          Iff·trans (two-set-iff k d s l o (test (labelBy p)) (test (labelBy q)))
+          (binary-same P (λ t. t < length P) (λ d. steps-graph P w d .inside) (Binary.path k d o) (So (test (labelBy p))) (So (test (labelBy q))) (SatBy U P p) (SatBy U P q) (labelled-by p) (labelled-by q) s l)
+
+  -- by the program's own uses
   unfoldable pub label : Condition → List Bool
-  unfolding tests holds one-set two-set
-  label (atom a) = tests (length P) (λ s. holds (length P) (at P s) s a)
-  label (unary negation p) = let t = label p in tests (length P) (λ s. not (test t s))
-  label (unary (Unary.path k d o) p) = let t = label p in one-set o k d (test t)
-  label (binary conjunction p q) = let t = label p in let u = label q in tests (length P) (λ s. test t s && test u s)
-  label (binary disjunction p q) = let t = label p in let u = label q in tests (length P) (λ s. test t s || test u s)
-  label (binary (Binary.path k d o) p q) = let t = label p in let u = label q in two-set o k d (test t) (test u)
+  unfolding labelBy
+  label c = labelBy (own-uses P) c
 
-  -- what is said of a path may be said in other words of its places
-  one-iff : (o : PathUnary) (k : Quant) (d : Direction) (X Y : ℕ → Type 0) → ((t : ℕ) → t < length P → X t ↔ Y t)
-      → (s : ℕ) → s < length P → Paths k (steps P d) s (SaidOne o X) ↔ Paths k (steps P d) s (SaidOne o Y)
-  one-iff next k d X Y f = said-iff (steps-graph P w d) op.Next k X X Y Y f f
-  one-iff finally k d X Y f = said-iff (steps-graph P w d) op.Finally k X X Y Y f f
-  one-iff globally k d X Y f = said-iff (steps-graph P w d) op.Globally k X X Y Y f f
-
-  two-iff : (o : PathBinary) (k : Quant) (d : Direction) (X Y X′ Y′ : ℕ → Type 0) → ((t : ℕ) → t < length P → X t ↔ X′ t) → ((t : ℕ) → t < length P → Y t ↔ Y′ t)
-      → (s : ℕ) → s < length P → Paths k (steps P d) s (SaidTwo o X Y) ↔ Paths k (steps P d) s (SaidTwo o X′ Y′)
-  two-iff until k d X Y X′ Y′ f g = said-iff (steps-graph P w d) op.Until k X Y X′ Y′ f g
-  two-iff weak k d X Y X′ Y′ f g = said-iff (steps-graph P w d) op.Weak k X Y X′ Y′ f g
-
-  -- the set of a condition is its truth by paths, at every place
   pub labelled : (c : Condition) (s : ℕ) → s < length P → (test (label c) s ≡ true) ↔ Sat P c s
-  unfolding label Sat
-  labelled (atom a) s l =
-      Iff·trans (tests-iff (length P) (λ s. holds (length P) (at P s) s a) s l) (decides-iff (holds (length P) (at P s) s a) (holds-decides (length P) (at P s) s a))
-  labelled (unary negation p) s l =
-      Iff·trans (tests-iff (length P) (λ s. not (test (label p) s)) s l) (
-        λ e x. clash (labelled p s l .1 x) (false-of-not (test (label p) s) e),
-        λ n. ⊎-elim (λ t. absurd (n (labelled p s l .0 t))) (not-of-false (test (label p) s)) (split (test (label p) s)),
-      )
-  labelled (unary (Unary.path k d o) p) s l =
-      Iff·trans (one-set-iff k d s l o (test (label p))) (one-iff o k d (So (test (label p))) (Sat P p) (labelled p) s l)
-  labelled (binary conjunction p q) s l =
-      Iff·trans (tests-iff (length P) (λ s. test (label p) s && test (label q) s) s l) (
-        λ e. (labelled p s l .0 (and-left (test (label p) s) (test (label q) s) e), labelled q s l .0 (and-right (test (label p) s) (test (label q) s) e)),
-        λ h. and-both (test (label p) s) (test (label q) s) (labelled p s l .1 (h .0)) (labelled q s l .1 (h .1)),
-      )
-  labelled (binary disjunction p q) s l =
-      Iff·trans (tests-iff (length P) (λ s. test (label p) s || test (label q) s) s l) (
-        λ e. ⊎-elim (λ t. inl (labelled p s l .0 t)) (λ t. inr (labelled q s l .0 t)) (or-case (test (label p) s) (test (label q) s) e),
-        λ h. ⊎-elim (λ x. or-left (test (label p) s) (test (label q) s) (labelled p s l .1 x)) (λ x. or-right (test (label p) s) (test (label q) s) (labelled q s l .1 x)) h,
-      )
-  labelled (binary (Binary.path k d o) p q) s l =
-      Iff·trans (two-set-iff k d s l o (test (label p)) (test (label q)))
-      (two-iff o k d (So (test (label p))) (So (test (label q))) (Sat P p) (Sat P q) (labelled p) (labelled q) s l)
+  unfolding label
+  labelled c s l = labelled-by (own-uses P) (usesOf P) (own-decides P) c s l
 
   -- so it is true or false there
   pub sat-decided : (c : Condition) (s : ℕ) → s < length P → Dec (Sat P c s)

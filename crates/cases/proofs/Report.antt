@@ -14,14 +14,14 @@ use Rattle.marks.specs.declared.Mark.{Mark}
 use Rattle.marks.specs.Reading.{most}
 use Rattle.report.specs.Report.{countsLine, verdictLine, verdictLines, reportText, PrintsReport}
 use Rattle.cases.proofs.Marks.{parseMarks, marks-taken}
-use Rattle.cases.proofs.Verdicts.{verdictsFrom, verdicts-computed}
+use Rattle.cases.proofs.Verdicts.{verdictsOf, verdicts-computed}
 use Rattle.cases.proofs.Made.{made, made-rewritten}
 
 module _ (P : List Statement) (w : WellFormed P) where
   -- what is printed for the marks
   unfoldable pub reported : List Mark → List ℕ
-  unfolding verdictsFrom made countBelow reportText countsLine verdictLines verdictLine lines.text spell spellExpression spellOperand spellVariable signedDigits digits digitsBy
-  reported ms = let vs = verdictsFrom P w [] ms in reportText ms vs (made P ms vs (length ms))
+  unfolding verdictsOf made countBelow reportText countsLine verdictLines verdictLine lines.text spell spellExpression spellOperand spellVariable signedDigits digits digitsBy
+  reported ms = let vs = verdictsOf P w ms in reportText ms vs (made P ms vs (length ms))
 
   -- for the marks that the text u begins with, and what follows them
   unfoldable pub printed : List ℕ → Parsed (List ℕ)
@@ -34,7 +34,7 @@ printed-report t P a u o h =
     after-inv (parseMarks most u) _ h λ ms v e f.
     let none : v ≡ [] = cc in
     let same : reported P (a .program) ms ≡ o = cc in
-    let vs = verdictsFrom P (a .program) [] ms in
+    let vs = verdictsOf P (a .program) ms in
     let judged = verdicts-computed P (a .program) ms in
     record {
       P = P;

@@ -15,7 +15,7 @@ use Rattle.machine.specs.Answer.{Answers}
 use Rattle.machine.specs.declared.Answer.{Answer}
 use Rattle.marks.specs.Reading as marks
 use Rattle.marks.specs.declared.Mark.{Mark}
-use Rattle.rewriting.specs.Verdicts.{Verdicts, Rewritten}
+use Rattle.rewriting.specs.Verdicts.{Widened, Verdicts, Rewritten}
 use Rattle.lockstep.specs.Lockstep.{Changed}
 use Rattle.lockstep.proofs.Lockstep.{together}
 use Rattle.lockstep.proofs.Changed.{changed-wellformed}
@@ -53,7 +53,7 @@ demand-3 {t} {u} {P} {ms} given listed vs judged Q r = record {
   alike = alike;
 }
   where
-    changed : Changed P Q
+    changed : Changed (Widened P ms) P Q
     changed = rewritten-changed P ms vs judged Q (listed .spells .valid) r
 
     taken : Taken (text Q) Q

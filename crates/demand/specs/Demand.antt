@@ -13,7 +13,7 @@ use Rattle.machine.specs.Machine.{after}
 use Rattle.marks.specs.Reading as marks
 use Rattle.marks.specs.declared.Mark.{Mark}
 use Rattle.marks.specs.Marks.{markAt}
-use Rattle.rewriting.specs.Verdicts.{Judged, Rewritten}
+use Rattle.rewriting.specs.Verdicts.{Judged, Widened, Rewritten}
 use Rattle.rewriting.specs.declared.Verdict.the-variants.{Accepted}
 use Rattle.lockstep.specs.Lockstep.{Together, Alike}
 use Rattle.run.specs.Run.{most-steps, RunAnswers}
@@ -35,7 +35,7 @@ pub record Demand3 (t u vs w : List ℕ) : Type 0 where
   pub given : Taken t P
   pub listed : marks.Taken u ms
   -- "A mark is accepted where its verdict byte is 0, and that byte is 0 exactly where none of 11 to 14 applies"
-  pub accepted : (j : ℕ) → j < length ms → (getD vs j 0 ≡ 0) ↔ Judged P (take j ms) (markAt ms j) Accepted
+  pub accepted : (j : ℕ) → j < length ms → (getD vs j 0 ≡ 0) ↔ Judged (Widened P ms) P (take j ms) (markAt ms j) Accepted
   -- "The rewritten program is the new text .., and is itself a program that is taken."
   pub rewritten : Rewritten P ms vs Q
   pub taken : Taken w Q

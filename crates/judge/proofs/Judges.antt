@@ -13,13 +13,14 @@ use Rattle.program.proofs.Lengths.{text-fits}
 use Rattle.marks.specs.Reading as marks
 use Rattle.marks.specs.declared.Mark.{Mark}
 use Rattle.marks.proofs.Walk.{lined}
+use Rattle.rewriting.specs.Verdicts.{Widened}
 use Rattle.verdicts.specs.Judging.{VerdictsOf, SomeJudged, RewritingOf}
 use Rattle.verdicts.specs.declared.Rewriting.{Rewriting}
 use Rattle.demand.specs.Demand.{Demand3}
 use Rattle.demand.proofs.Demand.{demand-3}
 use Rattle.judge.specs.Judge.{text-bytes, Room, JudgeFinished}
 
-module _ {t u : List ℕ} {P : List Statement} {ms : List Mark} (p : Taken t P) (m : marks.Taken u ms) {old vs : List ℕ} (j : VerdictsOf P ms old vs) where
+module _ {t u : List ℕ} {P : List Statement} {ms : List Mark} (p : Taken t P) (m : marks.Taken u ms) {old vs : List ℕ} (j : VerdictsOf (Widened P ms) P ms old vs) where
   pub some-judged : marks.most ≤ length old → SomeJudged P u vs
   some-judged h = record { ms = ms; taken = m; judged = j .judged; room = omega (arith, j .same) }
 

@@ -54,7 +54,7 @@ pub fn judge(program: &[u8], marks: &[u8], verdicts: &mut [u8], text: &mut [u8])
             atoms::find(p, &mut rows, &mut codes);
             let mut flow = flow::blank();
             flow::of(p, &mut flow);
-            verdicts::judge(marks, p, &rows, &codes, &flow, verdicts);
+            widening::judge(marks, p, &mut rows, &codes, &flow, verdicts);
             let rewriting = verdicts::rewrite(marks, p, &*verdicts);
             let made = rewriting.program;
             let bytes = program::write(made, text);

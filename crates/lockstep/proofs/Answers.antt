@@ -54,9 +54,9 @@ module _ (P Q : List Statement) (vs : List ℕ) (input : ℕ) (beside : (k : ℕ
       (there .0, (s, is, there .1, same))
 
 pub answers-alike :
-    {P Q : List Statement} → WellFormed P → Changed P Q → (vs : List ℕ) → length vs ≡ variables → (input budget : ℕ)
+    {U : ℕ → ℕ → Type 0} {P Q : List Statement} → WellFormed P → Changed U P Q → (vs : List ℕ) → length vs ≡ variables → (input budget : ℕ)
     (a b : Answer) (ws us ks hs : List ℕ) → Answers P vs input budget a ws ks → Answers Q vs input budget b us hs → Alike a b × (ks ≡ hs)
-answers-alike {P} {Q} w changed vs l input budget a b ws us ks hs p q =
+answers-alike {U} {P} {Q} w changed vs l input budget a b ws us ks hs p q =
     let there = answers-beside P Q vs input (together w changed vs l input) budget a ws ks p in
     let one = answer-unique Q vs input budget a b (there .0) us ks hs (there .1) q in
     (subst (Alike a) (one .0) (alike-self a), one .2)

@@ -1,7 +1,7 @@
--- What the conditions of the rules tell, step by step. `rm`: a variable that is used is live, one that is live after a step is live before
--- it unless it is defined there, and one that is unneeded is live after no step. `rpl`: a copy that is sure to have been made before a
--- place was made at the place before, or is sure to have been made before that one, which touches neither side; before the first
--- statement none is. Assumes nothing.
+-- What the conditions of the rules tell, step by step, where variables count as used as U says. `rm`: a variable that is used is live, one that
+-- is live after a step is live before it unless it is defined there, and one that is unneeded is live after no step. `rpl` and `cse`: what is sure
+-- to have been done before a place was done at the place before, or is sure to have been done before that one, which touches neither side;
+-- before the first statement nothing is. Assumes nothing.
 use mathlib.Core.Path.{_≡_, refl, sym, subst}
 use mathlib.Core.Bool.{true, not, _&&_}
 use mathlib.Core.Logic.{_⊎_, inl, inr, ⊎-elim}
@@ -12,19 +12,17 @@ use lib.Dec.{eqb, ltb}
 use lib.ListN.{length}
 use borrow.Author.Tests.{eqb-true, ltb-true, lt-ltb}
 use Rattle.base.proofs.Bools.{clash, or-case, or-left, and-left, and-right, and-both}
-use Rattle.language.specs.declared.Operand.{Operand}
-use Rattle.language.specs.declared.Expression.the-variants.{Single}
+use Rattle.language.specs.declared.Expression.{Expression}
 use Rattle.language.specs.declared.Statement.{Statement}
 use Rattle.language.specs.declared.Statement.the-variants.{Read, Write, Assign, Branch, Skip}
 use Rattle.program.specs.Program.{at, Targets, WellFormed}
 use Rattle.flow.specs.Flow.{leads, isWrite, precedes, some, steps}
 use Rattle.ctl.specs.Paths.{forward, backward}
 use Rattle.flow.proofs.Model.{steps-graph}
-use Rattle.condition.specs.Condition.{negation, atom, unary}
-use Rattle.truth.specs.Truth.{In, Defines, Uses, Sat}
-use Rattle.condition.specs.declared.Atom.the-variants.{Stmt, Def, Use}
-use Rattle.lockstep.specs.Rules.{live, untouched, copied, unneeded, copiedBefore}
-use Rattle.lockstep.proofs.Decisions.{copy-decided}
+use Rattle.condition.specs.Condition.{negation, Condition, atom, unary}
+use Rattle.truth.specs.Truth.{In, Defines, usesOf, Sat, SatBy}
+use Rattle.condition.specs.declared.Atom.the-variants.{Def, Use}
+use Rattle.lockstep.specs.Rules.{live, untouched, sure, unneeded, sureBefore}
 use Rattle.lockstep.proofs.Expansion.{denied, some-next, all-next, next-all, until-now, until-later, weak-now, weak-later}
 
 -- no statement leads to the first
@@ -58,72 +56,72 @@ module _ (P : List Statement) (w : WellFormed P) where
       (λ h. sym (eqb-true 0 t (and-left (eqb 0 t) (not (some (length P) (λ u. precedes P u 0))) h)))
       (or-case (precedes P t 0) (eqb 0 t && not (some (length P) (λ u. precedes P u 0))) e)
 
-  -- ---- `rm`
+  module _ (U : ℕ → ℕ → Type 0) where
+    -- ---- `rm`
 
-  pub live-use : (x s : ℕ) → s < length P → Uses (at P s) x → Sat P (live x) s
-  unfolding Sat
-  live-use x s l u = until-now w forward l (unary negation (atom (Def x))) (atom (Use x)) u
+    pub live-use : (x s : ℕ) → s < length P → U x s → SatBy U P (live x) s
+    unfolding SatBy
+    live-use x s l u = until-now U w forward l (unary negation (atom (Def x))) (atom (Use x)) u
 
-  pub live-step : (x s t : ℕ) → s < length P → leads (at P s) s t ≡ true → ¬ Defines (at P s) x → Sat P (live x) t → Sat P (live x) s
-  unfolding Sat
-  live-step x s t l go d h = until-later w forward l (unary negation (atom (Def x))) (atom (Use x)) d t (forward-step s t go) h
+    pub live-step : (x s t : ℕ) → s < length P → leads (at P s) s t ≡ true → ¬ Defines (at P s) x → SatBy U P (live x) t → SatBy U P (live x) s
+    unfolding SatBy
+    live-step x s t l go d h = until-later U w forward l (unary negation (atom (Def x))) (atom (Use x)) d t (forward-step s t go) h
 
-  -- what is unneeded is live after no step
-  pub unneeded-dead : (x s t : ℕ) → s < length P → leads (at P s) s t ≡ true → Sat P (unneeded x) s → ¬ Sat P (live x) t
-  unneeded-dead x s t l go c h = denied P _ s c (some-next w forward l (live x) t (forward-step s t go) h)
+    -- what is live by the program's own uses is live by more
+    pub live-wide : ((x s : ℕ) → usesOf P x s → U x s) → (x s : ℕ) → Sat P (live x) s → SatBy U P (live x) s
+    unfolding SatBy
+    live-wide wide x s (π, f, (i, y, b)) = (π, f, (i, wide x (π i) y, b))
 
-  -- ---- `rpl`
+    -- what is unneeded is live after no step
+    pub unneeded-dead : (x s t : ℕ) → s < length P → leads (at P s) s t ≡ true → SatBy U P (unneeded x) s → ¬ SatBy U P (live x) t
+    unneeded-dead x s t l go c h = denied U P _ s c (some-next U w forward l (live x) t (forward-step s t go) h)
 
-  module _ (x : ℕ) (a : Operand) where
-    -- the copy is made there
-    abbrev pub Copies : ℕ → Type 0
-    Copies s = at P s ≡ Assign x (Single a)
+    -- ---- `rpl` and `cse`
 
-    -- the place touches neither side of the copy, and isn't the first
-    pub record Between (s : ℕ) : Type 0 where
-      pub undefined : ¬ Defines (at P s) x
-      pub unchanged : (y : ℕ) → In y (Single a) → ¬ Defines (at P s) y
-      pub later : ¬ (s ≡ 0)
+    module _ (x : ℕ) (e : Expression) where
+      -- the place touches neither x nor e, and isn't the first
+      pub record Between (s : ℕ) : Type 0 where
+        pub undefined : ¬ Defines (at P s) x
+        pub unchanged : (y : ℕ) → In y e → ¬ Defines (at P s) y
+        pub later : ¬ (s ≡ 0)
 
-    untouched-between : (s : ℕ) → Sat P (untouched x a) s → Between s
-    unfolding Sat
-    untouched-between s h = record { undefined = h .0 .0; unchanged = h .0 .1; later = h .1 }
+      untouched-between : (s : ℕ) → SatBy U P (untouched x e) s → Between s
+      unfolding SatBy
+      untouched-between s h = record { undefined = h .0 .0; unchanged = h .0 .1; later = h .1 }
 
-    module _ (s : ℕ) (l : s < length P) where
-      -- made at a place or sure to have been made before it, and not made there: the place is one between
-      copied-between : Sat P (copied x a) s → ¬ Copies s → Between s
-      unfolding Sat
-      copied-between c none = record {
-        undefined = λ d. not-out (λ h. untouched-between s h .undefined d);
-        unchanged = λ y u d. not-out (λ h. untouched-between s h .unchanged y u d);
-        later = λ e. not-out (λ h. untouched-between s h .later e);
-      }
-        where
-          not-out : ¬ ¬ Sat P (untouched x a) s
-          not-out = weak-now w backward l (untouched x a) (atom (Stmt (Assign x (Single a)))) c none
+      module _ (source : Condition) where
+        module _ (s : ℕ) (l : s < length P) where
+          -- done at a place or sure to have been done before it, and not done there: the place is one between
+          sure-between : SatBy U P (sure x e source) s → ¬ SatBy U P source s → Between s
+          sure-between c none = record {
+            undefined = λ d. not-out (λ h. untouched-between s h .undefined d);
+            unchanged = λ y u d. not-out (λ h. untouched-between s h .unchanged y u d);
+            later = λ q. not-out (λ h. untouched-between s h .later q);
+          }
+            where
+              not-out : ¬ ¬ SatBy U P (untouched x e) s
+              not-out = weak-now U w backward l (untouched x e) source c none
 
-      -- and it was made before
-      copied-earlier : Sat P (copied x a) s → ¬ Copies s → Sat P (copiedBefore x a) s
-      unfolding Sat
-      copied-earlier c none =
-          all-next w backward l (copied x a) (weak-later w backward l (untouched x a) (atom (Stmt (Assign x (Single a)))) c none)
+          -- and it was done before
+          sure-earlier : SatBy U P (sure x e source) s → ¬ SatBy U P source s → SatBy U P (sureBefore x e source) s
+          sure-earlier c none = all-next U w backward l (sure x e source) (weak-later U w backward l (untouched x e) source c none)
 
-      -- sure to have been made before t, where s leads to t: made at s, or made before s, which is one between
-      pub copied-cases :
-          (t : ℕ) → t < length P → leads (at P s) s t ≡ true → Sat P (copiedBefore x a) t → Copies s ⊎ (Between s × Sat P (copiedBefore x a) s)
-      copied-cases t k go c = by (copy-decided (at P s) x a)
-        where
-          now : Sat P (copied x a) s
-          now = next-all w backward k (copied x a) c s (backward-step s t l go)
+          -- sure to have been done before t, where s leads to t: done at s, or done before s, which is one between
+          pub sure-cases : Dec (SatBy U P source s) → (t : ℕ) → t < length P → leads (at P s) s t ≡ true → SatBy U P (sureBefore x e source) t
+              → SatBy U P source s ⊎ (Between s × SatBy U P (sureBefore x e source) s)
+          sure-cases decided t k go c = by decided
+            where
+              now : SatBy U P (sure x e source) s
+              now = next-all U w backward k (sure x e source) c s (backward-step s t l go)
 
-          by : Dec (Copies s) → Copies s ⊎ (Between s × Sat P (copiedBefore x a) s)
-          by (yes h) = inl h
-          by (no h) = inr (copied-between now h, copied-earlier now h)
+              by : Dec (SatBy U P source s) → SatBy U P source s ⊎ (Between s × SatBy U P (sureBefore x e source) s)
+              by (yes h) = inl h
+              by (no h) = inr (sure-between now h, sure-earlier now h)
 
-    -- no copy is sure to have been made before the first statement
-    pub first-uncopied : ¬ Copies 0 → ¬ Sat P (copiedBefore x a) 0
-    first-uncopied none c =
-        let first : 0 < length P = omega (arith, w .counted .0) in
-        let back = steps-graph P w backward .onward 0 first in
-        let there = next-all w backward first (copied x a) c (back .0) (back .1) in
-        copied-between 0 first (subst (Sat P (copied x a)) (first-back (back .0) (back .1)) there) none .later refl
+        -- nothing is sure to have been done before the first statement
+        pub first-unsure : ¬ SatBy U P source 0 → ¬ SatBy U P (sureBefore x e source) 0
+        first-unsure none c =
+            let first : 0 < length P = omega (arith, w .counted .0) in
+            let back = steps-graph P w backward .onward 0 first in
+            let there = next-all U w backward first (sure x e source) c (back .0) (back .1) in
+            sure-between 0 first (subst (SatBy U P (sure x e source)) (first-back (back .0) (back .1)) there) none .later refl

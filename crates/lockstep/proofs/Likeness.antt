@@ -70,7 +70,7 @@ module _ (vs ws : List ℕ) where
   operand-agrees (Variable x) h = h x refl
   operand-agrees (Constant n) h = refl
 
-  value-agrees : (e : Expression) → ((y : ℕ) → In y e → Same vs ws y) → value vs e ≡ value ws e
+  pub value-agrees : (e : Expression) → ((y : ℕ) → In y e → Same vs ws y) → value vs e ≡ value ws e
   value-agrees (Single a) h = ap Value (operand-agrees a h)
   value-agrees (Binary a o b) h =
       ap₂ (λ (v w : ℕ). given (faults o w) (apply o v w)) (operand-agrees a (λ y u. h y (inl u))) (operand-agrees b (λ y u. h y (inr u)))

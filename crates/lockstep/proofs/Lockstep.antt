@@ -1,9 +1,9 @@
 -- The given and the changed program run in lockstep: after every number of steps both runs stand before the same statement, and agree on
 -- every variable that the given program may still use before defining it; or both have ended alike. By induction on the number of steps,
--- with the invariant `Held`. Assumes nothing.
+-- with the invariant `Held`, in which variables count as used as U says. Assumes nothing.
 use mathlib.Core.Path.{_≡_, refl, sym, _∙_, ap, ap₂, subst}
 use mathlib.Core.Bool.{Bool, true, false}
-use mathlib.Core.Logic.{_⊎_, inl, inr}
+use mathlib.Core.Logic.{_↔_, _⊎_, inl, inr}
 use mathlib.Core.List.{List}
 use Prim.Native.Nat.{ℕ, zero, suc, _+_, _-_, _<_}
 use native.Mathlib.Omega.{arith}
@@ -14,6 +14,7 @@ use borrow.Author.Tests.{eq-eqb}
 use Rattle.base.proofs.Bools.{or-left, or-right}
 use Rattle.language.specs.Spelling.{variables, Valid}
 use Rattle.language.specs.declared.Operand.{Operand}
+use Rattle.language.specs.declared.Operand.the-variants.{Variable}
 use Rattle.language.specs.declared.Expression.{Expression}
 use Rattle.language.specs.declared.Expression.the-variants.{Single}
 use Rattle.language.specs.declared.Statement.{Statement}
@@ -26,47 +27,63 @@ use Rattle.machine.specs.Machine.{written, State, before, ended, after, stored,
 use Rattle.base.specs.Pick.{pick}
 use Rattle.flow.specs.Flow.{leads}
 use Rattle.flow.proofs.Model.{forward-inside}
-use Rattle.truth.specs.Truth.{InOperand, Defines, Shows, Uses, Sat}
-use Rattle.marks.specs.declared.Mark.the-variants.{Rm, Rpl}
-use Rattle.lockstep.specs.Rules.{Harmless, live, unneeded, copiedBefore, replace}
+use Rattle.truth.specs.Truth.{InOperand, In, Defines, Shows, Uses, usesOf, SatBy}
+use Rattle.marks.specs.declared.Mark.the-variants.{Rm, Rpl, Cse}
+use Rattle.lockstep.specs.Rules.{Harmless, live, unneeded, copy, work, copiedBefore, computedBefore, replace}
 use Rattle.lockstep.specs.Lockstep.{Change, Changed, Agree, Side, Together}
-use Rattle.lockstep.proofs.Decisions.{operand-decided, defines-decided}
-use Rattle.lockstep.proofs.Likeness.{stored-here, harmless-gives, operand-self, operand-agrees, Like, reads, writes, assigns, branches, skips, same-like, replaced-like}
-use Rattle.lockstep.proofs.Conditions.{forward-step, live-use, live-step, unneeded-dead, Copies, Between, copied-cases, first-uncopied}
+use Rattle.lockstep.proofs.Decisions.{operand-decided, defines-decided, assign-decided, work-decided}
+use Rattle.lockstep.proofs.Likeness.{stored-here, harmless-gives, operand-self, operand-agrees, value-agrees, Like, reads, writes, assigns, branches, skips, same-like, replaced-like}
+use Rattle.lockstep.proofs.Conditions.{forward-step, live-use, live-step, live-wide, unneeded-dead, Between, sure-cases, first-unsure}
 
 -- both arms of an `if` are where a run may go
 branch-leads : (b : Bool) (x n m s : ℕ) → leads (Branch x n m) s (pick b m n - 1) ≡ true
 branch-leads true x n m s = or-right (eqb (n - 1) (m - 1)) (eqb (m - 1) (m - 1)) (eq-eqb (m - 1) (m - 1) refl)
 branch-leads false x n m s = or-left (eqb (n - 1) (n - 1)) (eqb (m - 1) (n - 1)) (eq-eqb (n - 1) (n - 1) refl)
 
--- what a copy stores is the operand's value
-copy-stores :
-    (vs : List ℕ) (x : ℕ) (e : Expression) (v y : ℕ) (a : Operand) → value vs e ≡ Value v → x < length vs → Assign x e ≡ Assign y (Single a)
-    → getD (set vs x v) y 0 ≡ operandValue vs a
-copy-stores vs x e v y a is l q =
+-- after x := e, which gave v, each y := f that it may be read as gave what y holds
+assigned-gave :
+    (vs : List ℕ) (x : ℕ) (e : Expression) (v y : ℕ) (f : Expression) → value vs e ≡ Value v → x < length vs → Assign x e ≡ Assign y f
+    → value vs f ≡ Value (getD (set vs x v) y 0)
+assigned-gave vs x e v y f is l q =
     let to : y ≡ x = cc in
-    let from : e ≡ Single a = cc in
-    let gives : Value (operandValue vs a) ≡ Value v = sym (ap (value vs) from) ∙ is in
-    let same : v ≡ operandValue vs a = cc in
-    stored-here vs x v y l to ∙ same
+    let from : f ≡ e = cc in
+    ap (value vs) from ∙ is ∙ ap (λ (n : ℕ). Value n) (sym (stored-here vs x v y l to))
 
-module _ (P : List Statement) (w : WellFormed P) where
-  -- What holds before each step: the place is one of the program's; both runs have all their values; these agree on what is live; and
-  -- where a copy of a in x is sure to have been made, the given x holds the given a and the changed run's a.
+-- what a copy and what a work say of the place
+made-copy : (U : ℕ → ℕ → Type 0) (P : List Statement) (x : ℕ) (a : Operand) (s : ℕ) → SatBy U P (copy x a) s ↔ (at P s ≡ Assign x (Single a))
+unfolding SatBy
+made-copy U P x a s = (λ h. h, λ h. h)
+
+done-work : (U : ℕ → ℕ → Type 0) (P : List Statement) (t : ℕ) (e : Expression) (s : ℕ)
+    → SatBy U P (work t e) s ↔ ((at P s ≡ Assign t e) × ((y : ℕ) → In y e → Defines (at P s) y → ⊥))
+unfolding SatBy
+done-work U P t e s = (λ h. h, λ h. h)
+
+-- what means the same is decided too
+decided-as : {X Y : Type 0} → Y ↔ X → Dec X → Dec Y
+decided-as f (yes h) = yes (f .1 h)
+decided-as f (no h) = no (λ y. h (f .0 y))
+
+module _ (U : ℕ → ℕ → Type 0) (P : List Statement) (w : WellFormed P) (wide : (x s : ℕ) → usesOf P x s → U x s) where
+  -- What holds before each step: the place is one of the program's; both runs have all their values; these agree on what is live; where a
+  -- copy of a in x is sure to have been made, the given x holds the given a and the changed run's a; and where t is sure to hold e, e has a
+  -- value, with no fault, and it is the given t's.
   record Held (s : ℕ) (vs ws : List ℕ) : Type 0 where
     inside : s < length P
     whole : length vs ≡ variables
     whole′ : length ws ≡ variables
-    agree : Agree P s vs ws
-    copies : (x : ℕ) (a : Operand) → ¬ InOperand x a → Sat P (copiedBefore x a) s
+    agree : (x : ℕ) → SatBy U P (live x) s → getD vs x 0 ≡ getD ws x 0
+    copies : (x : ℕ) (a : Operand) → ¬ InOperand x a → SatBy U P (copiedBefore x a) s
         → (getD vs x 0 ≡ operandValue vs a) × (getD vs x 0 ≡ operandValue ws a)
+    computed : (t : ℕ) (e : Expression) → SatBy U P (computedBefore t e) s → value vs e ≡ Value (getD vs t 0)
 
   -- ---- the first statement
 
-  first-no-copy : (x : ℕ) (a : Operand) → ¬ Copies P w x a 0
-  first-no-copy x a e =
+  -- it assigns nothing
+  first-assigns : (x : ℕ) (e : Expression) → ¬ (at P 0 ≡ Assign x e)
+  first-assigns x e q =
       let placed : InPlace (length P) 0 (at P 0) = w .placed 0 (omega (arith, w .counted .0)) in
-      let inner : InPlace (length P) 0 (Assign x (Single a)) = rw e at placed in
+      let inner : InPlace (length P) 0 (Assign x e) = rw q at placed in
       omega (arith, inner)
 
   held-first : (vs : List ℕ) → length vs ≡ variables → Held 0 vs vs
@@ -75,7 +92,8 @@ module _ (P : List Statement) (w : WellFormed P) where
     whole = l;
     whole′ = l;
     agree = λ x h. refl;
-    copies = λ x a o c. absurd (first-uncopied P w x a (first-no-copy x a) c);
+    copies = λ x a o c. absurd (first-unsure P w U x (Single a) (copy x a) (λ h. first-assigns x (Single a) (made-copy U P x a 0 .0 h)) c);
+    computed = λ t e c. absurd (first-unsure P w U t e (work t e) (λ h. first-assigns t e (done-work U P t e 0 .0 h .0)) c);
   }
 
   -- ---- one step of both from place s, where i stands: what holds before it holds after it
@@ -86,8 +104,8 @@ module _ (P : List Statement) (w : WellFormed P) where
       (long′ : length ws′ ≡ variables)
       (frame : (y : ℕ) → ¬ Defines i y → getD vs′ y 0 ≡ getD vs y 0)
       (frame′ : (y : ℕ) → ¬ Defines i y → getD ws′ y 0 ≡ getD ws y 0)
-      (stores : (y : ℕ) → Defines i y → Sat P (live y) t → getD vs′ y 0 ≡ getD ws′ y 0)
-      (copy : (x : ℕ) (a : Operand) → i ≡ Assign x (Single a) → getD vs′ x 0 ≡ operandValue vs a) where
+      (stores : (y : ℕ) → Defines i y → SatBy U P (live y) t → getD vs′ y 0 ≡ getD ws′ y 0)
+      (gave : (x : ℕ) (e : Expression) → i ≡ Assign x e → value vs e ≡ Value (getD vs′ x 0)) where
     there : leads (at P s) s t ≡ true
     there = rw is go
 
@@ -97,29 +115,33 @@ module _ (P : List Statement) (w : WellFormed P) where
     stays : (y : ℕ) → ¬ Defines (at P s) y → ¬ Defines i y
     stays y f = rw is at f
 
-    agree-on : Agree P t vs′ ws′
+    agree-on : (x : ℕ) → SatBy U P (live x) t → getD vs′ x 0 ≡ getD ws′ x 0
     agree-on x l = by (defines-decided i x)
       where
         by : Dec (Defines i x) → getD vs′ x 0 ≡ getD ws′ x 0
         by (yes d) = stores x d l
-        by (no d) = frame x d ∙ held .agree x (live-step P w x s t (held .inside) there (rw is d) l) ∙ sym (frame′ x d)
+        by (no d) = frame x d ∙ held .agree x (live-step P w U x s t (held .inside) there (rw is d) l) ∙ sym (frame′ x d)
 
-    copies-on : (x : ℕ) (a : Operand) → ¬ InOperand x a → Sat P (copiedBefore x a) t
+    copies-on : (x : ℕ) (a : Operand) → ¬ InOperand x a → SatBy U P (copiedBefore x a) t
         → (getD vs′ x 0 ≡ operandValue vs′ a) × (getD vs′ x 0 ≡ operandValue ws′ a)
-    copies-on x a o c = by (copied-cases P w x a s (held .inside) t inside-on there c)
+    copies-on x a o c =
+        by (sure-cases P w U x (Single a) (copy x a) s (held .inside) (decided-as (made-copy U P x a s) (assign-decided (at P s) x (Single a))) t inside-on there c)
       where
-        by : Copies P w x a s ⊎ (Between P w x a s × Sat P (copiedBefore x a) s)
+        by : SatBy U P (copy x a) s ⊎ (Between P w U x (Single a) s × SatBy U P (copiedBefore x a) s)
             → (getD vs′ x 0 ≡ operandValue vs′ a) × (getD vs′ x 0 ≡ operandValue ws′ a)
         -- the copy itself: its operand is used here, so live, and stays
-        by (inl e) = (new ∙ sym given, new ∙ both ∙ sym changed)
+        by (inl h) = (new ∙ sym given, new ∙ both ∙ sym changed)
           where
+            e : at P s ≡ Assign x (Single a)
+            e = made-copy U P x a s .0 h
+
             kept : (y : ℕ) → InOperand y a → ¬ Defines i y
             kept y u d =
                 let defined : Defines (Assign x (Single a)) y = subst (λ (j : Statement). Defines j y) (sym is ∙ e) d in
                 o (rw defined at u)
 
             new : getD vs′ x 0 ≡ operandValue vs a
-            new = copy x a (sym is ∙ e)
+            new = let made : Value (operandValue vs a) ≡ Value (getD vs′ x 0) = gave x (Single a) (sym is ∙ e) in cc
 
             given : operandValue vs′ a ≡ operandValue vs a
             given = operand-agrees vs′ vs a (λ y u. frame y (kept y u))
@@ -131,7 +153,7 @@ module _ (P : List Statement) (w : WellFormed P) where
             used y u = subst (λ (j : Statement). Uses j y) (sym e) (inl u)
 
             both : operandValue vs a ≡ operandValue ws a
-            both = operand-agrees vs ws a (λ y u. held .agree y (live-use P w y s (held .inside) (used y u)))
+            both = operand-agrees vs ws a (λ y u. held .agree y (live-use P w U y s (held .inside) (wide y s (used y u))))
         -- a statement between: it defines neither x nor a variable of a
         by (inr (b, c′)) = (frame x (stays x (b .undefined)) ∙ was .0 ∙ sym given, frame x (stays x (b .undefined)) ∙ was .1 ∙ sym changed)
           where
@@ -144,6 +166,18 @@ module _ (P : List Statement) (w : WellFormed P) where
             changed : operandValue ws′ a ≡ operandValue ws a
             changed = operand-agrees ws′ ws a (λ y u. frame′ y (stays y (b .unchanged y u)))
 
+    computed-on : (x : ℕ) (e : Expression) → SatBy U P (computedBefore x e) t → value vs′ e ≡ Value (getD vs′ x 0)
+    computed-on x e c =
+        by (sure-cases P w U x e (work x e) s (held .inside) (decided-as (done-work U P x e s) (work-decided (at P s) x e)) t inside-on there c)
+      where
+        -- what touches no variable of e leaves its value
+        same : ((y : ℕ) → In y e → ¬ Defines (at P s) y) → value vs′ e ≡ value vs e
+        same clear = value-agrees vs′ vs e (λ y u. frame y (stays y (clear y u)))
+
+        by : SatBy U P (work x e) s ⊎ (Between P w U x e s × SatBy U P (computedBefore x e) s) → value vs′ e ≡ Value (getD vs′ x 0)
+        by (inl h) = let done = done-work U P x e s .0 h in same (done .1) ∙ gave x e (sym is ∙ done .0)
+        by (inr (b, c′)) = same (b .unchanged) ∙ held .computed x e c′ ∙ ap (λ (n : ℕ). Value n) (sym (frame x (stays x (b .undefined))))
+
     held-on : Held t vs′ ws′
     held-on = record {
       inside = inside-on;
@@ -151,6 +185,7 @@ module _ (P : List Statement) (w : WellFormed P) where
       whole′ = long′;
       agree = agree-on;
       copies = copies-on;
+      computed = computed-on;
     }
 
   module _ (input s : ℕ) (vs ws : List ℕ) (held : Held s vs ws) where
@@ -170,7 +205,7 @@ module _ (P : List Statement) (w : WellFormed P) where
               (length-set vs x v ∙ held .whole) (length-set ws x v ∙ held .whole′)
               (λ y d. getD-set-other vs x y v 0 d) (λ y d. getD-set-other ws x y v 0 d)
               (λ y d l. stored-here vs x v y (rw (held .whole) below) d ∙ sym (stored-here ws x v y (rw (held .whole′) below) d))
-              (λ y a q. copy-stores vs x e v y a gives (rw (held .whole) below) q),
+              (λ y f q. assigned-gave vs x e v y f gives (rw (held .whole) below) q),
         )
 
     -- two statements that do alike
@@ -182,7 +217,7 @@ module _ (P : List Statement) (w : WellFormed P) where
               (length-set vs x input ∙ held .whole) (length-set ws x input ∙ held .whole′)
               (λ y d. getD-set-other vs x y input 0 d) (λ y d. getD-set-other ws x y input 0 d)
               (λ y d l. stored-here vs x input y (rw (held .whole) below) d ∙ sym (stored-here ws x input y (rw (held .whole′) below) d))
-              (λ y a q. cc),
+              (λ y f q. cc),
         )
     like-on i j is (writes same kept) = ap₂ written same kept
     like-on i j is (assigns {x} {e} {f} same) =
@@ -190,16 +225,16 @@ module _ (P : List Statement) (w : WellFormed P) where
     like-on i j is (branches {x} {y} {n} {m} same) = (
       ap (λ (v : ℕ). pick (eqb v 0) m n - 1) same,
       held-on s (pick (eqb (getD vs x 0) 0) m n - 1) vs ws vs ws held (Branch x n m) is (branch-leads (eqb (getD vs x 0) 0) x n m s)
-          (held .whole) (held .whole′) (λ z d. refl) (λ z d. refl) (λ z d l. absurd d) (λ z a q. cc),
+          (held .whole) (held .whole′) (λ z d. refl) (λ z d. refl) (λ z d l. absurd d) (λ z f q. cc),
     )
     like-on i j is skips = (
       refl,
       held-on s (s + 1) vs ws vs ws held Skip is next-line (held .whole) (held .whole′) (λ z d. refl) (λ z d. refl)
-          (λ z d l. absurd d) (λ z a q. cc),
+          (λ z d l. absurd d) (λ z f q. cc),
     )
 
     -- an assignment whose variable is not live after it, and `skip`
-    removed-on : (x : ℕ) (e : Expression) → at P s ≡ Assign x e → Harmless e → Sat P (unneeded x) s
+    removed-on : (x : ℕ) (e : Expression) → at P s ≡ Assign x e → Harmless e → SatBy U P (unneeded x) s
         → Side Held (perform (Assign x e) input s vs) (perform Skip input s ws)
     removed-on x e is harmless c =
         let below : x < variables = valid (Assign x e) is .0 in
@@ -210,28 +245,34 @@ module _ (P : List Statement) (w : WellFormed P) where
           held-on s (s + 1) vs ws (set vs x v) ws held (Assign x e) is next-line
               (length-set vs x v ∙ held .whole) (held .whole′)
               (λ y d. getD-set-other vs x y v 0 d) (λ y d. refl)
-              (λ y d l. absurd (unneeded-dead P w x s (s + 1) (held .inside) (rw is next-line) c (rw d at l)))
-              (λ y a q. copy-stores vs x e v y a (gives .1) (rw (held .whole) below) q),
+              (λ y d l. absurd (unneeded-dead P w U x s (s + 1) (held .inside) (rw is next-line) c (rw d at l)))
+              (λ y f q. assigned-gave vs x e v y f (gives .1) (rw (held .whole) below) q),
         )
 
     used-same : (y : ℕ) → Uses (at P s) y → getD vs y 0 ≡ getD ws y 0
-    used-same y u = held .agree y (live-use P w y s (held .inside) u)
+    used-same y u = held .agree y (live-use P w U y s (held .inside) (wide y s u))
 
     -- the given x is the changed run's a, where x is used and a copy of a in x is sure to have been made
-    copied-same : (x : ℕ) (a : Operand) → Shows (at P s) x → Sat P (copiedBefore x a) s → getD vs x 0 ≡ operandValue ws a
+    copied-same : (x : ℕ) (a : Operand) → Shows (at P s) x → SatBy U P (copiedBefore x a) s → getD vs x 0 ≡ operandValue ws a
     copied-same x a u c = by (operand-decided x a)
       where
         by : Dec (InOperand x a) → getD vs x 0 ≡ operandValue ws a
         by (yes o) = used-same x (inl u) ∙ sym (operand-self a x ws o)
         by (no o) = held .copies x a o c .1
 
-    change-on : (j : Statement) → Change P s j → Side Held (perform (at P s) input s vs) (perform j input s ws)
-    change-on j (inl e) = rw e (like-on (at P s) (at P s) refl (same-like vs ws (held .whole) (held .whole′) (at P s) used-same))
-    change-on j (inr (Rm n x e, v, fit, harmless, c, made)) = rw (made, fit) (removed-on x e fit harmless c)
-    change-on j (inr (Rpl n x a, v, (u, takes), d, c, made)) =
-        rw made (like-on (at P s) (replace x a (at P s)) refl (replaced-like vs ws (held .whole) (held .whole′) x a (copied-same x a u c) (at P s) takes used-same))
+    -- the changed run's t is what e gives, where t counts as used and is sure to hold e
+    reused-same : (t : ℕ) (e : Expression) → U t s → SatBy U P (computedBefore t e) s → value vs e ≡ value ws (Single (Variable t))
+    reused-same t e u c = held .computed t e c ∙ ap (λ (n : ℕ). Value n) (held .agree t (live-use P w U t s (held .inside) u))
 
-  module _ (Q : List Statement) (changed : Changed P Q) (input : ℕ) where
+    change-on : (j : Statement) → Change U P s j → Side Held (perform (at P s) input s vs) (perform j input s ws)
+    change-on j (inl e) = rw e (like-on (at P s) (at P s) refl (same-like vs ws (held .whole) (held .whole′) (at P s) used-same))
+    change-on j (inr (Rm n x e, v, fit, harmless, c, u, made)) = rw (made, fit) (removed-on x e fit harmless c)
+    change-on j (inr (Rpl n x a, v, (u, takes), d, c, k, made)) =
+        rw made (like-on (at P s) (replace x a (at P s)) refl (replaced-like vs ws (held .whole) (held .whole′) x a (copied-same x a u c) (at P s) takes used-same))
+    change-on j (inr (Cse n t e, v, ((z, fit), two), d, c, u, made)) =
+        rw (made, fit) (like-on (Assign z e) (Assign z (Single (Variable t))) fit (assigns (reused-same t e u c)))
+
+  module _ (Q : List Statement) (changed : Changed U P Q) (input : ℕ) where
     step-on : (a b : State) → Side Held a b → Side Held (stepFrom P input a) (stepFrom Q input b)
     step-on (before s vs) (before t ws) (same, held) =
         subst (λ (u : ℕ). Side Held (perform (at P s) input s vs) (perform (at Q u) input u ws)) same
@@ -256,14 +297,15 @@ side-map R S f (ended v) (ended u) h = h
 
 -- for every start, input and number of steps
 pub lockstep :
-    {P Q : List Statement} → WellFormed P → Changed P Q → (vs : List ℕ) → length vs ≡ variables → (input k : ℕ)
+    {U : ℕ → ℕ → Type 0} {P Q : List Statement} → WellFormed P → Changed U P Q → (vs : List ℕ) → length vs ≡ variables → (input k : ℕ)
     → Side (Agree P) (after P vs input k) (after Q vs input k)
-lockstep {P} {Q} w changed vs l input k =
-    side-map (Held P w) (Agree P) (λ s us ws h. h .agree) (after P vs input k) (after Q vs input k) (held-after P w Q changed input vs l k)
+lockstep {U} {P} {Q} w changed vs l input k =
+    side-map (Held U P w (changed .wide)) (Agree P) (λ s us ws h x l. h .agree x (live-wide P w U (changed .wide) x s l)) (after P vs input k) (after Q vs input k)
+    (held-after U P w (changed .wide) Q changed input vs l k)
 
 -- "After k steps, for every k from 0 on and beyond any budget": the same without the variables
 pub together :
-    {P Q : List Statement} → WellFormed P → Changed P Q → (vs : List ℕ) → length vs ≡ variables → (input k : ℕ)
+    {U : ℕ → ℕ → Type 0} {P Q : List Statement} → WellFormed P → Changed U P Q → (vs : List ℕ) → length vs ≡ variables → (input k : ℕ)
     → Together (after P vs input k) (after Q vs input k)
-together {P} {Q} w changed vs l input k =
+together {U} {P} {Q} w changed vs l input k =
     side-map (Agree P) (λ s us ws. Unit) (λ s us ws h. tt) (after P vs input k) (after Q vs input k) (lockstep w changed vs l input k)

@@ -9,20 +9,29 @@ use Rattle.program.specs.Program.{at}
 use Rattle.machine.specs.Machine.{State, before, ended}
 use Rattle.machine.specs.declared.Answer.{Answer}
 use Rattle.machine.specs.declared.Answer.the-variants.{Ended, Fault, Spent}
-use Rattle.truth.specs.Truth.{Sat}
+use Rattle.truth.specs.Truth.{usesOf, Sat, SatBy}
 use Rattle.marks.specs.Marks.{ValidMark}
 use Rattle.marks.specs.declared.Mark.{Mark}
+use Rattle.marks.specs.declared.Mark.the-variants.{Rm, Rpl, Cse}
 use Rattle.lockstep.specs.Rules.{Fits, Droppable, live, published, makes}
 
--- the statement at place s becomes i: it is kept, or a mark is made that fits it, can't drop a fault, and whose condition is true there
-abbrev pub Change : List Statement → ℕ → Statement → Type 0
-Change P s i =
-    (i ≡ at P s) ⊎ ((m : Mark) × ValidMark m × Fits m (at P s) × Droppable m × Sat P (published m) s × (i ≡ makes m (at P s)))
+-- the variable by which a `cse` is made counts as used where it is made
+abbrev pub Counted : (ℕ → ℕ → Type 0) → Mark → ℕ → Type 0
+Counted U (Rm n x e) s = Unit
+Counted U (Rpl n x a) s = Unit
+Counted U (Cse n t e) s = U t s
 
--- Q is P with some changes
-pub record Changed (P Q : List Statement) : Type 0 where
+-- the statement at place s becomes i: it is kept, or a mark is made that fits it, can't drop a fault, and whose condition is true there, where
+-- variables count as used as U says
+abbrev pub Change : (ℕ → ℕ → Type 0) → List Statement → ℕ → Statement → Type 0
+Change U P s i =
+    (i ≡ at P s) ⊎ ((m : Mark) × ValidMark m × Fits m (at P s) × Droppable m × SatBy U P (published m) s × Counted U m s × (i ≡ makes m (at P s)))
+
+-- Q is P with some changes; what P uses counts as used
+pub record Changed (U : ℕ → ℕ → Type 0) (P Q : List Statement) : Type 0 where
   pub same : length Q ≡ length P
-  pub changes : (s : ℕ) → s < length P → Change P s (at Q s)
+  pub wide : (x s : ℕ) → usesOf P x s → U x s
+  pub changes : (s : ℕ) → s < length P → Change U P s (at Q s)
 
 -- every variable that P may still use before defining it holds the same value in both
 abbrev pub Agree : List Statement → ℕ → List ℕ → List ℕ → Type 0

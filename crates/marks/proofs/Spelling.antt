@@ -8,18 +8,18 @@ use Rattle.lines.proofs.Texts.{Unambiguous}
 use Rattle.language.specs.declared.Operand.{Operand}
 use Rattle.language.specs.declared.Expression.{Expression}
 use Rattle.language.specs.Spelling.{digits, spellVariable, ValidVariable, spellOperand, ValidOperand, spellExpression, ValidExpression}
-use Rattle.tokens.specs.Parsing.{Parsed, found, misspelled, parseWord, digitOf, parseNumber, parseVariable}
+use Rattle.tokens.specs.Parsing.{Parsed, found, misspelled, either, parseWord, digitOf, parseNumber, parseVariable}
 use Rattle.statement_reader.specs.Parsing.{parseOperand, parseExpression}
 use Rattle.tokens.proofs.Numbers.{number-sound, number-complete, variable-sound, variable-complete}
 use Rattle.tokens.proofs.Parse.{after-inv, either-inv, skip-sound}
 use Rattle.statement_reader.proofs.Lines.{operand-sound, operand-complete, expression-sound, expression-complete}
 use Rattle.marks.specs.declared.Mark.{Mark}
-use Rattle.marks.specs.declared.Mark.the-variants.{Rm, Rpl}
+use Rattle.marks.specs.declared.Mark.the-variants.{Rm, Rpl, Cse}
 use Rattle.marks.specs.declared.read.MarkRead.{MarkRead}
 use Rattle.marks.specs.declared.read.MarkRead.the-variants.{Found, Misspelled}
-use Rattle.marks.specs.Marks.{mark-word, rm-word, rpl-word, comma-word, spellMark, ValidMark}
+use Rattle.marks.specs.Marks.{mark-word, rm-word, rpl-word, cse-word, comma-word, spellMark, ValidMark}
 use Rattle.marks.specs.Reading.{MarkLineRead}
-use Rattle.marks.specs.Parsing.{parseFront, parseTail, parseRm, parseRpl, parseMark, parseMarkLine, parsedMark, markEnd}
+use Rattle.marks.specs.Parsing.{parseFront, parseTail, parseRm, parseRpl, parseCse, parseMark, parseMarkLine, parsedMark, markEnd}
 
 -- a mark's text after its `mark(`, with the word w and with y for E or A, and what follows it, grouped as it is read
 abbrev tail : List ℕ → ℕ → List ℕ → List ℕ → List ℕ
@@ -33,6 +33,10 @@ rpl-text : (n x : ℕ) (a : Operand) (rest : List ℕ) → spellMark (Rpl n x a)
 unfolding spellMark
 rpl-text n x a rest = simp append-assoc
 
+cse-text : (n x : ℕ) (e : Expression) (rest : List ℕ) → spellMark (Cse n x e) ++ rest ≡ digits n ++ (mark-word ++ tail cse-word x (spellExpression e) rest)
+unfolding spellMark
+cse-text n x e rest = simp append-assoc
+
 -- what is spelled is read
 rm-complete : (n x : ℕ) (e : Expression) (rest : List ℕ) → ValidMark (Rm n x e) → parseRm n (tail rm-word x (spellExpression e) rest) ≡ found (Rm n x e) rest
 unfolding parseTail parseFront parseWord digitOf
@@ -44,10 +48,23 @@ unfolding parseTail parseFront parseWord digitOf
 rpl-complete n x a rest v =
     rw (variable-complete x (comma-word ++ (spellOperand a ++ 41 ∷ rest)) (v .1) refl, operand-complete a (41 ∷ rest) (v .2) refl)
 
--- an `rpl` is no `rm`
+cse-complete : (n x : ℕ) (e : Expression) (rest : List ℕ) → ValidMark (Cse n x e) → parseCse n (tail cse-word x (spellExpression e) rest) ≡ found (Cse n x e) rest
+unfolding parseTail parseFront parseWord digitOf
+cse-complete n x e rest v =
+    rw (variable-complete x (comma-word ++ (spellExpression e ++ 41 ∷ rest)) (v .1) refl, expression-complete e (41 ∷ rest) (v .2) refl refl)
+
+-- an `rpl` is no `rm`, and a `cse` neither
 rm-rpl : (n : ℕ) (l : List ℕ) → parseRm n (rpl-word ++ l) ≡ misspelled
 unfolding parseTail parseFront parseWord
 rm-rpl n l = refl
+
+rm-cse : (n : ℕ) (l : List ℕ) → parseRm n (cse-word ++ l) ≡ misspelled
+unfolding parseTail parseFront parseWord
+rm-cse n l = refl
+
+rpl-cse : (n : ℕ) (l : List ℕ) → parseRpl n (cse-word ++ l) ≡ misspelled
+unfolding parseTail parseFront parseWord
+rpl-cse n l = refl
 
 pub mark-complete : (m : Mark) (rest : List ℕ) → ValidMark m → parseMark (spellMark m ++ rest) ≡ found m rest
 unfolding parseMark parseWord digitOf
@@ -56,6 +73,9 @@ mark-complete (Rm n x e) rest v =
 mark-complete (Rpl n x a) rest v =
     let t = spellVariable x ++ (comma-word ++ (spellOperand a ++ 41 ∷ rest)) in
     ap parseMark (rpl-text n x a rest) ∙ rw (number-complete n (mark-word ++ (rpl-word ++ t)) (v .0) refl, rm-rpl n t, rpl-complete n x a rest v)
+mark-complete (Cse n x e) rest v =
+    let t = spellVariable x ++ (comma-word ++ (spellExpression e ++ 41 ∷ rest)) in
+    ap parseMark (cse-text n x e rest) ∙ rw (number-complete n (mark-word ++ (cse-word ++ t)) (v .0) refl, rm-cse n t, rpl-cse n t, cse-complete n x e rest v)
 
 pub line-complete : (m : Mark) (rest : List ℕ) → ValidMark m → parseMarkLine (spellMark m ++ 10 ∷ rest) ≡ found m rest
 unfolding parseMarkLine parseWord
@@ -98,9 +118,11 @@ mark-sound l m u h =
     after-inv (parseWord mark-word t) _ f₁ λ _ v e₂ f₂.
     let i = number-sound l n t e₁ in
     let g : l ≡ digits n ++ (mark-word ++ v) = i .0 ∙ rw (skip-sound mark-word t e₂) in
-    either-inv (parseRm n v) (parseRpl n v) f₂
+    either-inv (parseRm n v) (either (parseRpl n v) (parseCse n v)) f₂
     (λ f. tail-sound rm-word parseExpression spellExpression ValidExpression expression-sound (Rm n) v f λ x e p s a b. rw (← p) (g ∙ rw (s, rm-text n x e u), (i .1, a, b)))
+    (λ h. either-inv (parseRpl n v) (parseCse n v) h
     (λ f. tail-sound rpl-word parseOperand spellOperand ValidOperand operand-sound (Rpl n) v f λ x o p s a b. rw (← p) (g ∙ rw (s, rpl-text n x o u), (i .1, a, b)))
+    (λ f. tail-sound cse-word parseExpression spellExpression ValidExpression expression-sound (Cse n) v f λ x e p s a b. rw (← p) (g ∙ rw (s, cse-text n x e u), (i .1, a, b))))
 
 pub line-sound : (l : List ℕ) (m : Mark) (u : List ℕ) → parseMarkLine l ≡ found m u → (l ≡ spellMark m ++ 10 ∷ u) × ValidMark m
 unfolding parseMarkLine

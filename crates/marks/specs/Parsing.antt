@@ -4,11 +4,14 @@ use mathlib.Core.List.{List, [], _∷_}
 use Prim.Native.Nat.{ℕ}
 use lib.ListN.{drop}
 use Rattle.base.specs.Bytes.{bytes}
+use Rattle.language.specs.declared.Expression.{Expression}
 use Rattle.tokens.specs.Parsing.{Parsed, found, misspelled, after, either, parseWord, parseStatementNumber, parseVariable}
 use Rattle.statement_reader.specs.Parsing.{parseOperand, parseExpression}
-use Rattle.marks.specs.Marks.{mark-word, rm-word, rpl-word, comma-word}
+use Rattle.marks.specs.Marks.{mark-word, rm-word, rpl-word, cse-word, comma-word}
 use Rattle.marks.specs.declared.Mark.{Mark}
-use Rattle.marks.specs.declared.Mark.the-variants.{Rm, Rpl}
+use Rattle.marks.specs.declared.Mark.the-variants.{Rm, Rpl, Cse}
+use Rattle.marks.specs.declared.read.ComputedRead.{ComputedRead}
+use Rattle.marks.specs.declared.read.ComputedRead.the-variants as computed
 use Rattle.marks.specs.declared.read.MarkRead.{MarkRead}
 use Rattle.marks.specs.declared.read.MarkRead.the-variants.{Found, Misspelled}
 
@@ -34,11 +37,14 @@ parseRm n l = parseTail rm-word parseExpression (Rm n) l
 abbrev pub parseRpl : ℕ → List ℕ → Parsed Mark
 parseRpl n l = parseTail rpl-word parseOperand (Rpl n) l
 
+abbrev pub parseCse : ℕ → List ℕ → Parsed Mark
+parseCse n l = parseTail cse-word parseExpression (Cse n) l
+
 unfoldable pub parseMark : List ℕ → Parsed Mark
 parseMark l =
     after (parseStatementNumber l) λ n t.
     after (parseWord mark-word t) λ _ u.
-    either (parseRm n u) (parseRpl n u)
+    either (parseRm n u) (either (parseRpl n u) (parseCse n u))
 
 -- a mark with its byte 10
 unfoldable pub parseMarkLine : List ℕ → Parsed Mark
@@ -51,6 +57,15 @@ parseMarkLine l =
 abbrev pub parsedMark : List ℕ → MarkRead → Parsed Mark
 parsedMark s (Found m k) = found m (drop k s)
 parsedMark s Misspelled = misspelled
+
+-- the same of a reader of a variable and an expression, and the mark that f makes of them
+abbrev pub parsedComputed : List ℕ → (ℕ → Expression → Mark) → ComputedRead → Parsed Mark
+parsedComputed s f (computed.Found x e k) = found (f x e) (drop k s)
+parsedComputed s f computed.Misspelled = misspelled
+
+abbrev pub computedEnd : ComputedRead → ℕ
+computedEnd (computed.Found x e k) = k
+computedEnd computed.Misspelled = 0
 
 -- the position after the mark
 abbrev pub markEnd : MarkRead → ℕ

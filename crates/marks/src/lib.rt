@@ -13,6 +13,7 @@ pub const MOST: usize = 256;
 pub enum Mark {
     Rm(u32, u8, Expression),
     Rpl(u32, u8, Operand),
+    Cse(u32, u8, Expression),
 }
 
 // The refusals of a list's text.

@@ -1,17 +1,20 @@
 // The readers of marks: each takes what stands at a position of a text, and answers the position after it.
 ghost use mathlib.Core.Path.{_≡_};
 ghost use mathlib.Core.List.{List};
-ghost use Prim.Native.Nat.{_≤_};
+ghost use Prim.Native.Nat.{ℕ, _≤_};
 ghost use lib.ListN.{length, drop};
 ghost use Rattle.tokens.specs.Parsing.{parsedVariable, variableEnd};
+ghost use Rattle.language.specs.declared.Expression.{Expression as ExpressionOf};
+ghost use Rattle.statement_reader.specs.Parsing.{parseExpression};
 ghost use Rattle.marks.specs.Reading.{beginOf, Taken, MarkLineRead, ListRead, SpanRead};
 ghost use Rattle.marks.specs.declared.Mark.{Mark as MarkOf};
-ghost use Rattle.marks.specs.Parsing.{parseFront, parseRm, parseRpl, parseMark, parseMarkLine, parsedMark, markEnd};
+ghost use Rattle.marks.specs.Parsing.{parseFront, parseTail, parseRm, parseRpl, parseCse, parseMark, parseMarkLine, parsedMark, parsedComputed, computedEnd, markEnd};
 use crate::Checked;
 use crate::MOST;
 use crate::Mark;
 use crate::Refusal;
 use crate::Span;
+use language::Expression;
 use statement_reader::ExpressionRead;
 use statement_reader::OperandRead;
 use tokens::NumberRead;
@@ -20,6 +23,12 @@ use tokens::WordRead;
 
 pub enum MarkRead {
     Found(Mark, usize),
+    Misspelled,
+}
+
+// A variable and an expression.
+pub enum ComputedRead {
+    Found(u8, Expression, usize),
     Misspelled,
 }
 
@@ -40,21 +49,43 @@ fn front(s: &[u8], at: usize, w: &[u8]) -> VariableRead
     VariableRead::Found(x, k2)
 }
 
+// The word w, the variable, `, `, the expression and `)`.
+fn computed(s: &[u8], at: usize, w: &[u8]) -> ComputedRead
+    ensures { λ r. ⌜ ((f : ℕ → ExpressionOf → MarkOf) → parsedComputed (now (s .entry)) f r ≡ parseTail (now (w .entry)) parseExpression f (drop at (now (s .entry)))) ⌝ }
+    ensures { λ r. ⌜ computedEnd r ≤ length (now (s .entry)) ⌝ }
+{
+    let VariableRead::Found(x, k) = front(s, at, w) else {
+        return ComputedRead::Misspelled;
+    };
+    let ExpressionRead::Found(e, k1) = statement_reader::expression(s, k) else {
+        return ComputedRead::Misspelled;
+    };
+    let WordRead::Found(k2) = tokens::word(s, k1, b")") else {
+        return ComputedRead::Misspelled;
+    };
+    ComputedRead::Found(x, e, k2)
+}
+
 // `rm, X, E)` of a mark on statement n.
 fn rm(s: &[u8], at: usize, n: u32) -> MarkRead
     ensures { λ r. ⌜ parsedMark (now (s .entry)) r ≡ parseRm n (drop at (now (s .entry))) ⌝ }
     ensures { λ r. ⌜ markEnd r ≤ length (now (s .entry)) ⌝ }
 {
-    let VariableRead::Found(x, k) = front(s, at, b"rm, ") else {
+    let ComputedRead::Found(x, e, k) = computed(s, at, b"rm, ") else {
         return MarkRead::Misspelled;
     };
-    let ExpressionRead::Found(e, k1) = statement_reader::expression(s, k) else {
+    MarkRead::Found(Mark::Rm(n, x, e), k)
+}
+
+// `cse, T, E)` of a mark on statement n.
+fn cse(s: &[u8], at: usize, n: u32) -> MarkRead
+    ensures { λ r. ⌜ parsedMark (now (s .entry)) r ≡ parseCse n (drop at (now (s .entry))) ⌝ }
+    ensures { λ r. ⌜ markEnd r ≤ length (now (s .entry)) ⌝ }
+{
+    let ComputedRead::Found(t, e, k) = computed(s, at, b"cse, ") else {
         return MarkRead::Misspelled;
     };
-    let WordRead::Found(k2) = tokens::word(s, k1, b")") else {
-        return MarkRead::Misspelled;
-    };
-    MarkRead::Found(Mark::Rm(n, x, e), k2)
+    MarkRead::Found(Mark::Cse(n, t, e), k)
 }
 
 // `rpl, X, A)` of a mark on statement n.
@@ -85,7 +116,10 @@ fn mark(s: &[u8], at: usize) -> MarkRead
         return MarkRead::Misspelled;
     };
     let MarkRead::Found(m, k2) = rm(s, k1, n) else {
-        return rpl(s, k1, n);
+        let MarkRead::Found(o, k3) = rpl(s, k1, n) else {
+            return cse(s, k1, n);
+        };
+        return MarkRead::Found(o, k3);
     };
     MarkRead::Found(m, k2)
 }

@@ -5,19 +5,21 @@ use mathlib.Core.List.{List, [], _∷_, _++_, append-assoc}
 use Prim.Native.Nat.{ℕ, _+_, _≤_}
 use native.Mathlib.Omega.{arith}
 use lib.ListN.{length, length-append}
-use Rattle.language.specs.Spelling.{spellVariable, ValidVariable, spellOperand, ValidOperand, spellExpression, spell}
-use Rattle.language.specs.Room.{variable-room, operand-room}
+use Rattle.base.specs.Bytes.{bytes}
+use Rattle.language.specs.Spelling.{spellVariable, ValidVariable, spellExpression, ValidExpression, spell}
+use Rattle.language.specs.Room.{variable-room, expression-room, statement-room}
 use Rattle.language.specs.declared.Operand.{Operand}
+use Rattle.language.specs.declared.Expression.{Expression}
 use Rattle.language.specs.declared.Expression.the-variants.{Single}
 use Rattle.language.specs.declared.Statement.the-variants.{Assign}
-use Rattle.language.proofs.Lengths.{assign-length, variable-most, operand-most}
+use Rattle.language.proofs.Lengths.{variable-most, expression-most, statement-most}
 use Rattle.condition.specs.Condition.{spellCondition, spellAtom, ValidCondition, parts}
 use Rattle.condition.specs.Texts.{Taken}
 use Rattle.marks.specs.Marks.{ValidMark}
 use Rattle.marks.specs.declared.Mark.{Mark}
-use Rattle.marks.specs.declared.Mark.the-variants.{Rm, Rpl}
-use Rattle.lockstep.specs.Rules.{unneeded, copiedBefore, published}
-use Rattle.published.specs.Published.{published-room, published-most, copy-room}
+use Rattle.marks.specs.declared.Mark.the-variants.{Rm, Rpl, Cse}
+use Rattle.lockstep.specs.Rules.{unneeded, copiedBefore, computedBefore, published}
+use Rattle.published.specs.Published.{sureText, published-room, published-most}
 
 -- the words between the variables: `!EX E[!def(`, `) U use(`, `)]`
 abbrev pub unneeded-open : List ℕ
@@ -33,51 +35,60 @@ pub unneeded-text : (x : ℕ) → spellCondition (unneeded x) ≡ unneeded-open 
 unfolding spellCondition spellAtom
 unneeded-text x = simp append-assoc
 
--- `AY A[((!def(`, `) & trans(`, `)) & !entry) B stmt(`
-abbrev pub copied-open : List ℕ
-copied-open = 65 ∷ 89 ∷ 32 ∷ 65 ∷ 91 ∷ 40 ∷ 40 ∷ 33 ∷ 100 ∷ 101 ∷ 102 ∷ 40 ∷ []
+-- `stmt(`; `(stmt(`, `) & trans(`, `))]`
+abbrev pub stmt-open : List ℕ
+stmt-open = bytes "stmt("
+
+abbrev pub work-open : List ℕ
+work-open = bytes "(stmt("
 
 abbrev pub and-trans : List ℕ
-and-trans = 41 ∷ 32 ∷ 38 ∷ 32 ∷ 116 ∷ 114 ∷ 97 ∷ 110 ∷ 115 ∷ 40 ∷ []
+and-trans = bytes ") & trans("
 
-abbrev pub back-to : List ℕ
-back-to =
-    41 ∷ 41 ∷ 32 ∷ 38 ∷ 32 ∷ 33 ∷ 101 ∷ 110 ∷ 116 ∷ 114 ∷ 121 ∷ 41 ∷ 32 ∷ 66 ∷ 32 ∷ 115 ∷ 116 ∷ 109 ∷ 116 ∷ 40 ∷ []
+abbrev pub work-close : List ℕ
+work-close = bytes "))]"
 
-pub copied-text : (x : ℕ) (a : Operand)
-    → spellCondition (copiedBefore x a)
-    ≡ copied-open ++ (spellVariable x ++ (and-trans ++ (spellOperand a ++ (back-to ++ (spell (Assign x (Single a)) ++ close)))))
-unfolding spellCondition spellAtom spellExpression
+pub copied-text : (x : ℕ) (a : Operand) → spellCondition (copiedBefore x a) ≡ sureText x (Single a) ++ (stmt-open ++ (spell (Assign x (Single a)) ++ close))
+unfolding spellCondition spellAtom
 copied-text x a = simp append-assoc
 
--- the copy `X := A`
-assign-most : (x : ℕ) (a : Operand) → ValidVariable x → ValidOperand a → length (spell (Assign x (Single a))) ≤ copy-room
-unfolding spellExpression
-assign-most x a v o = omega (arith, assign-length x (Single a), variable-most x v, operand-most a o)
+pub computed-text : (t : ℕ) (e : Expression)
+    → spellCondition (computedBefore t e) ≡ sureText t e ++ (work-open ++ (spell (Assign t e) ++ (and-trans ++ (spellExpression e ++ work-close))))
+unfolding spellCondition spellAtom
+computed-text t e = simp append-assoc
 
-pub record CopiedLengths (x : ℕ) (a : Operand) : Type 0 where
+-- what is spelled between the words is short
+pub record Lengths (x : ℕ) (e : Expression) : Type 0 where
   pub variable : length (spellVariable x) ≤ variable-room
-  pub operand : length (spellOperand a) ≤ operand-room
-  pub assign : length (spell (Assign x (Single a))) ≤ copy-room
+  pub expression : length (spellExpression e) ≤ expression-room
+  pub assign : length (spell (Assign x e)) ≤ statement-room
 
-pub copied-lengths : (x : ℕ) (a : Operand) → ValidVariable x → ValidOperand a → CopiedLengths x a
-copied-lengths x a v o = record { variable = variable-most x v; operand = operand-most a o; assign = assign-most x a v o }
+pub lengths-most : (x : ℕ) (e : Expression) → ValidVariable x → ValidExpression e → Lengths x e
+lengths-most x e v u = record { variable = variable-most x v; expression = expression-most e u; assign = statement-most (Assign x e) (v, u) tt }
+
+pub sure-length : (x : ℕ) (e : Expression) → length (sureText x e) ≡ 12 + (length (spellVariable x) + (10 + (length (spellExpression e) + 15)))
+sure-length x e = simp length-append (omega arith)
 
 -- the parts and the text of a published condition are few enough for a reader, and what it names is valid
 pub published-parts : (m : Mark) → length (parts (published m)) ≤ published-most
 unfolding parts
 published-parts (Rm n x e) = omega arith
 published-parts (Rpl n x a) = omega arith
+published-parts (Cse n t e) = omega arith
 
 pub published-short : (m : Mark) → ValidMark m → length (spellCondition (published m)) ≤ published-room
 published-short (Rm n x e) v = let l = variable-most x (v .1) in rw (unneeded-text x) (simp length-append (omega arith))
 published-short (Rpl n x a) v =
-    let l = copied-lengths x a (v .1) (v .2) in
+    let l = lengths-most x (Single a) (v .1) (v .2) in
     rw (copied-text x a) (simp length-append (omega arith))
+published-short (Cse n t e) v =
+    let l = lengths-most t e (v .1) (v .2) in
+    rw (computed-text t e) (simp length-append (omega arith))
 
 published-valid : (m : Mark) → ValidMark m → ValidCondition (published m)
 published-valid (Rm n x e) v = (v .1, v .1)
 published-valid (Rpl n x a) v = (((v .1, v .2), tt), (v .1, v .2))
+published-valid (Cse n t e) v = (((v .1, v .2), tt), ((v .1, v .2), v .2))
 
 pub published-taken : (m : Mark) → ValidMark m → Taken (spellCondition (published m)) (published m)
 published-taken m v =

@@ -1,15 +1,18 @@
--- Proof devices: the room for a published condition's text, the code's PUBLISHED_ROOM, and the most parts that one has. No sentence of
--- document 01 stands here.
+-- Proof devices: the front that two published conditions share, the room for a published condition's text, the code's PUBLISHED_ROOM, and
+-- the most parts that one has. No sentence of document 01 stands here.
+use mathlib.Core.List.{List, _++_}
 use Prim.Native.Nat.{ℕ, _+_}
-use Rattle.language.specs.Room.{variable-room, operand-room}
+use Rattle.base.specs.Bytes.{bytes}
+use Rattle.language.specs.Spelling.{spellVariable, spellExpression}
+use Rattle.language.specs.declared.Expression.{Expression}
+
+-- `AY A[((!def(X) & trans(E)) & !entry) B `
+abbrev pub sureText : ℕ → Expression → List ℕ
+sureText x e = bytes "AY A[((!def(" ++ (spellVariable x ++ (bytes ") & trans(" ++ (spellExpression e ++ bytes ")) & !entry) B ")))
 
 abbrev pub published-room : ℕ
-published-room = 128
+published-room = 160
 
--- those of `AY A[((!def(X) & trans(A)) & !entry) B stmt(X := A)]`
+-- those of `AY A[((!def(T) & trans(E)) & !entry) B (stmt(T := E) & trans(E))]`
 abbrev pub published-most : ℕ
-published-most = 10
-
--- the copy `X := A` within it
-abbrev pub copy-room : ℕ
-copy-room = variable-room + (4 + operand-room)
+published-most = 12

@@ -1,19 +1,19 @@
 // The text of a mark's published condition.
 ghost use Prim.Native.Nat.{_≤_};
 ghost use lib.ListN.{length};
-ghost use Rattle.language.specs.Spelling.{ValidVariable, ValidOperand};
+ghost use Rattle.language.specs.Spelling.{ValidVariable, ValidOperand, ValidExpression};
 ghost use Rattle.statement_writer.specs.Writing.{Put};
 ghost use Rattle.condition.specs.Condition.{spellCondition};
 ghost use Rattle.marks.specs.Marks.{ValidMark};
-ghost use Rattle.lockstep.specs.Rules.{unneeded, copiedBefore, published};
-ghost use Rattle.published.specs.Published.{published-room};
+ghost use Rattle.lockstep.specs.Rules.{unneeded, copiedBefore, computedBefore, published};
+ghost use Rattle.published.specs.Published.{published-room, sureText};
 use language::Expression;
 use language::Operand;
 use language::Statement;
 use marks::Mark;
 
 // A published condition's text has room in this many bytes.
-pub const PUBLISHED_ROOM: usize = 128;
+pub const PUBLISHED_ROOM: usize = 160;
 
 // Puts the text of `!EX E[!def(X) U use(X)]` at the front of the lent bytes, and answers its length.
 fn write_unneeded(out: &mut [u8], x: u8) -> usize
@@ -27,18 +27,41 @@ fn write_unneeded(out: &mut [u8], x: u8) -> usize
     statement_writer::word(out, k4, b")]")
 }
 
-// The same of `AY A[((!def(X) & trans(A)) & !entry) B stmt(X := A)]`.
-fn write_copied(out: &mut [u8], x: u8, a: Operand) -> usize
-    requires { ⌜ ValidVariable x × ValidOperand a × (published-room ≤ length (now out)) ⌝ }
-    ensures { λ r. ⌜ Put (now (out .entry)) 0 (spellCondition (copiedBefore x a)) (now (out .exit)) r ⌝ }
+// Puts `AY A[((!def(X) & trans(E)) & !entry) B ` at the front of the lent bytes, and answers its length.
+fn write_sure(out: &mut [u8], x: u8, e: Expression) -> usize
+    requires { ⌜ ValidVariable x × ValidExpression e × (published-room ≤ length (now out)) ⌝ }
+    ensures { λ r. ⌜ Put (now (out .entry)) 0 (sureText x e) (now (out .exit)) r ⌝ }
 {
     let k1 = statement_writer::word(out, 0, b"AY A[((!def(");
     let k2 = statement_writer::variable(out, k1, x);
     let k3 = statement_writer::word(out, k2, b") & trans(");
-    let k4 = statement_writer::operand(out, k3, a);
-    let k5 = statement_writer::word(out, k4, b")) & !entry) B stmt(");
-    let k6 = statement_writer::statement(out, k5, Statement::Assign(x, Expression::Single(a)));
-    statement_writer::word(out, k6, b")]")
+    let k4 = statement_writer::expression(out, k3, e);
+    statement_writer::word(out, k4, b")) & !entry) B ")
+}
+
+// Puts the text of `AY A[((!def(X) & trans(A)) & !entry) B stmt(X := A)]` there.
+fn write_copied(out: &mut [u8], x: u8, a: Operand) -> usize
+    requires { ⌜ ValidVariable x × ValidOperand a × (published-room ≤ length (now out)) ⌝ }
+    ensures { λ r. ⌜ Put (now (out .entry)) 0 (spellCondition (copiedBefore x a)) (now (out .exit)) r ⌝ }
+{
+    let e = Expression::Single(a);
+    let k1 = write_sure(out, x, e);
+    let k2 = statement_writer::word(out, k1, b"stmt(");
+    let k3 = statement_writer::statement(out, k2, Statement::Assign(x, e));
+    statement_writer::word(out, k3, b")]")
+}
+
+// The same of `AY A[((!def(T) & trans(E)) & !entry) B (stmt(T := E) & trans(E))]`.
+fn write_computed(out: &mut [u8], t: u8, e: Expression) -> usize
+    requires { ⌜ ValidVariable t × ValidExpression e × (published-room ≤ length (now out)) ⌝ }
+    ensures { λ r. ⌜ Put (now (out .entry)) 0 (spellCondition (computedBefore t e)) (now (out .exit)) r ⌝ }
+{
+    let k1 = write_sure(out, t, e);
+    let k2 = statement_writer::word(out, k1, b"(stmt(");
+    let k3 = statement_writer::statement(out, k2, Statement::Assign(t, e));
+    let k4 = statement_writer::word(out, k3, b") & trans(");
+    let k5 = statement_writer::expression(out, k4, e);
+    statement_writer::word(out, k5, b"))]")
 }
 
 // Puts the text of the mark's published condition at the front of the lent bytes, and answers its length.
@@ -49,5 +72,6 @@ pub fn write_published(m: Mark, out: &mut [u8]) -> usize
     match m {
         Mark::Rm(_, x, _) => write_unneeded(out, x),
         Mark::Rpl(_, x, a) => write_copied(out, x, a),
+        Mark::Cse(_, t, e) => write_computed(out, t, e),
     }
 }

@@ -14,12 +14,15 @@ use Rattle.condition_reader.specs.declared.Refusal.{Refusal}
 use Rattle.condition.specs.Condition.{Condition, parts, spellCondition}
 use Rattle.condition.specs.Texts.{Taken}
 use Rattle.condition_reader.specs.Reading.{ConditionRead}
-use Rattle.truth.specs.Truth.{Sat}
+use Rattle.truth.specs.Truth.{SatBy}
 use Rattle.condition_reader.proofs.Spelling.{condition-unique}
 use Rattle.condition_reader.proofs.Answers.{read-back}
+use Rattle.atoms.specs.Facts.{usedIn}
 use Rattle.table.specs.Table.{part-words, row}
+use Rattle.table.specs.Known.{KnownBy}
 use Rattle.table.specs.Fill.{HeldOf, TableOf}
 use Rattle.table.proofs.Whole.{held-some, whole-labelled}
+use Rattle.table.proofs.By.{labelled-by}
 use Rattle.marks.specs.Marks.{ValidMark}
 use Rattle.marks.specs.declared.Mark.{Mark}
 use Rattle.lockstep.specs.Rules.{published}
@@ -33,9 +36,15 @@ published-small m v t e =
     record { c = published m; taken = subst (λ (s : List ℕ). Taken s (published m)) (sym e) (published-taken m v); small = omega arith }
 
 pub published-labelled :
-    (m : Mark) → ValidMark m → (t : List ℕ) → t ≡ spellCondition (published m) → {P : List Statement} {r : List ℕ} → RowOf P t r → RowFor P m r
+    (m : Mark) → ValidMark m → (t : List ℕ) → t ≡ spellCondition (published m) → {U : ℕ → ℕ → Type 0} {P : List Statement} {r : List ℕ} → RowOf U P t r → RowFor U P m r
 unfolding published-small
 published-labelled m v t e r = (r .labelled (published m) (published-small m v t e .taken), r .room)
+
+-- the row by whatever uses the facts are of
+pub row-by :
+    {U : ℕ → ℕ → Type 0} {P : List Statement} {n : ℕ} {rows : List ℕ} {codes : List (List ℕ)} {flow : List ℕ} → KnownBy U P n rows codes flow
+    → (m : Mark) → ValidMark m → (r : List ℕ) → RowFor (usedIn rows) P m r → RowFor U P m r
+row-by x m v r l = (labelled-by x (published m) (published-taken m v .spells .valid) (l .0), l .1)
 
 tells : (a b : ℕ) → answer.Taken a ≡ answer.Taken b → a ≡ b
 tells a b e = cc
@@ -60,13 +69,13 @@ module _ {t : List ℕ} (small : SmallTaken t) where
     last-room : (new : List ℕ) → published-words ≤ length new → part-words * (m - 1) + part-words ≤ length new
     last-room new l = let r = held-room in let s = held-some h in omega arith
 
-    pub whole-row : {P : List Statement} {old new : List ℕ} → published-words ≤ length new → TableOf P (small .c) old new → RowOf P t (row new (m - 1))
-    whole-row {P = P} {new = new} l table =
+    pub whole-row : {U : ℕ → ℕ → Type 0} {P : List Statement} {old new : List ℕ} → published-words ≤ length new → TableOf U P (small .c) old new → RowOf U P t (row new (m - 1))
+    whole-row {U = U} {P = P} {new = new} l table =
         let r = last-room new l in
         let k : length (drop (part-words * (m - 1)) new) ≡ length new - part-words * (m - 1) = length-drop (part-words * (m - 1)) new in
         record {
           room = length-take-le part-words (drop (part-words * (m - 1)) new) (omega arith);
           labelled = λ d g.
-              subst (λ (e : Condition). Labelled (length P) (member (row new (m - 1))) (Sat P e))
+              subst (λ (e : Condition). Labelled (length P) (member (row new (m - 1))) (SatBy U P e))
               (condition-unique t (small .c) d (small .taken .spells) (g .spells)) (whole-labelled h table);
         }

@@ -9,29 +9,29 @@ use Rattle.bits.specs.Row.{member}
 use Rattle.labelling.specs.Labels.{Labelled}
 use Rattle.condition.specs.Condition.{Condition, parts}
 use Rattle.condition.specs.Texts.{Taken}
-use Rattle.truth.specs.Truth.{Sat}
+use Rattle.truth.specs.Truth.{SatBy}
 use Rattle.table.specs.Table.{part-words}
 use Rattle.marks.specs.declared.Mark.{Mark}
 use Rattle.lockstep.specs.Rules.{published}
 
 -- the parts of a published condition and their words, the code's PUBLISHED_PARTS and PUBLISHED_WORDS
 abbrev pub published-most : ℕ
-published-most = 10
+published-most = 12
 
 abbrev pub published-words : ℕ
 published-words = part-words * published-most
 
--- the text is taken as a condition of at most ten parts
+-- the text is taken as a condition of at most twelve parts
 pub record SmallTaken (t : List ℕ) : Type 0 where
   pub c : Condition
   pub taken : Taken t c
   pub small : part-words * length (parts c) ≤ published-words
 
--- the row has the places of P at which the condition with the text t is true
-pub record RowOf (P : List Statement) (t row : List ℕ) : Type 0 where
+-- the row has the places of P at which the condition with the text t is true, where variables count as used as U says
+pub record RowOf (U : ℕ → ℕ → Type 0) (P : List Statement) (t row : List ℕ) : Type 0 where
   pub room : length row ≡ part-words
-  pub labelled : (c : Condition) → Taken t c → Labelled (length P) (member row) (Sat P c)
+  pub labelled : (c : Condition) → Taken t c → Labelled (length P) (member row) (SatBy U P c)
 
 -- the row has the places of P at which the mark's published condition is true
-abbrev pub RowFor : List Statement → Mark → List ℕ → Type 0
-RowFor P m row = Labelled (length P) (member row) (Sat P (published m)) × (length row ≡ part-words)
+abbrev pub RowFor : (ℕ → ℕ → Type 0) → List Statement → Mark → List ℕ → Type 0
+RowFor U P m row = Labelled (length P) (member row) (SatBy U P (published m)) × (length row ≡ part-words)

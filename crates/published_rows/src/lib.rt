@@ -5,12 +5,13 @@ ghost use Prim.Native.Nat.{_<_};
 ghost use Rattle.language.specs.declared.Statement.{Statement};
 ghost use Rattle.bits.specs.Row.{Zeros, ZeroRows};
 ghost use Rattle.codes.specs.Codes.{code-words};
+ghost use Rattle.atoms.specs.Facts.{usedIn};
 ghost use Rattle.table.specs.Table.{part-words};
-ghost use Rattle.table.specs.Known.{Known, SomeKnown};
+ghost use Rattle.table.specs.Known.{KnownIn, SomeKnown};
 ghost use Rattle.marks.specs.Marks.{ValidMark};
 ghost use Rattle.published.specs.Published.{published-room};
 ghost use Rattle.published_rows.specs.Rows.{published-words, SmallTaken, RowOf, RowFor};
-ghost use Rattle.published_rows.specs.Memory.{keyOf, slots, Remembering};
+ghost use Rattle.published_rows.specs.Memory.{keyOf, Keyed, slots, Remembering};
 use codes::CODE_WORDS;
 use language::Expression;
 use language::Operand;
@@ -20,7 +21,7 @@ use published::PUBLISHED_ROOM;
 use table::WORDS;
 
 // The most parts of a published condition, and their words.
-const PUBLISHED_PARTS: usize = 10;
+const PUBLISHED_PARTS: usize = 12;
 
 const PUBLISHED_WORDS: usize = WORDS * PUBLISHED_PARTS;
 
@@ -36,8 +37,8 @@ fn blank_rows() -> [u64; PUBLISHED_WORDS]
     [0; PUBLISHED_WORDS]
 }
 
-// The places at which the condition with this text is true, of the n statements that the facts and the graph are of: it is read and
-// tabulated as any other.
+// The places at which the condition with this text is true, of the n statements that the facts and the graph are of, variables used as
+// the rows have it: it is read and tabulated as any other.
 fn row_of(
     text: &[u8],
     n: usize,
@@ -47,7 +48,7 @@ fn row_of(
 ) -> [u64; WORDS]
     requires { ⌜ SomeKnown n (now rows) (now codes) (now flow) ⌝ }
     requires { ⌜ SmallTaken (now text) ⌝ }
-    ensures { λ r. ⌜ ((P : List Statement) → Known P n (now (rows .entry)) (now (codes .entry)) (now (flow .entry)) → RowOf P (now (text .entry)) r) ⌝ }
+    ensures { λ r. ⌜ ((P : List Statement) → KnownIn P n (now (rows .entry)) (now (codes .entry)) (now (flow .entry)) → RowOf (usedIn (now (rows .entry))) P (now (text .entry)) r) ⌝ }
 {
     let reading = condition_reader::read(text);
     let answer = reading.answer;
@@ -72,7 +73,7 @@ fn published_row(
 ) -> [u64; WORDS]
     requires { ⌜ SomeKnown n (now rows) (now codes) (now flow) ⌝ }
     requires { ⌜ ValidMark m ⌝ }
-    ensures { λ r. ⌜ ((P : List Statement) → Known P n (now (rows .entry)) (now (codes .entry)) (now (flow .entry)) → RowFor P m r) ⌝ }
+    ensures { λ r. ⌜ ((P : List Statement) → KnownIn P n (now (rows .entry)) (now (codes .entry)) (now (flow .entry)) → RowFor (usedIn (now (rows .entry))) P m r) ⌝ }
 {
     let mut text = blank_text();
     let end = published::write_published(m, &mut text);
@@ -102,16 +103,29 @@ fn key_of(m: Mark) -> Key
     match m {
         Mark::Rm(_, x, _) => Key::Write(x),
         Mark::Rpl(_, x, a) => Key::Assign(x, Expression::Single(a)),
+        Mark::Cse(_, t, e) => Key::Assign(t, e),
     }
 }
 
-// A number of the mark's published condition, by which the keys spread; two conditions may share one.
+// In each: a number by which the keys spread; two may share one.
+fn operand_number(a: Operand) -> u64
+    ensures { λ r. ⌜ r < 8589934592 ⌝ }
+{
+    match a {
+        Operand::Variable(y) => 2 * (y as u64),
+        Operand::Constant(c) => 2 * (c as u64) % 8589934591 + 1,
+    }
+}
+
 fn number_of(m: Mark) -> u64 {
     match m {
         Mark::Rm(_, x, _) => (x as u64) + 128,
-        Mark::Rpl(_, x, a) => match a {
-            Operand::Variable(y) => (x as u64) + 32 + 128 * (y as u64),
-            Operand::Constant(c) => (x as u64) + 64 + 128 * (c as u64),
+        Mark::Rpl(_, x, a) => (x as u64) + 32 + 64 * operand_number(a),
+        Mark::Cse(_, t, e) => match e {
+            Expression::Single(_) => t as u64,
+            Expression::Binary(a, _, b) => (t as u64)
+                + 37 * operand_number(a)
+                + 101 * operand_number(b),
         },
     }
 }
@@ -134,8 +148,8 @@ pub fn remembered_row(
     memory: &mut [[u64; WORDS]],
 ) -> [u64; WORDS]
     requires { ⌜ SomeKnown n (now rows) (now codes) (now flow) ⌝ }
-    requires { ⌜ ValidMark m × Remembering n (now rows) (now codes) (now flow) (now keys) (now memory) ⌝ }
-    ensures { λ r. ⌜ ((P : List Statement) → Known P n (now (rows .entry)) (now (codes .entry)) (now (flow .entry)) → RowFor P m r) × Remembering n (now (rows .entry)) (now (codes .entry)) (now (flow .entry)) (now (keys .exit)) (now (memory .exit)) ⌝ }
+    requires { ⌜ ValidMark m × Keyed m × Remembering n (now rows) (now codes) (now flow) (now keys) (now memory) ⌝ }
+    ensures { λ r. ⌜ ((P : List Statement) → KnownIn P n (now (rows .entry)) (now (codes .entry)) (now (flow .entry)) → RowFor (usedIn (now (rows .entry))) P m r) × Remembering n (now (rows .entry)) (now (codes .entry)) (now (flow .entry)) (now (keys .exit)) (now (memory .exit)) ⌝ }
 {
     let key = codes::statement_code(key_of(m));
     let slot = slot_of(m);

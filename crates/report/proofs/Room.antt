@@ -12,7 +12,7 @@ use Rattle.language.proofs.Lengths.{digits-length, number-most}
 use Rattle.program.specs.Program.{text}
 use Rattle.bits.proofs.Counts.{count-le}
 use Rattle.marks.specs.declared.Mark.{Mark}
-use Rattle.marks.specs.declared.Mark.the-variants.{Rm, Rpl}
+use Rattle.marks.specs.declared.Mark.the-variants.{Rm, Rpl, Cse}
 use Rattle.marks.specs.Marks.{names, ValidMark, AllValid}
 use Rattle.marks.specs.Reading.{Taken, most}
 use Rattle.rewriting.specs.declared.Verdict.{Verdict}
@@ -31,6 +31,7 @@ verdict-most n v h k = omega (arith, verdict-length n v, number-most n (omega ar
 names-valid : (m : Mark) → ValidMark m → names m ≤ largest
 names-valid (Rm n x e) v = v .0
 names-valid (Rpl n x a) v = v .0
+names-valid (Cse n t e) v = v .0
 
 verdicts-most : (ms : List Mark) (vs : List ℕ) → AllValid ms → ((j : ℕ) → j < length ms → getD vs j 0 < 10 ^ verdict-digits) → length (verdictLines ms vs) ≤ length ms * verdict-room
 unfolding verdictLines

@@ -9,7 +9,7 @@ use Rattle.program.specs.Program.{Taken}
 use Rattle.bits.specs.Row.{member, Zeros}
 use Rattle.labelling.specs.Labels.{Labelled}
 use Rattle.condition.specs.Condition.{Condition}
-use Rattle.truth.specs.Truth.{Sat}
+use Rattle.truth.specs.Truth.{usesOf, Sat}
 use Rattle.table.specs.Table.{part-words, row}
 use Rattle.sharing.specs.Sharing.{most-lines, part, numberOf, firsts, partsOf}
 use Rattle.sharing.proofs.Lines.{line-known, line-own}
@@ -50,7 +50,7 @@ module _ {u : List ℕ} {cs : List Condition} {tables lines : ℕ} {entries numb
     inside = λ j l. omega (arith, line-inside j l, few-tables);
   }
 
-  module _ {P : List Statement} {old new : List ℕ} (f : TablesOf P (firsts (partsOf cs)) old new) where
+  module _ {P : List Statement} {old new : List ℕ} (f : TablesOf (usesOf P) P (firsts (partsOf cs)) old new) where
     -- the row that a line points to is the line's
     line-labelled : (j : ℕ) → j < lines → Labelled (length P) (member (row new (getD numbers j 0))) (Sat P (part cs j))
     line-labelled j l =

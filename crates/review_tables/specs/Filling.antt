@@ -7,28 +7,29 @@ use Rattle.language.specs.declared.Statement.{Statement}
 use Rattle.bits.specs.Row.{member}
 use Rattle.labelling.specs.Labels.{Labelled}
 use Rattle.condition.specs.Condition.{Condition}
-use Rattle.truth.specs.Truth.{Sat}
+use Rattle.truth.specs.Truth.{SatBy}
 use Rattle.table.specs.Table.{part-words, row}
-use Rattle.table.specs.Known.{Known}
+use Rattle.atoms.specs.Facts.{usedIn}
+use Rattle.table.specs.Known.{KnownIn}
 use Rattle.table.specs.Summary.{Counts}
 use Rattle.sharing.specs.Sharing.{most-lines, part, firsts}
 use Rattle.sharing.specs.Keys.{keyOf, Numbered, Ordered}
 use Rattle.keys.specs.Store.{keyIn}
 use Rattle.numbering.specs.Numbering.{Shares}
 
--- the rows of the first k of the conditions ds are right
-abbrev pub RowsOf : List Statement → List Condition → List ℕ → ℕ → Type 0
-RowsOf P ds table k = (j : ℕ) → j < k → Labelled (length P) (member (row table j)) (Sat P (part ds j))
+-- the rows of the first k of the conditions ds are right, where variables count as used as U says
+abbrev pub RowsOf : (ℕ → ℕ → Type 0) → List Statement → List Condition → List ℕ → ℕ → Type 0
+RowsOf U P ds table k = (j : ℕ) → j < k → Labelled (length P) (member (row table j)) (SatBy U P (part ds j))
 
 -- table k can be filled: w is the entry of the condition that it is of
 pub record EntryReady (P : List Statement) (n : ℕ) (rows : List ℕ) (codes : List (List ℕ)) (flow u : List ℕ) (ds : List Condition) (w : ℕ) (table : List ℕ) (k : ℕ) : Type 0 where
-  pub known : Known P n rows codes flow
+  pub known : KnownIn P n rows codes flow
   pub room : part-words * k + part-words ≤ length table
   pub inside : k < length ds
   pub numbered : Numbered ds
   pub ordered : Ordered ds
   pub key : keyIn u w ≡ keyOf ds (part ds k)
-  pub filled : RowsOf P ds table k
+  pub filled : RowsOf (usedIn rows) P ds table k
 
 pub record SomeEntry (n : ℕ) (rows : List ℕ) (codes : List (List ℕ)) (flow u : List ℕ) (w : ℕ) (table : List ℕ) (k : ℕ) : Type 0 where
   pub P : List Statement
@@ -41,9 +42,9 @@ pub record SomeShares (u entries : List ℕ) (count : ℕ) : Type 0 where
   pub many : count ≤ length entries
 
 -- the table holds the rows of the conditions ds, and all words beyond them are kept
-pub record TablesOf (P : List Statement) (ds : List Condition) (old new : List ℕ) : Type 0 where
+pub record TablesOf (U : ℕ → ℕ → Type 0) (P : List Statement) (ds : List Condition) (old new : List ℕ) : Type 0 where
   pub same : length new ≡ length old
-  pub rows : RowsOf P ds new (length ds)
+  pub rows : RowsOf U P ds new (length ds)
   pub past : (m : ℕ) → part-words * length ds ≤ m → getD new m 0 ≡ getD old m 0
 
 -- each of the first `lines` numbers is one of a row in the table

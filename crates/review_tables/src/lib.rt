@@ -5,9 +5,10 @@ ghost use lib.ListN.{length};
 ghost use Rattle.language.specs.declared.Statement.{Statement};
 ghost use Rattle.bits.specs.Row.{Zeros};
 ghost use Rattle.condition.specs.Condition.{Condition};
-ghost use Rattle.truth.specs.Truth.{Sat};
+ghost use Rattle.truth.specs.Truth.{SatBy};
+ghost use Rattle.atoms.specs.Facts.{usedIn};
 ghost use Rattle.table.specs.Table.{part-words, Written};
-ghost use Rattle.table.specs.Known.{Known, SomeKnown};
+ghost use Rattle.table.specs.Known.{KnownIn, SomeKnown};
 ghost use Rattle.sharing.specs.Sharing.{most-lines, part, firsts};
 ghost use Rattle.numbering.specs.Numbering.{Shares};
 ghost use Rattle.review_tables.specs.Filling.{EntryReady, SomeEntry, SomeShares, TablesOf, Rowed, CountedLines};
@@ -28,7 +29,7 @@ fn fill_entry(
     k: usize,
 )
     requires { ⌜ SomeEntry n (now rows) (now codes) (now flow) (now text) w (now table) k ⌝ }
-    ensures { λ _. ⌜ ((P : List Statement) (ds : List Condition) → EntryReady P n (now (rows .entry)) (now (codes .entry)) (now (flow .entry)) (now (text .entry)) ds w (now (table .entry)) k → Written part-words (now (table .entry)) (now (table .exit)) k (length P) (Sat P (part ds k))) ⌝ }
+    ensures { λ _. ⌜ ((P : List Statement) (ds : List Condition) → EntryReady P n (now (rows .entry)) (now (codes .entry)) (now (flow .entry)) (now (text .entry)) ds w (now (table .entry)) k → Written part-words (now (table .entry)) (now (table .exit)) k (length P) (SatBy (usedIn (now (rows .entry))) P (part ds k))) ⌝ }
 {
     let code = w % LEFT;
     let start = (w / START % FIELD) as usize;
@@ -40,7 +41,8 @@ fn fill_entry(
     }
 }
 
-// Fills a table for each of the first `count` entries, at the n statements of the program that the facts and the control-flow graph are of.
+// Fills a table for each of the first `count` entries, at the n statements of the program that the facts and the control-flow graph are of,
+// variables used as the rows have it.
 pub fn fill(
     text: &[u8],
     entries: &[u64],
@@ -54,7 +56,7 @@ pub fn fill(
     requires { ⌜ SomeKnown n (now rows) (now codes) (now flow) ⌝ }
     requires { ⌜ SomeShares (now text) (now entries) count ⌝ }
     requires { ⌜ part-words * count ≤ length (now table) ⌝ }
-    ensures { λ _. ⌜ ((P : List Statement) (ps : List Condition) → Known P n (now (rows .entry)) (now (codes .entry)) (now (flow .entry)) → Shares (now (text .entry)) ps (now (entries .entry)) count → TablesOf P (firsts ps) (now (table .entry)) (now (table .exit))) ⌝ }
+    ensures { λ _. ⌜ ((P : List Statement) (ps : List Condition) → KnownIn P n (now (rows .entry)) (now (codes .entry)) (now (flow .entry)) → Shares (now (text .entry)) ps (now (entries .entry)) count → TablesOf (usedIn (now (rows .entry))) P (firsts ps) (now (table .entry)) (now (table .exit))) ⌝ }
 {
     let mut k: usize = 0;
     while k < count {

@@ -15,13 +15,13 @@ use Rattle.language.specs.declared.Statement.the-variants.{Skip}
 use Rattle.program.specs.Program.{at}
 use Rattle.marks.specs.declared.Mark.{Mark}
 use Rattle.marks.specs.Marks.{markAt}
-use Rattle.rewriting.specs.Verdicts.{number, place, Judged, Verdicts, Accepts, Rewritten}
+use Rattle.rewriting.specs.Verdicts.{number, place, Judged, Widened, Verdicts, Accepts, Rewritten}
 use Rattle.rewriting.specs.declared.Verdict.{Verdict}
 use Rattle.rewriting.specs.declared.Verdict.the-variants.{Accepted, Missing, Repeated, Unfit, MayFault, Unmet}
 
-module _ (P : List Statement) (earlier : List Mark) (m : Mark) where
+module _ (U : ℕ → ℕ → Type 0) (P : List Statement) (earlier : List Mark) (m : Mark) where
   -- 0 is the number of no other verdict
-  zero-accepted : (v : Verdict) → number v ≡ 0 → Judged P earlier m v → Judged P earlier m Accepted
+  pub zero-accepted : (v : Verdict) → number v ≡ 0 → Judged U P earlier m v → Judged U P earlier m Accepted
   zero-accepted Accepted e h = h
   zero-accepted Missing e h = absurd (omega arith)
   zero-accepted Repeated e h = absurd (omega arith)
@@ -30,7 +30,7 @@ module _ (P : List Statement) (earlier : List Mark) (m : Mark) where
   zero-accepted Unmet e h = absurd (omega arith)
 
   -- and no other is right beside it
-  accepted-zero : (v : Verdict) → Judged P earlier m Accepted → Judged P earlier m v → number v ≡ 0
+  pub accepted-zero : (v : Verdict) → Judged U P earlier m Accepted → Judged U P earlier m v → number v ≡ 0
   accepted-zero Accepted a h = refl
   accepted-zero Missing a h = absurd (h (a .0))
   accepted-zero Repeated a h = absurd (a .1 (h .1))
@@ -65,12 +65,12 @@ made-decided ms vs s = ⊎-elim (λ w. yes (found w)) (λ none. no (unfound none
 
 module _ (P : List Statement) (ms : List Mark) (vs : List ℕ) (judged : Verdicts P ms vs) where
   -- "that byte is 0 exactly where none of 11 to 14", nor document 02's 18, "applies"
-  pub accepted-judged : (j : ℕ) → Accepts ms vs j → Judged P (take j ms) (markAt ms j) Accepted
+  pub accepted-judged : (j : ℕ) → Accepts ms vs j → Judged (Widened P ms) P (take j ms) (markAt ms j) Accepted
   accepted-judged j (l, byte) =
-      let v = judged j l in zero-accepted P (take j ms) (markAt ms j) (v .0) (sym (v .2) ∙ byte) (v .1)
+      let v = judged j l in zero-accepted (Widened P ms) P (take j ms) (markAt ms j) (v .0) (sym (v .2) ∙ byte) (v .1)
 
-  pub judged-accepted : (j : ℕ) → j < length ms → Judged P (take j ms) (markAt ms j) Accepted → Accepts ms vs j
-  judged-accepted j l h = let v = judged j l in (l, v .2 ∙ accepted-zero P (take j ms) (markAt ms j) (v .0) h (v .1))
+  pub judged-accepted : (j : ℕ) → j < length ms → Judged (Widened P ms) P (take j ms) (markAt ms j) Accepted → Accepts ms vs j
+  judged-accepted j l h = let v = judged j l in (l, v .2 ∙ accepted-zero (Widened P ms) P (take j ms) (markAt ms j) (v .0) h (v .1))
 
 -- the verdict bytes leave no choice of the program
 pub rewritten-unique : {P Q R : List Statement} {ms : List Mark} {vs : List ℕ} → Rewritten P ms vs Q → Rewritten P ms vs R → Q ≡ R

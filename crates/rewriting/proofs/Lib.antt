@@ -1,3 +1,4 @@
 pub mod Accepted
+pub mod Uses
 pub mod Unique
 pub mod Rewritten

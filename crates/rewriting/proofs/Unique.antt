@@ -8,14 +8,14 @@ use Rattle.language.specs.declared.Statement.{Statement}
 use Rattle.bits.proofs.Counts.{count-ext}
 use Rattle.marks.specs.declared.Mark.{Mark}
 use Rattle.marks.specs.Marks.{markAt}
-use Rattle.rewriting.specs.Verdicts.{number, Judged, Verdicts, acceptedCount, Rewritten}
+use Rattle.rewriting.specs.Verdicts.{number, Judged, Widened, Verdicts, acceptedCount, Rewritten}
 use Rattle.rewriting.specs.declared.Verdict.{Verdict}
 use Rattle.rewriting.specs.declared.Verdict.the-variants.{Accepted, Missing, Repeated, Unfit, MayFault, Unmet}
 use Rattle.rewriting.proofs.Accepted.{rewritten-unique}
 
 -- a mark gets one verdict only
-module _ (P : List Statement) (earlier : List Mark) (m : Mark) where
-  verdict-unique : (v w : Verdict) → Judged P earlier m v → Judged P earlier m w → v ≡ w
+module _ (U : ℕ → ℕ → Type 0) (P : List Statement) (earlier : List Mark) (m : Mark) where
+  verdict-unique : (v w : Verdict) → Judged U P earlier m v → Judged U P earlier m w → v ≡ w
   verdict-unique Missing Missing a b = refl
   verdict-unique Missing Repeated a b = absurd (a (b .0))
   verdict-unique Missing Unfit a b = absurd (a (b .0))
@@ -59,7 +59,7 @@ module _ (P : List Statement) (ms : List Mark) (vs us : List ℕ) (a : Verdicts 
   verdicts-agree j l =
       let v = a j l in
       let w = b j l in
-      v .2 ∙ ap number (verdict-unique P (take j ms) (markAt ms j) (v .0) (w .0) (v .1) (w .1)) ∙ sym (w .2)
+      v .2 ∙ ap number (verdict-unique (Widened P ms) P (take j ms) (markAt ms j) (v .0) (w .0) (v .1) (w .1)) ∙ sym (w .2)
 
   pub accepted-agree : acceptedCount ms vs ≡ acceptedCount ms us
   accepted-agree = count-ext (λ j. eqb (getD vs j 0) 0) (λ j. eqb (getD us j 0) 0) (length ms) (λ j l. ap (λ (v : ℕ). eqb v 0) (verdicts-agree j l))

@@ -9,9 +9,10 @@ use lib.ListN.{length, getD, take}
 use Rattle.language.specs.declared.Statement.{Statement}
 use Rattle.program.specs.Program.{at}
 use Rattle.bits.specs.Row.{countBelow}
-use Rattle.truth.specs.Truth.{Sat}
+use Rattle.truth.specs.Truth.{usesOf, SatBy}
 use Rattle.marks.specs.Marks.{names, markAt}
 use Rattle.marks.specs.declared.Mark.{Mark}
+use Rattle.marks.specs.declared.Mark.the-variants.{Rm, Rpl, Cse}
 use Rattle.lockstep.specs.Rules.{Fits, Droppable, published, makes}
 use Rattle.rewriting.specs.declared.Verdict.{Verdict}
 use Rattle.rewriting.specs.declared.Verdict.the-variants.{Accepted, Missing, Repeated, Unfit, MayFault, Unmet}
@@ -39,17 +40,18 @@ Named (m ∷ ms) n = (names m ≡ n) ⊎ Named ms n
 abbrev pub place : Mark → ℕ
 place m = names m - 1
 
--- the mark m, standing after the earlier ones, gets this verdict on P: it applies, and none before it does
-abbrev pub Judged : List Statement → List Mark → Mark → Verdict → Type 0
-Judged P earlier m Missing = Inside (length P) (names m) → ⊥
-Judged P earlier m Repeated = Inside (length P) (names m) × Named earlier (names m)
-Judged P earlier m Unfit = Inside (length P) (names m) × (Named earlier (names m) → ⊥) × (Fits m (at P (place m)) → ⊥)
-Judged P earlier m MayFault =
+-- the mark m, standing after the earlier ones, gets this verdict on P, where variables count as used as U says: it applies, and none before
+-- it does
+abbrev pub Judged : (ℕ → ℕ → Type 0) → List Statement → List Mark → Mark → Verdict → Type 0
+Judged U P earlier m Missing = Inside (length P) (names m) → ⊥
+Judged U P earlier m Repeated = Inside (length P) (names m) × Named earlier (names m)
+Judged U P earlier m Unfit = Inside (length P) (names m) × (Named earlier (names m) → ⊥) × (Fits m (at P (place m)) → ⊥)
+Judged U P earlier m MayFault =
     Inside (length P) (names m) × (Named earlier (names m) → ⊥) × Fits m (at P (place m)) × (Droppable m → ⊥)
-Judged P earlier m Unmet =
-    Inside (length P) (names m) × (Named earlier (names m) → ⊥) × Fits m (at P (place m)) × Droppable m × (Sat P (published m) (place m) → ⊥)
-Judged P earlier m Accepted =
-    Inside (length P) (names m) × (Named earlier (names m) → ⊥) × Fits m (at P (place m)) × Droppable m × Sat P (published m) (place m)
+Judged U P earlier m Unmet =
+    Inside (length P) (names m) × (Named earlier (names m) → ⊥) × Fits m (at P (place m)) × Droppable m × (SatBy U P (published m) (place m) → ⊥)
+Judged U P earlier m Accepted =
+    Inside (length P) (names m) × (Named earlier (names m) → ⊥) × Fits m (at P (place m)) × Droppable m × SatBy U P (published m) (place m)
 
 -- the verdict is one of a mark whose statement the program has
 abbrev pub Stands : Verdict → Type 0
@@ -60,9 +62,23 @@ Stands Unfit = Unit
 Stands MayFault = Unit
 Stands Unmet = Unit
 
+-- the mark is a `cse` by x at place s that is accepted after the earlier ones. Its condition has no `use`, so the program's own uses serve
+abbrev pub Reuses : List Statement → List Mark → Mark → ℕ → ℕ → Type 0
+Reuses P earlier (Rm n y e) x s = ⊥
+Reuses P earlier (Rpl n y a) x s = ⊥
+Reuses P earlier (Cse n t e) x s = (t ≡ x) × (place (Cse n t e) ≡ s) × Judged (usesOf P) P earlier (Cse n t e) Accepted
+
+-- document 02: "each `rm` of the same list is judged with `use(T)` holding also at the statements whose `cse` with that T is accepted"
+abbrev pub Widened : List Statement → List Mark → ℕ → ℕ → Type 0
+Widened P ms x s = usesOf P x s ⊎ ((j : ℕ) × (j < length ms) × Reuses P (take j ms) (markAt ms j) x s)
+
 -- "Each is judged on the given program, line j's verdict filling byte j, counted from 0."
+abbrev pub VerdictsBy : (ℕ → ℕ → Type 0) → List Statement → List Mark → List ℕ → Type 0
+VerdictsBy U P ms vs = (j : ℕ) → j < length ms → (v : Verdict) × Judged U P (take j ms) (markAt ms j) v × (getD vs j 0 ≡ number v)
+
+-- document 02: "and its published condition is from now on meant so". The other kinds' conditions have no `use`
 abbrev pub Verdicts : List Statement → List Mark → List ℕ → Type 0
-Verdicts P ms vs = (j : ℕ) → j < length ms → (v : Verdict) × Judged P (take j ms) (markAt ms j) v × (getD vs j 0 ≡ number v)
+Verdicts P ms vs = VerdictsBy (Widened P ms) P ms vs
 
 -- "A mark is accepted where its verdict byte is 0"
 abbrev pub Accepts : List Mark → List ℕ → ℕ → Type 0

@@ -1,8 +1,9 @@
 // What a mark asks of the statement that it names, and what it makes of it.
 ghost use mathlib.Core.Path.{_≡_};
+ghost use Prim.Native.Nat.{ℕ};
 ghost use Rattle.base.specs.Decides.{Decides};
 ghost use Rattle.marks.specs.Marks.{names};
-ghost use Rattle.lockstep.specs.Rules.{IsVariable, Takes, Fits, NotZero, Safe, Droppable, replaceOperand, replaceIn, replaceVariable, replace as replaceStatement, makes as madeOf};
+ghost use Rattle.lockstep.specs.Rules.{IsVariable, Takes, IsBinary, Fits, NotZero, Safe, Droppable, replaceOperand, replaceIn, replaceVariable, replace as replaceStatement, reuse as reuseIn, makes as madeOf};
 ghost use Rattle.rewriting.specs.Verdicts.{number, Stands};
 use language::Expression;
 use language::Operand;
@@ -56,6 +57,7 @@ pub fn statement_of(m: Mark) -> u32
     match m {
         Mark::Rm(n, _, _) => n,
         Mark::Rpl(n, _, _) => n,
+        Mark::Cse(n, _, _) => n,
     }
 }
 
@@ -81,6 +83,22 @@ fn takes(i: Statement, a: Operand) -> bool
     }
 }
 
+fn is_binary(e: Expression) -> bool
+    ensures { λ r. ⌜ Decides r (IsBinary e) ⌝ }
+{
+    match e {
+        Expression::Single(_) => false,
+        Expression::Binary(_, _, _) => true,
+    }
+}
+
+// Whether the statement assigns the expression to some variable.
+fn assigns(i: Statement, e: Expression) -> bool
+    ensures { λ r. ⌜ Decides r ((z : ℕ) × (i ≡ Statement.Assign z e)) ⌝ }
+{
+    codes::same_statement(i, Statement::Assign(codes::variable_of(i), e))
+}
+
 // Whether the mark fits the statement.
 pub fn fits(m: Mark, i: Statement) -> bool
     ensures { λ r. ⌜ Decides r (Fits m i) ⌝ }
@@ -92,6 +110,12 @@ pub fn fits(m: Mark, i: Statement) -> bool
                 return false;
             }
             takes(i, a)
+        }
+        Mark::Cse(_, _, e) => {
+            if !assigns(i, e) {
+                return false;
+            }
+            is_binary(e)
         }
     }
 }
@@ -130,6 +154,7 @@ pub fn droppable(m: Mark) -> bool
             Expression::Binary(_, o, b) => is_safe(o, b),
         },
         Mark::Rpl(_, _, _) => true,
+        Mark::Cse(_, _, _) => true,
     }
 }
 
@@ -188,6 +213,19 @@ fn replace(x: u8, a: Operand, i: Statement) -> Statement
     }
 }
 
+// An assignment of the variable t in place of an assignment.
+fn reuse(t: u8, i: Statement) -> Statement
+    ensures { λ r. ⌜ r ≡ reuseIn t i ⌝ }
+{
+    match i {
+        Statement::Read(y) => Statement::Read(y),
+        Statement::Write(y) => Statement::Write(y),
+        Statement::Assign(z, _) => Statement::Assign(z, Expression::Single(Operand::Variable(t))),
+        Statement::Branch(y, n, m) => Statement::Branch(y, n, m),
+        Statement::Skip => Statement::Skip,
+    }
+}
+
 // What the mark makes of the statement.
 pub fn makes(m: Mark, i: Statement) -> Statement
     ensures { λ r. ⌜ r ≡ madeOf m i ⌝ }
@@ -195,5 +233,6 @@ pub fn makes(m: Mark, i: Statement) -> Statement
     match m {
         Mark::Rm(_, _, _) => Statement::Skip,
         Mark::Rpl(_, x, a) => replace(x, a, i),
+        Mark::Cse(_, t, _) => reuse(t, i),
     }
 }

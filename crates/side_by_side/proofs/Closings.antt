@@ -13,7 +13,7 @@ use Rattle.program.proofs.Unique.{taken-refused}
 use Rattle.marks.specs.declared.Mark.{Mark}
 use Rattle.marks.proofs.Lists as marks
 use Rattle.marks.specs.Marks.{markAt}
-use Rattle.rewriting.specs.Verdicts.{Judged, Rewritten}
+use Rattle.rewriting.specs.Verdicts.{Judged, Widened, Rewritten}
 use Rattle.rewriting.specs.declared.Verdict.the-variants.{Accepted}
 use Rattle.rewriting.proofs.Accepted.{rewritten-unique}
 use Rattle.run.specs.Run.{most-steps}
@@ -31,7 +31,7 @@ use Rattle.side_by_side.proofs.Starts.{judged-kept}
 
 -- which marks are accepted leaves one rewritten program only
 abbrev AcceptedBy : List Statement → List Mark → List ℕ → Type 0
-AcceptedBy P ms vs = (j : ℕ) → j < length ms → (getD vs j 0 ≡ 0) ↔ Judged P (take j ms) (markAt ms j) Accepted
+AcceptedBy P ms vs = (j : ℕ) → j < length ms → (getD vs j 0 ≡ 0) ↔ Judged (Widened P ms) P (take j ms) (markAt ms j) Accepted
 
 made-unique : {P Q R : List Statement} {ms : List Mark} {vs us : List ℕ} → AcceptedBy P ms vs → AcceptedBy P ms us → Rewritten P ms vs Q → Rewritten P ms us R → Q ≡ R
 made-unique a b q r =

@@ -94,7 +94,7 @@ fn operator_byte(o: Operator) -> u8
     }
 }
 
-fn expression(out: &mut [u8], at: usize, e: Expression) -> usize
+pub fn expression(out: &mut [u8], at: usize, e: Expression) -> usize
     requires { ⌜ at + length (spellExpression e) ≤ length (now out) ⌝ }
     ensures { λ r. ⌜ Put (now (out .entry)) at (spellExpression e) (now (out .exit)) r ⌝ }
 {

@@ -6,3 +6,4 @@ pub mod Parts
 pub mod Tables
 pub mod Summaries
 pub mod Whole
+pub mod By

@@ -16,7 +16,7 @@ use Rattle.flow.specs.FlowOf.{Flow, FlowOf}
 use Rattle.condition.specs.Condition.{Condition, atom, unary, binary}
 use Rattle.condition.specs.Words.{codeIn, leftIn}
 use Rattle.condition.proofs.Words.{unary-code, binary-code}
-use Rattle.truth.specs.Truth.{Sat}
+use Rattle.truth.specs.Truth.{SatBy}
 use Rattle.table.specs.Table.{partAt}
 use Rattle.table.specs.Rules.{Operation, one, two, codeOf, ruleOf, SatRule, flowSteps}
 use Rattle.table.specs.Fill.{leftOf, Tells}
@@ -41,30 +41,30 @@ pub iff-of : {X Y : Type 0} → X ≡ Y → X ↔ Y
 iff-of e = rw e (λ h. h, λ h. h)
 
 -- the operator of a part that is no atom, and its operands' parts
-pub record Operands (P : List Statement) (c : Condition) (k w : ℕ) : Type 0 where
+pub record Operands (U : ℕ → ℕ → Type 0) (P : List Statement) (c : Condition) (k w : ℕ) : Type 0 where
   pub operation : Operation
   pub coded : codeOf operation ≡ codeIn w
   pub inside : leftOf w k < k
-  pub sat : (s : ℕ) → SatRule (steps P) (ruleOf operation) (Sat P (partAt c (leftOf w k))) (Sat P (partAt c (k - 1))) s ↔ Sat P (partAt c k) s
+  pub sat : (s : ℕ) → SatRule (steps P) (ruleOf operation) (SatBy U P (partAt c (leftOf w k))) (SatBy U P (partAt c (k - 1))) s ↔ SatBy U P (partAt c k) s
 
-pub operands : (P : List Statement) (t : List ℕ) (c : Condition) (k w : ℕ) (q : Condition) → partAt c k ≡ q → Tells t c k w q → (codeIn w ≡ 0 → ⊥) → Operands P c k w
-unfolding Sat
-operands P t c k w (atom a) e h n = absurd (n (h .0))
-operands P t c k w (unary o p) e h n =
+pub operands : (U : ℕ → ℕ → Type 0) (P : List Statement) (t : List ℕ) (c : Condition) (k w : ℕ) (q : Condition) → partAt c k ≡ q → Tells t c k w q → (codeIn w ≡ 0 → ⊥) → Operands U P c k w
+unfolding SatBy
+operands U P t c k w (atom a) e h n = absurd (n (h .0))
+operands U P t c k w (unary o p) e h n =
     let b = unary-code o in
     let l : leftOf w k ≡ k - 1 = rw (lt-ltb (codeIn w) 14 (omega arith)) in
     record {
       operation = one o;
       coded = sym (h .0);
       inside = omega arith;
-      sat = λ s. rw (l, e, h .2) (iff-of (unary-rule P o (Sat P p) s));
+      sat = λ s. rw (l, e, h .2) (iff-of (unary-rule P o (SatBy U P p) s));
     }
-operands P t c k w (binary o p q) e h n =
+operands U P t c k w (binary o p q) e h n =
     let b = binary-code o in
     let l : leftOf w k ≡ leftIn w = rw (le-ltb (codeIn w) 14 (omega arith)) in
     record {
       operation = two o;
       coded = sym (h .0);
       inside = omega arith;
-      sat = λ s. rw (l, e, h .2, h .3) (iff-of (binary-rule P o (Sat P p) (Sat P q) s));
+      sat = λ s. rw (l, e, h .2, h .3) (iff-of (binary-rule P o (SatBy U P p) (SatBy U P q) s));
     }

@@ -15,16 +15,16 @@ use Rattle.ctl.specs.Paths.{So}
 use Rattle.graph.specs.Graphs.{entries, DirectionsAt}
 use Rattle.flow.specs.Flow.{steps}
 use Rattle.flow.specs.FlowOf.{flow-entries, flowAt}
-use Rattle.atoms.specs.Facts.{FactsOf}
+use Rattle.atoms.specs.Facts.{usedIn, FactsIn}
 use Rattle.condition.specs.Condition.{Condition, atom, unary, binary}
 use Rattle.condition.specs.Words.{codeIn, startIn}
 use Rattle.condition.proofs.Words.{unary-code, binary-code}
 use Rattle.atom_reader.specs.Parsing.{parseAtom}
-use Rattle.truth.specs.Truth.{Holds, Sat}
+use Rattle.truth.specs.Truth.{HoldsBy, SatBy}
 use Rattle.condition.specs.declared.Atom.{Atom}
 use Rattle.table.specs.Table.{part-words, row, partAt, Written}
 use Rattle.table.specs.Rules.{Operation, codeOf, ruleOf, SatRule, flowSteps, BothWays}
-use Rattle.table.specs.Known.{Known}
+use Rattle.table.specs.Known.{KnownBy}
 use Rattle.table.specs.Fill.{leftOf, Tells, PartReady}
 use Rattle.table.proofs.Operands.{rule-sat, Operands, operands}
 
@@ -36,7 +36,7 @@ written-map X Y f w =
     }
 
 -- an operator's row, from the rows of its operands: Q j is the truth of part j, X that of part k
-module _ {P : List Statement} {n : ℕ} {rows : List ℕ} {codes : List (List ℕ)} {flow : List ℕ} (x : Known P n rows codes flow) (Q : ℕ → ℕ → Type 0) {old : List ℕ} {k : ℕ}
+module _ {U : ℕ → ℕ → Type 0} {P : List Statement} {n : ℕ} {rows : List ℕ} {codes : List (List ℕ)} {flow : List ℕ} (x : KnownBy U P n rows codes flow) (Q : ℕ → ℕ → Type 0) {old : List ℕ} {k : ℕ}
     (filled : (j : ℕ) → j < k → Labelled (length P) (member (row old j)) (Q j)) {left right : ℕ} (l : left < k) (r : right < k)
     (o : Operation) (X : ℕ → Type 0) (sat : (s : ℕ) → SatRule (steps P) (ruleOf o) (Q left) (Q right) s ↔ X s) where
   pub rule-written : (new : List ℕ)
@@ -53,8 +53,8 @@ module _ {P : List Statement} {n : ℕ} {rows : List ℕ} {codes : List (List �
 
   -- a part with an operator's code
   module _ (code : codeIn w ≡ 0 → ⊥) where
-    abbrev ops : Operands P c k w
-    ops = operands P t c k w (partAt c k) refl (r .tells) code
+    abbrev ops : Operands (usedIn rows) P c k w
+    ops = operands (usedIn rows) P t c k w (partAt c k) refl (r .tells) code
 
     pub left-inside : leftOf w k < k
     left-inside = ops .inside
@@ -67,26 +67,26 @@ module _ {P : List Statement} {n : ℕ} {rows : List ℕ} {codes : List (List �
 
     pub operator-written : (new : List ℕ) (left : ℕ) → left ≡ leftOf w k
         → ((x : Operation) → codeOf x ≡ codeIn w → Written part-words old new k n (SatRule (flowSteps n (flowAt flow)) (ruleOf x) (So (member (row old left))) (So (member (row old (k - 1))))))
-        → Written part-words old new k (length P) (Sat P (partAt c k))
+        → Written part-words old new k (length P) (SatBy (usedIn rows) P (partAt c k))
     operator-written new left is h =
         let i = ops .inside in
-        rule-written (r .known) (λ j. Sat P (partAt c j)) (r .filled) i (omega arith) (ops .operation) (Sat P (partAt c k)) (ops .sat) new
+        rule-written (r .known) (λ j. SatBy (usedIn rows) P (partAt c j)) (r .filled) i (omega arith) (ops .operation) (SatBy (usedIn rows) P (partAt c k)) (ops .sat) new
         (subst (λ (j : ℕ). Written part-words old new k n (SatRule (flowSteps n (flowAt flow)) (ruleOf (ops .operation)) (So (member (row old j))) (So (member (row old (k - 1)))))) is
         (h (ops .operation) (ops .coded)))
 
   -- a part with an atom's
   pub atom-written : (new : List ℕ) → codeIn w ≡ 0
-      → ((Q : List Statement) (a : Atom) (rest : List ℕ) → length Q ≡ n → FactsOf Q rows codes → parseAtom (drop (startIn w) t) ≡ found a rest → Written part-words old new k n (Holds Q a))
-      → Written part-words old new k (length P) (Sat P (partAt c k))
-  unfolding Sat
+      → ((Q : List Statement) (a : Atom) (rest : List ℕ) → length Q ≡ n → FactsIn Q (length Q) rows codes → parseAtom (drop (startIn w) t) ≡ found a rest → Written part-words old new k n (HoldsBy (usedIn rows) Q a))
+      → Written part-words old new k (length P) (SatBy (usedIn rows) P (partAt c k))
+  unfolding SatBy
   atom-written new code h = go (partAt c k) refl (r .tells)
     where
-      go : (q : Condition) → partAt c k ≡ q → Tells t c k w q → Written part-words old new k (length P) (Sat P (partAt c k))
-      go (atom a) e d = rw e (subst (λ (m : ℕ). Written part-words old new k m (Holds P a)) size (h P a (d .1) (r .known .size) (r .known .found) (d .2)))
+      go : (q : Condition) → partAt c k ≡ q → Tells t c k w q → Written part-words old new k (length P) (SatBy (usedIn rows) P (partAt c k))
+      go (atom a) e d = rw e (subst (λ (m : ℕ). Written part-words old new k m (HoldsBy (usedIn rows) P a)) size (h P a (d .1) (r .known .size) (r .known .found) (d .2)))
       go (unary o p) e d = let b = unary-code o in absurd (omega arith)
       go (binary o p q) e d = let b = binary-code o in absurd (omega arith)
 
-pub both-ways : {P : List Statement} {n : ℕ} {rows : List ℕ} {codes : List (List ℕ)} {flow : List ℕ} → Known P n rows codes flow → BothWays n flow
+pub both-ways : {U : ℕ → ℕ → Type 0} {P : List Statement} {n : ℕ} {rows : List ℕ} {codes : List (List ℕ)} {flow : List ℕ} → KnownBy U P n rows codes flow → BothWays n flow
 both-ways x = rw (← x .size) (record { size = x .flow-size; ahead = x .flows .forward; behind = x .flows .backward })
 
 -- the parts of the numbers that are lent on

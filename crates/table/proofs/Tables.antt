@@ -13,11 +13,12 @@ use Rattle.labelling.specs.Labels.{Labelled}
 use Rattle.condition.specs.Condition.{Condition, atom, unary, binary, spellCondition, parts}
 use Rattle.condition.specs.Words.{codeIn, leftIn}
 use Rattle.condition.specs.Texts.{most-parts}
-use Rattle.truth.specs.Truth.{Sat}
+use Rattle.truth.specs.Truth.{SatBy}
 use Rattle.condition.proofs.Words.{operatorCode, Stands, stands-from, Operands, held-describes}
 use Rattle.atom_reader.proofs.Spelling.{atom-complete}
+use Rattle.atoms.specs.Facts.{usedIn}
 use Rattle.table.specs.Table.{part-words, row, partAt, Written}
-use Rattle.table.specs.Known.{Known, SomeKnown}
+use Rattle.table.specs.Known.{KnownIn, SomeKnown}
 use Rattle.table.specs.Fill.{Tells, RowsRight, PartReady, HeldOf, SomeHeld, TableOf}
 
 -- what the reader's words tell
@@ -45,27 +46,27 @@ pub record SoFar (n : ℕ) (rows : List ℕ) (codes : List (List ℕ)) (flow t :
   pub within : k ≤ m
   pub room : part-words * m ≤ length old
   pub same : length table ≡ length old
-  pub filled : (P : List Statement) (c : Condition) → Known P n rows codes flow → HeldOf t c m ws → RowsRight P c table k
+  pub filled : (P : List Statement) (c : Condition) → KnownIn P n rows codes flow → HeldOf t c m ws → RowsRight (usedIn rows) P c table k
   pub past : (j : ℕ) → part-words * k ≤ j → getD table j 0 ≡ getD old j 0
 
 module _ {n : ℕ} {rows : List ℕ} {codes : List (List ℕ)} {flow t : List ℕ} {m : ℕ} {ws old table : List ℕ} {k : ℕ} (i : SoFar n rows codes flow t m ws old table k) where
   module _ (l : k < m) where
-    pub part-ready : (P : List Statement) (c : Condition) → Known P n rows codes flow → HeldOf t c m ws → PartReady P n rows codes flow t c (getD ws k 0) table k
+    pub part-ready : (P : List Statement) (c : Condition) → KnownIn P n rows codes flow → HeldOf t c m ws → PartReady P n rows codes flow t c (getD ws k 0) table k
     part-ready P c x h = record { known = x; room = omega (arith, i .same, i .room); tells = word-tells h k l; filled = i .filled P c x h }
 
     pub so-far-more : SomeKnown n rows codes flow → SomeHeld t m ws → (new : List ℕ)
-        → ((P : List Statement) (c : Condition) → Known P n rows codes flow → HeldOf t c m ws → Written part-words table new k (length P) (Sat P (partAt c k))) → SoFar n rows codes flow t m ws old new (k + 1)
+        → ((P : List Statement) (c : Condition) → KnownIn P n rows codes flow → HeldOf t c m ws → Written part-words table new k (length P) (SatBy (usedIn rows) P (partAt c k))) → SoFar n rows codes flow t m ws old new (k + 1)
     so-far-more one some new w =
         let kept = w (one .P) (some .c) (one .known) (some .held) .kept in
         record {
           within = omega arith;
           room = i .room;
           same = kept .same ∙ i .same;
-          filled = λ P c x h. rows-more table new k (w P c x h .kept) (omega (arith, i .same, i .room)) (length P) (λ j. Sat P (partAt c j)) (i .filled P c x h) (w P c x h .labelled);
+          filled = λ P c x h. rows-more table new k (w P c x h .kept) (omega (arith, i .same, i .room)) (length P) (λ j. SatBy (usedIn rows) P (partAt c j)) (i .filled P c x h) (w P c x h .labelled);
           past = λ j b. kept .past j (omega arith) ∙ i .past j (omega arith);
         }
 
-  pub all-filled : m ≤ k → (P : List Statement) (c : Condition) → Known P n rows codes flow → HeldOf t c m ws → TableOf P c old table
+  pub all-filled : m ≤ k → (P : List Statement) (c : Condition) → KnownIn P n rows codes flow → HeldOf t c m ws → TableOf (usedIn rows) P c old table
   all-filled l P c x h =
       let counted = h .held .counted in
       let b = i .within in

@@ -15,9 +15,10 @@ use Rattle.condition.specs.Condition.{Condition, atom, unary, binary, parts}
 use Rattle.condition.specs.Words.{unaryCode, binaryCode, codeIn, leftIn, startIn, Held}
 use Rattle.condition.specs.Texts.{Taken}
 use Rattle.atom_reader.specs.Parsing.{parseAtom}
-use Rattle.truth.specs.Truth.{Sat}
+use Rattle.truth.specs.Truth.{SatBy}
 use Rattle.table.specs.Table.{part-words, row, partAt}
-use Rattle.table.specs.Known.{Known}
+use Rattle.atoms.specs.Facts.{usedIn}
+use Rattle.table.specs.Known.{KnownIn}
 
 -- the left operand's part, by the word w of part k: of a unary operator it is the part before
 abbrev pub leftOf : ℕ → ℕ → ℕ
@@ -29,16 +30,16 @@ Tells t c k w (atom a) = (codeIn w ≡ 0) × (rest : List ℕ) × (parseAtom (dr
 Tells t c k w (unary o p) = (codeIn w ≡ unaryCode o) × (0 < k) × (partAt c (k - 1) ≡ p)
 Tells t c k w (binary o p q) = (codeIn w ≡ binaryCode o) × (leftIn w < k) × (partAt c (leftIn w) ≡ p) × (partAt c (k - 1) ≡ q)
 
--- the rows of the parts before k are right
-abbrev pub RowsRight : List Statement → Condition → List ℕ → ℕ → Type 0
-RowsRight P c table k = (j : ℕ) → j < k → Labelled (length P) (member (row table j)) (Sat P (partAt c j))
+-- the rows of the parts before k are right, where variables count as used as U says
+abbrev pub RowsRight : (ℕ → ℕ → Type 0) → List Statement → Condition → List ℕ → ℕ → Type 0
+RowsRight U P c table k = (j : ℕ) → j < k → Labelled (length P) (member (row table j)) (SatBy U P (partAt c j))
 
 -- part k can be filled
 pub record PartReady (P : List Statement) (n : ℕ) (rows : List ℕ) (codes : List (List ℕ)) (flow t : List ℕ) (c : Condition) (w : ℕ) (table : List ℕ) (k : ℕ) : Type 0 where
-  pub known : Known P n rows codes flow
+  pub known : KnownIn P n rows codes flow
   pub room : part-words * k + part-words ≤ length table
   pub tells : Tells t c k w (partAt c k)
-  pub filled : RowsRight P c table k
+  pub filled : RowsRight (usedIn rows) P c table k
 
 -- the same of some program and condition
 pub record SomeReady (n : ℕ) (rows : List ℕ) (codes : List (List ℕ)) (flow t : List ℕ) (w : ℕ) (table : List ℕ) (k : ℕ) : Type 0 where
@@ -56,7 +57,7 @@ pub record SomeHeld (t : List ℕ) (m : ℕ) (ws : List ℕ) : Type 0 where
   pub held : HeldOf t c m ws
 
 -- the table now holds the rows of all parts of c, and all words beyond them are kept
-pub record TableOf (P : List Statement) (c : Condition) (old new : List ℕ) : Type 0 where
+pub record TableOf (U : ℕ → ℕ → Type 0) (P : List Statement) (c : Condition) (old new : List ℕ) : Type 0 where
   pub same : length new ≡ length old
-  pub rows : RowsRight P c new (length (parts c))
+  pub rows : RowsRight U P c new (length (parts c))
   pub past : (m : ℕ) → part-words * length (parts c) ≤ m → getD new m 0 ≡ getD old m 0

@@ -10,16 +10,16 @@ ghost use Rattle.atom_reader.specs.Parsing.{parseAtom};
 ghost use Rattle.condition.specs.declared.Atom.{Atom as AtomOf};
 ghost use Rattle.table.specs.Table.{part-words, row, Written, partAt};
 ghost use Rattle.table.specs.Summary.{Counts};
-ghost use Rattle.table.specs.Known.{Known, SomeKnown};
+ghost use Rattle.table.specs.Known.{KnownIn, SomeKnown};
 ghost use Rattle.table.specs.Fill.{leftOf, PartReady, SomeReady, HeldOf, SomeHeld, TableOf};
 ghost use Rattle.program.specs.Program.{most};
 ghost use Rattle.flow.specs.FlowOf.{flowAt};
-ghost use Rattle.atoms.specs.Facts.{FactsOf, Sized};
+ghost use Rattle.atoms.specs.Facts.{usedIn, FactsIn, Sized};
 ghost use Rattle.condition.specs.Condition.{Condition};
 ghost use Rattle.bits.specs.Row.{member};
 ghost use Rattle.ctl.specs.Paths.{So};
 ghost use Rattle.labelling.specs.Labels.{Labelled, Rows};
-ghost use Rattle.truth.specs.Truth.{Holds, Sat};
+ghost use Rattle.truth.specs.Truth.{HoldsBy, SatBy};
 ghost use Rattle.table.specs.Rules.{Operation, codeOf, ruleOf, SatRule, flowSteps, BothWays};
 use atom_reader::AtomRead;
 use codes::CODE_WORDS;
@@ -167,7 +167,7 @@ pub fn fill_atom(
 )
     requires { ⌜ (n ≤ most) × Sized (now rows) (now codes) ⌝ }
     requires { ⌜ part-words * k + part-words ≤ length (now table) ⌝ }
-    ensures { λ _. ⌜ ((P : List StatementOf) (a : AtomOf) (rest : List ℕ) → length P ≡ n → FactsOf P (now (rows .entry)) (now (codes .entry)) → parseAtom (drop start (now (text .entry))) ≡ found a rest → Written part-words (now (table .entry)) (now (table .exit)) k n (Holds P a)) ⌝ }
+    ensures { λ _. ⌜ ((P : List StatementOf) (a : AtomOf) (rest : List ℕ) → length P ≡ n → FactsIn P (length P) (now (rows .entry)) (now (codes .entry)) → parseAtom (drop start (now (text .entry))) ≡ found a rest → Written part-words (now (table .entry)) (now (table .exit)) k n (HoldsBy (usedIn (now (rows .entry))) P a)) ⌝ }
 {
     let AtomRead::Found(a, _) = atom_reader::atom(text, start) else {
         return;
@@ -201,7 +201,7 @@ fn fill_part(
     k: usize,
 )
     requires { ⌜ SomeReady n (now rows) (now codes) (now flow) (now text) w (now table) k ⌝ }
-    ensures { λ _. ⌜ ((P : List StatementOf) (c : Condition) → PartReady P n (now (rows .entry)) (now (codes .entry)) (now (flow .entry)) (now (text .entry)) c w (now (table .entry)) k → Written part-words (now (table .entry)) (now (table .exit)) k (length P) (Sat P (partAt c k))) ⌝ }
+    ensures { λ _. ⌜ ((P : List StatementOf) (c : Condition) → PartReady P n (now (rows .entry)) (now (codes .entry)) (now (flow .entry)) (now (text .entry)) c w (now (table .entry)) k → Written part-words (now (table .entry)) (now (table .exit)) k (length P) (SatBy (usedIn (now (rows .entry))) P (partAt c k))) ⌝ }
 {
     let code = w % LEFT;
     if code == 0 {
@@ -214,7 +214,7 @@ fn fill_part(
 }
 
 // Fills the table with the row of each part of the condition whose text and words these are, at the n statements of the program that
-// the facts and the control-flow graph are of.
+// the facts and the control-flow graph are of, variables used as the rows have it.
 pub fn fill(
     text: &[u8],
     words: [u64; MOST_PARTS],
@@ -228,7 +228,7 @@ pub fn fill(
     requires { ⌜ SomeKnown n (now rows) (now codes) (now flow) ⌝ }
     requires { ⌜ SomeHeld (now text) parts words ⌝ }
     requires { ⌜ part-words * parts ≤ length (now table) ⌝ }
-    ensures { λ _. ⌜ ((P : List StatementOf) (c : Condition) → Known P n (now (rows .entry)) (now (codes .entry)) (now (flow .entry)) → HeldOf (now (text .entry)) c parts words → TableOf P c (now (table .entry)) (now (table .exit))) ⌝ }
+    ensures { λ _. ⌜ ((P : List StatementOf) (c : Condition) → KnownIn P n (now (rows .entry)) (now (codes .entry)) (now (flow .entry)) → HeldOf (now (text .entry)) c parts words → TableOf (usedIn (now (rows .entry))) P c (now (table .entry)) (now (table .exit))) ⌝ }
 {
     let mut k: usize = 0;
     while k < parts {

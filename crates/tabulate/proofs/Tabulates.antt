@@ -15,6 +15,7 @@ use Rattle.bits.proofs.Rows.{word-member}
 use Rattle.base.proofs.Bools.{clash}
 use Rattle.labelling.specs.Labels.{Labelled}
 use Rattle.condition.specs.Condition.{Condition, parts}
+use Rattle.truth.specs.Truth.{usesOf}
 use Rattle.table.specs.Table.{part-words, row}
 use Rattle.table.specs.Fill.{HeldOf, TableOf}
 use Rattle.table.proofs.Whole.{held-some, whole-labelled}
@@ -36,7 +37,7 @@ row-bit ws k w b h l =
     ∙ ap (λ (x : ℕ). bit x b) (getD-take part-words (drop (part-words * k) ws) w 0 h ∙ getD-drop (part-words * k) ws w 0)
 
 module _ {u ws : List ℕ} {c : Condition} {m : ℕ} (h : HeldOf u c m ws) where
-  pub tabulated : {t old new : List ℕ} {P : List Statement} {satisfied first : ℕ} → Taken t P → table-words ≤ length old → TableOf P c old new → Counts (member (row new (m - 1))) (part-words * 64) satisfied first
+  pub tabulated : {t old new : List ℕ} {P : List Statement} {satisfied first : ℕ} → Taken t P → table-words ≤ length old → TableOf (usesOf P) P c old new → Counts (member (row new (m - 1))) (part-words * 64) satisfied first
       → TabulateFilled t u old new m satisfied first
   tabulated {new = new} {P = P} p room table counts =
       let n : m ≡ length (parts c) = h .held .counted in

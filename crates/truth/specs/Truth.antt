@@ -56,21 +56,26 @@ Writes Skip = ⊥
 abbrev pub Uses : Statement → ℕ → Type 0
 Uses i x = Shows i x ⊎ (Writes i × Kept x)
 
--- "`entry` (statement 1), `exit` (statement N), `node(n)`, `stmt(I)` (the statement is I) .., `trans(E)` (no variable of E is defined
--- here)": at place s of N, where the statement i stands
-abbrev pub HoldsAt : ℕ → Statement → ℕ → Atom → Type 0
-HoldsAt N i s True = Unit
-HoldsAt N i s False = ⊥
-HoldsAt N i s Entry = s ≡ 0
-HoldsAt N i s Exit = s + 1 ≡ N
-HoldsAt N i s (Node n) = s + 1 ≡ n
-HoldsAt N i s (Stmt j) = i ≡ j
-HoldsAt N i s (Def x) = Defines i x
-HoldsAt N i s (Use x) = Uses i x
-HoldsAt N i s (Trans e) = (x : ℕ) → In x e → Defines i x → ⊥
+-- the uses of a program: x is used at place s
+abbrev pub usesOf : List Statement → ℕ → ℕ → Type 0
+usesOf P x s = Uses (at P s) x
 
-abbrev pub Holds : List Statement → Atom → ℕ → Type 0
-Holds P a s = HoldsAt (length P) (at P s) s a
+-- "`entry` (statement 1), `exit` (statement N), `node(n)`, `stmt(I)` (the statement is I) .., `trans(E)` (no variable of E is defined
+-- here)": at place s of N, where the statement i stands and the variables of which `Used` is true count as used
+abbrev pub HoldsAt : (ℕ → Type 0) → ℕ → Statement → ℕ → Atom → Type 0
+HoldsAt Used N i s True = Unit
+HoldsAt Used N i s False = ⊥
+HoldsAt Used N i s Entry = s ≡ 0
+HoldsAt Used N i s Exit = s + 1 ≡ N
+HoldsAt Used N i s (Node n) = s + 1 ≡ n
+HoldsAt Used N i s (Stmt j) = i ≡ j
+HoldsAt Used N i s (Def x) = Defines i x
+HoldsAt Used N i s (Use x) = Used x
+HoldsAt Used N i s (Trans e) = (x : ℕ) → In x e → Defines i x → ⊥
+
+-- at place s of the program P, where U x t says that the variable x counts as used at place t
+abbrev pub HoldsBy : (ℕ → ℕ → Type 0) → List Statement → Atom → ℕ → Type 0
+HoldsBy U P a s = HoldsAt (λ x. U x s) (length P) (at P s) s a
 
 -- what is said of one path with one condition, and with two
 abbrev pub SaidOne : PathUnary → (ℕ → Type 0) → (ℕ → ℕ) → Type 0
@@ -92,8 +97,12 @@ SatBinary P conjunction X Y s = X s × Y s
 SatBinary P disjunction X Y s = X s ⊎ Y s
 SatBinary P (condition.Binary.path k d o) X Y s = Paths k (steps P d) s (SaidTwo o X Y)
 
+-- the condition is true at place s of the program P, where variables count as used as U says
+unfoldable pub SatBy : (ℕ → ℕ → Type 0) → List Statement → Condition → ℕ → Type 0
+SatBy U P (atom a) s = HoldsBy U P a s
+SatBy U P (unary o p) s = SatUnary P o (SatBy U P p) s
+SatBy U P (binary o p q) s = SatBinary P o (SatBy U P p) (SatBy U P q) s
+
 -- the condition is true at place s of the program P
-unfoldable pub Sat : List Statement → Condition → ℕ → Type 0
-Sat P (atom a) s = Holds P a s
-Sat P (unary o p) s = SatUnary P o (Sat P p) s
-Sat P (binary o p q) s = SatBinary P o (Sat P p) (Sat P q) s
+abbrev pub Sat : List Statement → Condition → ℕ → Type 0
+Sat P = SatBy (usesOf P) P

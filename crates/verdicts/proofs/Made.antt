@@ -26,7 +26,7 @@ use Rattle.marks.specs.declared.read.MarkRead.{MarkRead}
 use Rattle.marks.specs.declared.read.MarkRead.the-variants as markRead
 use Rattle.marks.proofs.Walk.{Begins, begins-first, line-mark, line-next, line-inside, text-done}
 use Rattle.lockstep.specs.Rules.{makes}
-use Rattle.rewriting.specs.Verdicts.{Named, place, Judged, Verdicts, acceptedCount, Rewritten}
+use Rattle.rewriting.specs.Verdicts.{Named, place, Judged, Widened, Verdicts, acceptedCount, Rewritten}
 use Rattle.rewriting.specs.declared.Verdict.the-variants.{Accepted}
 use Rattle.rewriting.proofs.Accepted.{accepted-judged}
 use Rattle.marks.proofs.Lists.{taken-unique}
@@ -68,7 +68,7 @@ module _ {given es : List Entry} {t : List ℕ} {ms : List Mark} {vs : List ℕ}
     }
 
     module _ (P : List Statement) (judged : Verdicts P ms vs) (few : length P ≤ length es) (e : getD vs j 0 ≡ 0) where
-      here : Judged P (take j ms) (markAt ms j) Accepted
+      here : Judged (Widened P ms) P (take j ms) (markAt ms j) Accepted
       here = accepted-judged P ms vs judged j (line-inside (s .begins) is l, e)
 
       -- the statement that it names is one of the program's

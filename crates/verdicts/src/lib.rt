@@ -8,13 +8,14 @@ ghost use Rattle.language.specs.declared.Statement.{Statement as StatementOf};
 ghost use Rattle.program.specs.Program.{most as statements-most, row-words};
 ghost use Rattle.base.specs.Decides.{Decides};
 ghost use Rattle.program.specs.Reading.{statements, Held};
+ghost use Rattle.truth.specs.Truth.{usesOf};
 ghost use Rattle.table.specs.Known.{Known, SomeKnown};
 ghost use Rattle.marks.specs.Reading.{most, Taken};
 ghost use Rattle.marks.specs.Marks.{ValidMark, names};
 ghost use Rattle.marks.specs.declared.Mark.{Mark as MarkOf};
 ghost use Rattle.rewriting.specs.Verdicts.{Inside, place, Stands};
 ghost use Rattle.published_rows.specs.Memory.{Remembering};
-ghost use Rattle.verdicts.specs.Judging.{JudgedBy, Notes, SomeTaken, VerdictsOf, SomeJudged, RewritingOf};
+ghost use Rattle.verdicts.specs.Judging.{JudgedBy, Notes, Reusing, Reused, SomeTaken, VerdictsOf, SomeJudged, RewritingOf};
 use codes::CODE_WORDS;
 use language::Statement;
 use marks::Mark;
@@ -38,7 +39,7 @@ fn is_inside(n: usize, m: Mark) -> bool
 }
 
 // The place that the mark names, of all that there can be.
-fn place_of(m: Mark) -> usize
+pub fn place_of(m: Mark) -> usize
     ensures { λ r. ⌜ (r < statements-most) × (Inside statements-most (names m) → r ≡ place m) ⌝ }
 {
     let k = rewriting::statement_of(m);
@@ -90,6 +91,17 @@ fn verdict_of(
     Verdict::Accepted
 }
 
+// Whether the mark with this verdict byte is an accepted `cse`.
+fn is_reuse(m: Mark, b: u8) -> bool
+    ensures { λ r. ⌜ Decides r (Reusing m b) ⌝ }
+{
+    match m {
+        Mark::Rm(_, _, _) => false,
+        Mark::Rpl(_, _, _) => false,
+        Mark::Cse(_, _, _) => b == 0,
+    }
+}
+
 // Adds the place that the mark with this verdict names.
 fn note(m: Mark, v: Verdict, named: &mut [u64])
     requires { ⌜ length (now named) ≡ row-words ⌝ }
@@ -101,7 +113,8 @@ fn note(m: Mark, v: Verdict, named: &mut [u64])
     }
 }
 
-// Judges each mark of the list on the program, whose facts and control-flow graph are lent: line j's verdict fills byte j.
+// Judges each mark of the list on the program, whose facts and control-flow graph are lent, by the program's own uses: line j's verdict fills
+// byte j. Tells whether a `cse` is accepted.
 pub fn judge(
     marks: &[u8],
     p: Program,
@@ -109,31 +122,35 @@ pub fn judge(
     codes: &[[u64; CODE_WORDS]],
     flow: &[u16],
     verdicts: &mut [u8],
-)
+) -> bool
     requires { ⌜ Held p × Known (statements p) (p .count) (now rows) (now codes) (now flow) ⌝ }
     requires { ⌜ SomeTaken (now marks) × (most ≤ length (now verdicts)) ⌝ }
-    ensures { λ _. ⌜ ((ms : List MarkOf) → Taken (now (marks .entry)) ms → VerdictsOf (statements p) ms (now (verdicts .entry)) (now (verdicts .exit))) ⌝ }
+    ensures { λ r. ⌜ ((ms : List MarkOf) → Taken (now (marks .entry)) ms → VerdictsOf (usesOf (statements p)) (statements p) ms (now (verdicts .entry)) (now (verdicts .exit)) × Reused (statements p) ms r) ⌝ }
 {
     let n = p.count;
     let mut named = atoms::blank_row();
     bits::clear(&mut named);
     let mut keys = published_rows::blank_keys();
     let mut memory = published_rows::blank_memory();
+    let mut reused = false;
     let mut j: usize = 0;
     let mut at: usize = 0;
     while at < marks.len() {
         let MarkRead::Found(m, k) = marks::read::line(marks, at) else {
-            return;
+            return reused;
         };
         let place = place_of(m);
         let e = p.entries[place];
         let i = e.statement;
         let v = verdict_of(m, i, n, rows, codes, flow, &named, &mut keys, &mut memory);
-        verdicts[j] = rewriting::number_of(v);
+        let b = rewriting::number_of(v);
+        verdicts[j] = b;
         note(m, v, &mut named);
+        reused = reused | is_reuse(m, b);
         j += 1;
         at = k;
     }
+    reused
 }
 
 // The program with the accepted marks made, and how many those are.

@@ -428,6 +428,7 @@ fn generated_marks_drop_divisions() {
             let (e, is_judged) = match mark.kind {
                 Kind::Remove(e) => (e, matches!(verdict, 0 | 14 | 18)),
                 Kind::Replace(a) => (Expression::Single(a), false),
+                Kind::Reuse(e) => (e, false),
             };
             if !is_judged || !matches!(e, Expression::Pair(_, Operator::Divide, _)) {
                 assert_ne!(verdict, 18, "{mark}");

@@ -1,5 +1,6 @@
 //! Random cases.
 
+use super::cse::is_dead_by_fixpoints;
 use super::naive;
 use crate::check::{check, LARGEST_FILE};
 use crate::condition::{tabulate, Atom, Checker, Condition, Demand, Direction, Part, Quantifier};
@@ -240,7 +241,7 @@ fn steps_agree_with_their_definition() {
 #[test]
 fn given_and_rewritten_program_agree_step_by_step() {
     let random = &mut Random::new(4);
-    let (mut removed, mut replaced, mut would_matter, mut faults) = (0, 0, 0, 0);
+    let (mut removed, mut replaced, mut reused, mut would_matter, mut faults) = (0, 0, 0, 0, 0);
     let mut verdicts_seen = [0_usize; 19];
     for _ in 0..4_000 {
         let size = generate::size(random);
@@ -260,6 +261,7 @@ fn given_and_rewritten_program_agree_step_by_step() {
                 _ if verdict != 0 => {}
                 Kind::Remove(_) => removed += 1,
                 Kind::Replace(_) => replaced += 1,
+                Kind::Reuse(_) => reused += 1,
             }
         }
         assert_eq!(accepted as usize, verdicts.iter().filter(|&&verdict| verdict == 0).count());
@@ -295,8 +297,9 @@ fn given_and_rewritten_program_agree_step_by_step() {
             would_matter += usize::from(differs);
         }
     }
-    println!("removed {removed} replaced {replaced} would matter {would_matter} faults {faults} verdicts {verdicts_seen:?}");
-    assert!(removed > 4_000 && replaced > 4_000 && would_matter > 200 && faults > 500);
+    println!("removed {removed} replaced {replaced} reused {reused} would matter {would_matter} faults {faults} verdicts {verdicts_seen:?}");
+    assert!(removed > 4_000 && replaced > 4_000 && reused > 1_000);
+    assert!(would_matter > 200 && faults > 500);
     assert!(verdicts_seen[11..=14].iter().all(|&seen| seen > 500) && verdicts_seen[18] > 100);
 }
 
@@ -323,11 +326,26 @@ const REPLACE_READINGS: [&str; 9] = [
     "AY A[((!def(x) & trans(a)) & !entry) B (stmt(x := a) | !ER entry)]",
 ];
 
+/// The condition of `cse` and wrong readings of it, x standing for the variable and a for the right side.
+const REUSE_READINGS: [&str; 11] = [
+    "AY A[((!def(x) & trans(a)) & !entry) B (stmt(x := a) & trans(a))]",
+    "AY A[((!def(x) & trans(a)) & !entry) S (stmt(x := a) & trans(a))]",
+    "AY A[(!def(x) & trans(a)) B (stmt(x := a) & trans(a))]",
+    "AY A[(trans(a) & !entry) B (stmt(x := a) & trans(a))]",
+    "AY A[(!def(x) & !entry) B (stmt(x := a) & trans(a))]",
+    "AY A[((!def(x) & trans(a)) & !entry) B stmt(x := a)]",
+    "EY E[((!def(x) & trans(a)) & !entry) B (stmt(x := a) & trans(a))]",
+    "EY A[((!def(x) & trans(a)) & !entry) B (stmt(x := a) & trans(a))]",
+    "AY E[((!def(x) & trans(a)) & !entry) B (stmt(x := a) & trans(a))]",
+    "A[((!def(x) & trans(a)) & !entry) B (stmt(x := a) & trans(a))]",
+    "AY A[((!def(x) & trans(a)) & !entry) B ((stmt(x := a) & trans(a)) | !ER entry)]",
+];
+
 /// Generated marks tell the right conditions from wrong readings of them.
 #[test]
 fn wrong_readings_of_marks_are_told_apart() {
     let random = &mut Random::new(11);
-    let mut told = [[0_usize; 9]; 2];
+    let mut told = [[0_usize; 11]; 3];
     for _ in 0..2_000 {
         let size = random.between(3, 24);
         let program = generate::program(random, size);
@@ -341,6 +359,7 @@ fn wrong_readings_of_marks_are_told_apart() {
             let (told, readings, a) = match mark.kind {
                 Kind::Remove(_) => (&mut told[0], &REMOVE_READINGS[..], String::new()),
                 Kind::Replace(a) => (&mut told[1], &REPLACE_READINGS[..], a.to_string()),
+                Kind::Reuse(e) => (&mut told[2], &REUSE_READINGS[..], e.to_string()),
             };
             for (told, reading) in told.iter_mut().zip(readings) {
                 let text = reading
@@ -355,13 +374,16 @@ fn wrong_readings_of_marks_are_told_apart() {
         }
     }
     println!("told apart {told:?}");
-    assert_eq!((told[0][0], told[1][0]), (0, 0));
-    assert!(told[0][1..6].iter().chain(&told[1][1..]).all(|&times| times > 20), "{told:?}");
+    assert_eq!((told[0][0], told[1][0], told[2][0]), (0, 0, 0));
+    let wrong = told[0][1..6].iter().chain(&told[1][1..9]).chain(&told[2][1..]);
+    assert!(wrong.into_iter().all(|&times| times > 20), "{told:?}");
 }
 
+/// But for `rm`: there `use` holds also where a `cse` with its variable is accepted.
 #[test]
 fn verdicts_of_a_list_are_those_of_single_marks() {
     let random = &mut Random::new(5);
+    let mut by_list = 0;
     for _ in 0..1_000 {
         let size = random.between(2, 20);
         let program = generate::program(random, size);
@@ -372,9 +394,23 @@ fn verdicts_of_a_list_are_those_of_single_marks() {
             let named = list[..line].iter().any(|earlier| earlier.number == mark.number);
             let inside = (1..=program.count()).contains(&mark.number);
             let alone = judge.verdicts(&[*mark])[0];
-            assert_eq!(verdicts[line], if inside && named { 12 } else { alone });
+            let wanted = match mark.kind {
+                _ if inside && named => 12,
+                Kind::Remove(_) if alone == 0 => {
+                    let is_dead = is_dead_by_fixpoints(&program, &list, &verdicts, mark);
+                    by_list += usize::from(!is_dead);
+                    if is_dead {
+                        0
+                    } else {
+                        14
+                    }
+                }
+                _ => alone,
+            };
+            assert_eq!(verdicts[line], wanted, "{program}{}", marks::text(&list).escape_ascii());
         }
     }
+    assert!(by_list > 50, "{by_list}");
 }
 
 #[test]

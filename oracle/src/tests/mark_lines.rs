@@ -39,6 +39,7 @@ fn lists_of_the_most_marks() {
         ("0: mark(rm, i0, 0)\n", 19),
         ("2147483647: mark(rm, i31, 2147483647 + 2147483647)\n", 51),
         ("2147483647: mark(rm, i31, -2147483648 + -2147483648)\n", 53),
+        ("2147483647: mark(cse, i31, -2147483648 + -2147483648)\n", 54),
     ] {
         assert_eq!(line.len(), bytes);
         let list = line.repeat(MOST_MARKS).into_bytes();

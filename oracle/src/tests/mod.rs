@@ -1,6 +1,7 @@
 //! Cases from the defining documents, decided open points, and random cross tests.
 
 mod constants;
+mod cse;
 mod division;
 mod document;
 mod generated;

@@ -341,7 +341,7 @@ fn lists_of_marks() {
         "1: mark(rm, i0, )",
         "1: mark(rm, i0)",
         "1: mark(rm, i0, 1, 1)",
-        "1: mark(cse, i0, 1)",
+        "1: mark(cs, i0, 1)",
         "1: mark(rm , i0, 1)",
         "1: Mark(rm, i0, 1)",
         "1: mark(rm, i0, 1 % 2)",

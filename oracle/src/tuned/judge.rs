@@ -39,6 +39,51 @@ impl Search {
     }
 }
 
+/// The assignment that `rpl` and `cse` ask for on each path back.
+trait Source: Copy {
+    fn variable(self) -> u8;
+    fn right(self) -> Expression;
+    fn is(self, statement: &Statement) -> bool;
+}
+
+#[derive(Clone, Copy)]
+struct Copied(u8, Operand);
+
+impl Source for Copied {
+    fn variable(self) -> u8 {
+        self.0
+    }
+
+    fn right(self) -> Expression {
+        Expression::Single(self.1)
+    }
+
+    #[inline(always)]
+    fn is(self, statement: &Statement) -> bool {
+        matches!(statement, Statement::Assign(x, Expression::Single(a)) if *x == self.0 && *a == self.1)
+    }
+}
+
+/// One that doesn't set what it is computed from.
+#[derive(Clone, Copy)]
+struct Computed(u8, Expression);
+
+impl Source for Computed {
+    fn variable(self) -> u8 {
+        self.0
+    }
+
+    fn right(self) -> Expression {
+        self.1
+    }
+
+    #[inline(always)]
+    fn is(self, statement: &Statement) -> bool {
+        matches!(statement, Statement::Assign(t, e) if *t == self.0 && *e == self.1)
+            && !self.1.mentions(self.0)
+    }
+}
+
 impl Judge {
     /// Whether no path from behind a statement comes to a use before a definition.
     fn is_dead(&self, x: u8, at: u8) -> bool {
@@ -65,18 +110,17 @@ impl Judge {
         !self.flow.successors(at).iter().any(|&next| has(&used, next))
     }
 
-    /// Where a copy made before still holds: nothing of it is defined, and the program has started.
-    fn carrying(&self, x: u8, a: Operand) -> Row {
-        let mut row = self.rows.transparent(&self.flow.all, &Expression::Single(a));
-        row = without(&row, &self.rows.defining[usize::from(x)]);
+    /// Where what an assignment before has stored still holds: nothing of it is defined, and the program has started.
+    fn carrying(&self, source: impl Source) -> Row {
+        let mut row = self.rows.transparent(&self.flow.all, &source.right());
+        row = without(&row, &self.rows.defining[usize::from(source.variable())]);
         without(&row, &[1, 0, 0, 0])
     }
 
-    /// Whether each path back from before a statement comes to the copy, or goes on for ever, and all its other
-    /// places carry it.
-    fn is_copied(&self, program: &Program, x: u8, a: Operand, at: u8) -> bool {
-        let carrying = self.carrying(x, a);
-        let copy = Statement::Assign(x, Expression::Single(a));
+    /// Whether each path back from before a statement comes to the source, or goes on for ever, and all its other
+    /// places carry what it stores.
+    fn is_held(&self, program: &Program, source: impl Source, at: u8) -> bool {
+        let carrying = self.carrying(source);
         let mut search = Search::new();
         let step = |search: &mut Search, at: u8| match self.flow.predecessors(at) {
             [] => search.meet(at),
@@ -84,10 +128,10 @@ impl Judge {
         };
         step(&mut search, at);
         while let Some(at) = search.next() {
-            // The copy defines its variable, so it doesn't carry.
+            // The source defines its variable, so it doesn't carry.
             if has(&carrying, at) {
                 step(&mut search, at);
-            } else if program.statements()[usize::from(at)] != copy {
+            } else if !source.is(&program.statements()[usize::from(at)]) {
                 return false;
             }
         }
@@ -95,16 +139,15 @@ impl Judge {
     }
 
     /// The same by labelling every statement.
-    fn is_copied_by_labels(&self, program: &Program, x: u8, a: Operand, at: u8) -> bool {
-        let copy = Statement::Assign(x, Expression::Single(a));
-        let mut copies = [0; 4];
+    fn is_held_by_labels(&self, program: &Program, source: impl Source, at: u8) -> bool {
+        let mut sources = [0; 4];
         for (at, statement) in program.statements().iter().enumerate() {
-            if *statement == copy {
-                put(&mut copies, at as u8);
+            if source.is(statement) {
+                put(&mut sources, at as u8);
             }
         }
-        let others = without(&self.flow.all, &copies);
-        let neither = and(&others, &without(&self.flow.all, &self.carrying(x, a)));
+        let others = without(&self.flow.all, &sources);
+        let neither = and(&others, &without(&self.flow.all, &self.carrying(source)));
         let lost = self.flow.some_until(Direction::Backward, &others, &neither);
         match self.flow.predecessors(at) {
             [] => !has(&lost, at),
@@ -121,6 +164,8 @@ fn fits(mark: &Mark, statement: &Statement) -> bool {
         (Kind::Replace(Operand::Variable(_)), Statement::Branch { tested: x, .. })
         | (Kind::Replace(Operand::Variable(_)), Statement::Write(x)) => *x == mark.variable,
         (Kind::Replace(_), _) => false,
+        (Kind::Reuse(e @ Expression::Pair(..)), Statement::Assign(_, right)) => *right == e,
+        (Kind::Reuse(_), _) => false,
     }
 }
 
@@ -143,6 +188,9 @@ fn make(mark: &Mark, statement: &mut Statement) {
         }
         (Kind::Replace(Operand::Variable(y)), Statement::Branch { tested: x, .. })
         | (Kind::Replace(Operand::Variable(y)), Statement::Write(x)) => *x = y,
+        (Kind::Reuse(_), Statement::Assign(_, right)) => {
+            *right = Expression::Single(Operand::Variable(mark.variable));
+        }
         _ => {}
     }
 }
@@ -236,6 +284,9 @@ impl Writer<'_> {
     }
 }
 
+/// Stands for the verdict of an `rm` until each `cse` is judged.
+const UNDECIDED: u8 = 255;
+
 #[inline(always)]
 fn judge_with(
     program: &[u8],
@@ -248,8 +299,9 @@ fn judge_with(
         return Err(1);
     }
     let mut program = Program::read(program)?;
-    let list = List::read(marks)?;
-    let judge = Judge { flow: Flow::new(&program), rows: Rows::new(&program) };
+    let mut list = List::empty();
+    list.read(marks)?;
+    let mut judge = Judge { flow: Flow::new(&program), rows: Rows::new(&program) };
     let (mut named, mut accepted) = ([0; 4], 0);
     for (mark, verdict) in list.marks().iter().zip(verdicts.iter_mut()) {
         let count = judge.flow.count as u32;
@@ -265,14 +317,27 @@ fn judge_with(
                     13
                 } else if divides_by_what_may_be_0(mark) {
                     18
+                } else if matches!(mark.kind, Kind::Remove(_)) {
+                    UNDECIDED
                 } else if is_true(&judge, &program, mark, at) {
                     accepted += 1;
+                    // Other kinds don't ask for uses.
+                    if matches!(mark.kind, Kind::Reuse(_)) {
+                        put(&mut judge.rows.using[usize::from(mark.variable)], at);
+                    }
                     0
                 } else {
                     14
                 }
             }
         };
+    }
+    for (mark, verdict) in list.marks().iter().zip(verdicts.iter_mut()) {
+        if *verdict == UNDECIDED {
+            let is_true = is_true(&judge, &program, mark, (mark.number - 1) as u8);
+            accepted += u32::from(is_true);
+            *verdict = if is_true { 0 } else { 14 };
+        }
     }
     for (mark, verdict) in list.marks().iter().zip(verdicts.iter()) {
         if *verdict == 0 {
@@ -294,7 +359,8 @@ pub fn judge(
 ) -> Result<(u32, u32, u32), u8> {
     judge_with(program, marks, verdicts, text, |judge, program, mark, at| match mark.kind {
         Kind::Remove(_) => judge.is_dead(mark.variable, at),
-        Kind::Replace(a) => judge.is_copied(program, mark.variable, a, at),
+        Kind::Replace(a) => judge.is_held(program, Copied(mark.variable, a), at),
+        Kind::Reuse(e) => judge.is_held(program, Computed(mark.variable, e), at),
     })
 }
 
@@ -307,6 +373,7 @@ pub fn judge_by_labels(
 ) -> Result<(u32, u32, u32), u8> {
     judge_with(program, marks, verdicts, text, |judge, program, mark, at| match mark.kind {
         Kind::Remove(_) => judge.is_dead_by_labels(mark.variable, at),
-        Kind::Replace(a) => judge.is_copied_by_labels(program, mark.variable, a, at),
+        Kind::Replace(a) => judge.is_held_by_labels(program, Copied(mark.variable, a), at),
+        Kind::Reuse(e) => judge.is_held_by_labels(program, Computed(mark.variable, e), at),
     })
 }

@@ -152,15 +152,20 @@ impl<'a> Cursor<'a> {
 
     fn mark(&mut self) -> Option<Mark> {
         let number = self.number()?;
-        self.word(b": mark(r")?;
-        let is_removal = self.peek() == b'm';
-        self.word(if is_removal { b"m, " } else { b"pl, " })?;
+        self.word(b": mark(")?;
+        // The kinds differ in their second letter.
+        let letter = self.text.get(self.at + 1).copied().unwrap_or(0);
+        match letter {
+            b'm' => self.word(b"rm, ")?,
+            b's' => self.word(b"cse, ")?,
+            _ => self.word(b"rpl, ")?,
+        }
         let variable = self.variable()?;
         self.word(b", ")?;
-        let kind = if is_removal {
-            Kind::Remove(self.expression()?)
-        } else {
-            Kind::Replace(self.operand()?)
+        let kind = match letter {
+            b'm' => Kind::Remove(self.expression()?),
+            b's' => Kind::Reuse(self.expression()?),
+            _ => Kind::Replace(self.operand()?),
         };
         self.byte(b')')?;
         Some(Mark { number, variable, kind })
@@ -228,22 +233,26 @@ pub struct List {
 }
 
 impl List {
-    pub fn read(text: &[u8]) -> Result<List, u8> {
+    pub fn empty() -> List {
         let none = Mark { number: 0, variable: 0, kind: Kind::Replace(Operand::Constant(0)) };
-        let mut list = List { marks: [none; MOST_MARKS], count: 0 };
+        List { marks: [none; MOST_MARKS], count: 0 }
+    }
+
+    /// Fills an empty list. It isn't answered, since to move one takes as long as to read a dozen lines.
+    pub fn read(&mut self, text: &[u8]) -> Result<(), u8> {
         let mut cursor = Cursor::new(text);
         while !cursor.is_at_end() {
             let mark = cursor.mark().ok_or(9)?;
             cursor.byte(b'\n').ok_or(9)?;
-            if let Some(place) = list.marks.get_mut(list.count) {
+            if let Some(place) = self.marks.get_mut(self.count) {
                 *place = mark;
             }
-            list.count += 1;
+            self.count += 1;
         }
-        if list.count > MOST_MARKS {
+        if self.count > MOST_MARKS {
             return Err(10);
         }
-        Ok(list)
+        Ok(())
     }
 
     pub fn marks(&self) -> &[Mark] {

@@ -47,7 +47,7 @@ returns-2 : tie.Need-returns-2
 returns-2 c = rw (c .before .before .before .before .enum-told2 .given .1) (λ P size f. empty-row _ _ _ (c .before .before .clear .ensures) (λ s l h. h))
 
 returns-3 : tie.Need-returns-3
-returns-3 c = rw (c .before .before .before .before .enum-told3 .given .1) (λ P size f. entry-row P _ _ (c .before .before .numbered .ensures))
+returns-3 c = rw (c .before .before .before .before .enum-told3 .given .1) (λ P size f. entry-row _ _ (c .before .before .numbered .ensures))
 
 returns-4 : tie.Need-returns-4
 returns-4 c = rw (c .before .before .before .before .enum-told4 .given .1) (λ P size f. exit-row P _ _ size (c .before .before .numbered2 .ensures))

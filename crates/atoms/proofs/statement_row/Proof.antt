@@ -1,7 +1,7 @@
 -- `atoms::statement_row` meets its contract: the invariant is the contract at place s. Assumes nothing.
 use borrow.Author.Needs.{needs}
 use Rattle.atoms.proofs.Rows.{statement-iff}
-use Rattle.atoms.specs.Facts.{FactsBelow}
+use Rattle.atoms.specs.Facts.{FactsIn}
 use Rattle.codes.specs.Codes.{statementCode}
 use Rattle.labelling.specs.Labels.{Labelled}
 use Rattle.labelling.proofs.Labels.{label-skip, label-join}
@@ -17,7 +17,7 @@ use Rattle.atoms.proofs.statement_row.Statement.{statement}
 use Rattle.atoms.proofs.statement_row.Tie as tie
 
 abbrev Inv-loop : tie.InvT-loop
-Inv-loop n codes out₀ c s₀ out s = (s ≤ n) × (length out ≡ length out₀) × ((P : List Statement) (rows : List ℕ) (i : Statement) → c ≡ statementCode i → FactsBelow P n rows codes → Labelled s (member out) (λ t. at P t ≡ i))
+Inv-loop n codes out₀ c s₀ out s = (s ≤ n) × (length out ≡ length out₀) × ((P : List Statement) (rows : List ℕ) (i : Statement) → c ≡ statementCode i → FactsIn P n rows codes → Labelled s (member out) (λ t. at P t ≡ i))
 
 abbrev μ-loop : tie.MeasureT-loop
 μ-loop n codes out₀ c s₀ out s = n - s

@@ -3,6 +3,8 @@ use Rattle.review.proofs.Reviews.{few-lines, few-tables, lines-rowed, r
 use Rattle.calls.proofs.Known.{known-program}
 use Rattle.sharing.specs.Sharing.{partsOf}
 use Rattle.table.specs.Known.{Known}
+use Rattle.table.proofs.By.{known-in}
+use Rattle.review_tables.proofs.Filled.{tables-by}
 use Rattle.program.specs.Reading.{statements, Held}
 use Rattle.program.specs.Program.{Taken}
 use native.Mathlib.Omega.{arith}
@@ -61,7 +63,7 @@ fill-requires c κs =
     let s = h .1 .shares in
     let l = r .read2 .kept in
     let b = r .before .before .before .before .before .before .blank-entries .ensures .size in (
-      record { P = _; known = known (c .before .before .before .before .before) },
+      record { P = _; known = known-in (known (c .before .before .before .before .before)) },
       (
         record { ps = partsOf (h .0); shares = s; many = omega (arith, s .counted, h .1 .taken .few, l, b) },
         omega (arith, few-tables {cs = h .0} (h .1), r .before .before .before .before .before .before .before .before .before .before .before .if1 .left),
@@ -86,7 +88,7 @@ count-lines-requires c κs =
     let t = k .before .before .before .before .before .before .before .before .before .before .before .before in
     let r = t .before .before .before .before .before in
     let h = rw (t .told2 .given .1) at (r .read2 .ensures) in
-    let f = c .before .before .before .before .before .before .before .before .fill .ensures _ (partsOf (h .0)) (known k) (h .1 .shares) in
+    let f = c .before .before .before .before .before .before .before .before .fill .ensures _ (partsOf (h .0)) (known-in (known k)) (h .1 .shares) in
     (lines-rowed {cs = h .0} (h .1) _ (omega (arith, f .same, r .before .before .before .before .before .before .before .before .before .before .before .if1 .left)), (c .before .before .before .before .before .blank5 .ensures, c .before .before .before .before .blank6 .ensures))
 
 returns-3 : tie.Need-returns-3
@@ -103,8 +105,8 @@ returns-4 c =
     let t = k .before .before .before .before .before .before .before .before .before .before .before .before in
     let h = rw (t .told2 .given .1) at (t .before .before .before .before .before .read2 .ensures) in
     let e = t .before .before .before .before .before .before .before .before .before .before .before .before .before in
-    let f = c .before .before .before .before .before .before .before .before .before .before .before .fill .ensures _ (partsOf (h .0)) (known k) (h .1 .shares) in
-    reviewed {cs = h .0} (h .1) f (program-taken e .0) (e .before .before .before .if1 .left) (c .before .before .count-lines .ensures)
+    let f = c .before .before .before .before .before .before .before .before .before .before .before .fill .ensures _ (partsOf (h .0)) (known-in (known k)) (h .1 .shares) in
+    reviewed {cs = h .0} (h .1) (tables-by {ps = partsOf (h .0)} (known k) (h .1 .shares) f) (program-taken e .0) (e .before .before .before .if1 .left) (c .before .before .count-lines .ensures)
 
 pub review-spec : {M : Type 1} → statement M
 review-spec =

@@ -13,6 +13,9 @@ returns-2 c =
 returns-3 : tie.Need-returns-3
 returns-3 c = rw (c .enum-told2 .given .1) tt
 
+returns-4 : tie.Need-returns-4
+returns-4 c = rw (c .enum-told3 .given .1) tt
+
 pub droppable-spec : {M : Type 1} → statement M
 droppable-spec =
     tie.close
@@ -22,6 +25,8 @@ droppable-spec =
     (λ c. search needs)
     (λ c κs. search needs)
     (λ c. search needs)
+    (λ c. search needs)
     returns
     returns-2
-    returns-3)
+    returns-3
+    returns-4)

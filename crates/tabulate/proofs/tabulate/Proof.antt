@@ -8,6 +8,7 @@ use Rattle.program.specs.Reading.{statements, Held}
 use Rattle.table.specs.Fill.{SomeHeld}
 use Rattle.table.specs.Known.{Known}
 use Rattle.table.proofs.Whole.{held-some, held-few}
+use Rattle.table.proofs.By.{known-in, table-by}
 use Rattle.calls.proofs.Known.{known-program}
 use Rattle.tabulate.proofs.Tabulates.{tabulated}
 use Rattle.tabulate.proofs.tabulate.Statement.{statement}
@@ -52,7 +53,7 @@ fill-requires : tie.Need-fill-requires
 fill-requires c κs =
     let h = condition-held (c .before .before .before .before .before .before .before .before .before .before .before .before .before .before .before .before .before) in
     let few = held-few (h .held) in
-    (record { P = _; known = known (c .before .before .before .before) }, (h, omega arith))
+    (record { P = _; known = known-in (known (c .before .before .before .before)) }, (h, omega arith))
 
 sub-last : tie.Need-sub-last
 sub-last c = omega (arith, held-some (condition-held (c .before .before .before .before .before .before .before .before .before .before .before .before .before .before .before .before .before .before .before .before) .held))
@@ -63,7 +64,7 @@ summary-of-requires c κs =
     let h = condition-held k in
     let some = held-some (h .held) in
     let few = held-few (h .held) in
-    let same = c .before .before .before .fill .ensures _ (h .c) (known (c .before .before .before .before .before .before .before .before)) (h .held) .same in
+    let same = c .before .before .before .fill .ensures _ (h .c) (known-in (known (c .before .before .before .before .before .before .before .before))) (h .held) .same in
     omega (arith, k .before .before .before .before .before .before .before .if1 .left)
 
 returns-3 : tie.Need-returns-3
@@ -77,7 +78,8 @@ returns-4 : tie.Need-returns-4
 returns-4 c =
     let k = c .before .before .before .before .before .before .before .before .before .before .before .before .before .before .before .before .before .before .before .before .before .before in
     let h = condition-held k in
-    let filled = c .before .before .before .before .fill .ensures _ (h .c) (known (c .before .before .before .before .before .before .before .before .before)) (h .held) in
+    let x = known (c .before .before .before .before .before .before .before .before .before) in
+    let filled = table-by x (h .held) (c .before .before .before .before .fill .ensures _ (h .c) (known-in x) (h .held)) in
     tabulated (h .held) (program-taken (k .before .before .before .before) .0) (k .before .before .before .before .before .before .before .if1 .left) filled (c .summary-of .ensures)
 
 pub tabulate-spec : {M : Type 1} → statement M

@@ -90,7 +90,7 @@ loop-again c =
     let marked = c .before .before .before .before .before .before in
     let l = loop marked .loop in (
       length-set (l .entries) _ _ ∙ l .inv .0,
-      λ ms t. made-more (l .inv .1 ms t) (marked .m .given .1) (marked .before .before .line .ensures) _ (verdicts-same (start marked .pre .1) t)
+      λ ms t. made-more (l .inv .1 ms t) (marked .m .given .1) (marked .before .before .line .ensures) (statements (start marked .args .t2)) (verdicts-same (start marked .pre .1) t)
           (room-on marked) (c .before .before .before .if1 .taken) _ (c .before .before .statement-of .ensures) _ (c .makes .ensures),
     )
 

@@ -9,6 +9,9 @@ use lib.ListN.{length}
 use Rattle.language.specs.declared.Statement.{Statement}
 use Rattle.program.specs.Program.{most}
 use Rattle.table.specs.Known.{Known}
+use Rattle.table.proofs.By.{known-in}
+use Rattle.published_rows.proofs.Rows.{row-by}
+use Rattle.published_rows.proofs.Memory.{fits-keyed}
 use Rattle.bits.specs.Row.{member}
 use Rattle.lockstep.specs.Rules.{Fits, Droppable}
 use Rattle.rewriting.specs.Verdicts.{Inside, place}
@@ -82,6 +85,13 @@ returns-4 c =
       start tested .pre .1 .1,
     )
 
+remembered-row-requires : tie.Need-remembered-row-requires
+remembered-row-requires c κs =
+    let safe = c .before .before in
+    let fit = safe .before .before in
+    let given = start (fit .before .before .before) in
+    (given .pre .0, (given .pre .1 .0 .0, fits-keyed (given .args .m) (given .args .i) (fits fit), given .pre .1 .1))
+
 contains-requires-2 : tie.Need-contains-requires-2
 contains-requires-2 c κs =
     let k = c .before .before .before .before .before .before .before .before .before .before .before .before .before .before .before .before .before .before .pre .0 in
@@ -94,7 +104,7 @@ returns-5 c =
     let fit = safe .before .before in
     let tested = fit .before .before .before in
     let r = c .before .before .before .before .before .remembered-row .ensures in (
-      λ P k. judged-unmet P (start tested .args .m) (start tested .args .i) _ (inside tested k .0) (unnamed (fit .before .before) k) (fits fit) (harmless safe) (r .0 P k .0)
+      λ P k. judged-unmet P (start tested .args .m) (start tested .args .i) _ (inside tested k .0) (unnamed (fit .before .before) k) (fits fit) (harmless safe) (row-by k (start tested .args .m) (start tested .pre .1 .0 .0) _ (r .0 P (known-in k)) .0)
           (rw (← placed tested k) (sym (c .before .contains2 .ensures) ∙ not-true _ (c .if5 .taken))),
       r .1,
     )
@@ -105,7 +115,7 @@ returns-6 c =
     let fit = safe .before .before in
     let tested = fit .before .before .before in
     let r = c .before .before .before .before .before .remembered-row .ensures in (
-      λ P k. judged-accepted P (start tested .args .m) (start tested .args .i) _ (inside tested k .0) (unnamed (fit .before .before) k) (fits fit) (harmless safe) (r .0 P k .0)
+      λ P k. judged-accepted P (start tested .args .m) (start tested .args .i) _ (inside tested k .0) (unnamed (fit .before .before) k) (fits fit) (harmless safe) (row-by k (start tested .args .m) (start tested .pre .1 .0 .0) _ (r .0 P (known-in k)) .0)
           (rw (← placed tested k) (sym (c .before .contains2 .ensures) ∙ not-false _ (c .if5 .left))),
       r .1,
     )
@@ -123,7 +133,7 @@ verdict-of-spec =
     returns-3
     (λ c κs. search needs)
     returns-4
-    (λ c κs. search needs)
+    remembered-row-requires
     (λ c. search needs)
     contains-requires-2
     (λ c. search needs)

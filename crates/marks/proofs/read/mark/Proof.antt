@@ -25,20 +25,38 @@ returns-2 c =
 returns-3 : tie.Need-returns-3
 unfolding parseMark
 returns-3 c =
-    let p₃ = c .before in
+    let p₄ = c .before in
+    let p₃ = p₄ .before .before .before in
     let p₂ = p₃ .before .before .before .before in
     let p₁ = p₂ .before .before .before .before .before in (
       rw (
         sym (p₁ .before .before .statement-number .ensures .0) ∙ ap (parsedNumber _) (p₁ .n .given .1),
         sym (p₂ .before .before .word .ensures .0) ∙ ap (parsedWord _) (p₂ .k1 .given .1),
         sym (p₃ .before .before .rm .ensures .0) ∙ ap (parsedMark _) (p₃ .enum-told3 .given .1),
-      ) (c .rpl .ensures .0),
-      c .rpl .ensures .1,
+        sym (p₄ .before .before .rpl .ensures .0) ∙ ap (parsedMark _) (p₄ .enum-told4 .given .1),
+      ) (c .cse .ensures .0),
+      c .cse .ensures .1,
     )
 
 returns-4 : tie.Need-returns-4
 unfolding parseMark
 returns-4 c =
+    let p₄ = c .before in
+    let p₃ = p₄ .before .before .before in
+    let p₂ = p₃ .before .before .before .before in
+    let p₁ = p₂ .before .before .before .before .before in (
+      rw (
+        sym (p₁ .before .before .statement-number .ensures .0) ∙ ap (parsedNumber _) (p₁ .n .given .1),
+        sym (p₂ .before .before .word .ensures .0) ∙ ap (parsedWord _) (p₂ .k1 .given .1),
+        sym (p₃ .before .before .rm .ensures .0) ∙ ap (parsedMark _) (p₃ .enum-told3 .given .1),
+        sym (p₄ .before .before .rpl .ensures .0) ∙ ap (parsedMark _) (p₄ .o .given .1),
+      ),
+      omega (arith, p₄ .before .before .rpl .ensures .1, ap markEnd (p₄ .o .given .1)),
+    )
+
+returns-5 : tie.Need-returns-5
+unfolding parseMark
+returns-5 c =
     let p₃ = c .before in
     let p₂ = p₃ .before .before .before .before in
     let p₁ = p₂ .before .before .before .before .before in (
@@ -67,5 +85,9 @@ mark-spec =
     (λ c. search needs)
     (λ c. search needs)
     (λ c κs. search needs)
+    (λ c. search needs)
+    (λ c. search needs)
+    (λ c κs. search needs)
     returns-3
-    returns-4)
+    returns-4
+    returns-5)

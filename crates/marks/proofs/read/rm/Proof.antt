@@ -1,71 +1,24 @@
--- `rm` meets its contract: at each return the readers that were called say what `parseRm` finds. Assumes nothing.
-use Rattle.marks.specs.Parsing.{parseTail}
-use Rattle.statement_reader.specs.Parsing.{parsedExpression}
-use Rattle.tokens.specs.Parsing.{parsedVariable, parsedWord, wordEnd}
-use mathlib.Core.Path.{sym, ap, _∙_}
+-- `rm` meets its contract: the mark is made of what `computed` finds. Assumes nothing.
+use Rattle.marks.specs.Parsing.{computedEnd}
+use Rattle.marks.specs.declared.Mark.the-variants.{Rm}
+use mathlib.Core.Path.{ap}
 use borrow.Author.Needs.{needs}
 use native.Mathlib.Omega.{arith}
 use Rattle.marks.proofs.read.rm.Statement.{statement}
 use Rattle.marks.proofs.read.rm.Tie as tie
 
 returns : tie.Need-returns
-unfolding parseTail
-returns c = (rw (sym (c .before .before .front .ensures .0) ∙ ap (parsedVariable _) (c .enum-told .given .1)), omega arith)
+returns c =
+    let p = c .before .before in
+    (rw (c .enum-told .given .1) at (p .computed .ensures .0 (Rm (p .before .before .before .args .n))), omega arith)
 
 returns-2 : tie.Need-returns-2
-unfolding parseTail
 returns-2 c =
-    let p₁ = c .before .before .before .before in (
-      rw (
-        sym (p₁ .before .before .front .ensures .0) ∙ ap (parsedVariable _) (p₁ .x .given .1),
-        sym (c .before .before .expression .ensures .0) ∙ ap (parsedExpression _) (c .enum-told2 .given .1),
-      ),
-      omega arith,
-    )
-
-returns-3 : tie.Need-returns-3
-unfolding parseTail
-returns-3 c =
-    let p₂ = c .before .before .before .before .before in
-    let p₁ = p₂ .before .before .before .before in (
-      rw (
-        sym (p₁ .before .before .front .ensures .0) ∙ ap (parsedVariable _) (p₁ .x .given .1),
-        sym (p₂ .before .before .expression .ensures .0) ∙ ap (parsedExpression _) (p₂ .e .given .1),
-        sym (c .before .before .word .ensures .0) ∙ ap (parsedWord _) (c .enum-told3 .given .1),
-      ),
-      omega arith,
-    )
-
-returns-4 : tie.Need-returns-4
-unfolding parseTail
-returns-4 c =
-    let p₃ = c .before in
-    let p₂ = p₃ .before .before .before .before .before in
-    let p₁ = p₂ .before .before .before .before in (
-      rw (
-        sym (p₁ .before .before .front .ensures .0) ∙ ap (parsedVariable _) (p₁ .x .given .1),
-        sym (p₂ .before .before .expression .ensures .0) ∙ ap (parsedExpression _) (p₂ .e .given .1),
-        sym (p₃ .before .before .word .ensures .0) ∙ ap (parsedWord _) (p₃ .k2 .given .1),
-      ),
-      omega (arith, p₃ .before .before .word .ensures .1 (omega arith), ap wordEnd (p₃ .k2 .given .1)),
-    )
+    let p = c .before .before .before in
+    let is = c .before .x .given .1 in
+    (rw is at (p .computed .ensures .0 (Rm (p .before .before .before .args .n))), omega (arith, p .computed .ensures .1, ap computedEnd is))
 
 pub rm-spec : {M : Type 1} → statement M
 rm-spec =
     tie.close
-    (tie.spec
-    (λ c. search needs)
-    (λ c κs. search needs)
-    (λ c. search needs)
-    (λ c. search needs)
-    returns
-    (λ c κs. search needs)
-    (λ c. search needs)
-    (λ c. search needs)
-    returns-2
-    (λ c. search needs)
-    (λ c κs. search needs)
-    (λ c. search needs)
-    (λ c. search needs)
-    returns-3
-    returns-4)
+    (tie.spec (λ c. search needs) (λ c κs. search needs) (λ c. search needs) (λ c. search needs) returns returns-2)
