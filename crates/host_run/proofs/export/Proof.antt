@@ -1,10 +1,10 @@
--- `rewrites_run` meets its contract: the answer of `run`, told case by case. Assumes nothing.
+-- `export` meets its contract: the answer of `run`, told case by case. Assumes nothing.
 use mathlib.Core.Path.{refl}
 use mir.Syntax.{w32}
 use mir.Facts.{toZ-ofZ}
 use borrow.Author.Needs.{needs, sfits-of}
-use Rattle.rewrites.proofs.rewrites_run.Statement.{statement}
-use Rattle.rewrites.proofs.rewrites_run.Tie as tie
+use Rattle.host_run.proofs.export.Statement.{statement}
+use Rattle.host_run.proofs.export.Tie as tie
 
 returns : tie.Need-returns
 returns c =
@@ -47,8 +47,8 @@ returns-4 c =
       returned = rw (told .answer2 .given .1, c .before .finished3 .given .1) (refl, refl);
     }
 
-pub rewrites-run-spec : {M : Type 1} → statement M
-rewrites-run-spec =
+pub export-spec : {M : Type 1} → statement M
+export-spec =
     tie.close
     (tie.spec
     (λ c κs. search needs)

@@ -1,14 +1,14 @@
 -- `copy` meets its contract. The invariant: the first i entries are copied. Assumes nothing.
 use borrow.Author.Needs.{needs}
-use Rattle.rewrites.proofs.Copies.{begun-more}
-use Rattle.rewrites.specs.Exports.{begun}
+use Rattle.host_review.proofs.Copies.{begun-more}
+use Rattle.host_review.specs.Places.{begun}
 use lib.ListN.{getD, set}
 use native.Mathlib.Omega.{arith}
 use Prim.Native.Nat.{ℕ, _-_, _≤_}
 use mathlib.Core.List.{List}
 use mathlib.Core.Path.{_≡_, refl, ap, _∙_}
-use Rattle.rewrites.proofs.copy.Statement.{statement}
-use Rattle.rewrites.proofs.copy.Tie as tie
+use Rattle.host_review.proofs.copy.Statement.{statement}
+use Rattle.host_review.proofs.copy.Tie as tie
 
 abbrev Inv-loop : tie.InvT-loop
 Inv-loop from n out₀ i₀ out i = (i ≤ n) × (out ≡ begun i from out₀)

@@ -1,8 +1,8 @@
--- `rewrites_tabulate` meets its contract: the answer of `tabulate`, told case by case. Assumes nothing.
+-- `export` meets its contract: the answer of `tabulate`, told case by case. Assumes nothing.
 use mathlib.Core.Path.{refl}
 use borrow.Author.Needs.{needs}
-use Rattle.rewrites.proofs.rewrites_tabulate.Statement.{statement}
-use Rattle.rewrites.proofs.rewrites_tabulate.Tie as tie
+use Rattle.host_tabulate.proofs.export.Statement.{statement}
+use Rattle.host_tabulate.proofs.export.Tie as tie
 
 returns : tie.Need-returns
 returns c =
@@ -14,8 +14,8 @@ returns-2 c =
     let tabulate = c .before .before .before .before .before .tabulate in
     record { answer = tabulate .result; answers = tabulate .ensures; returned = rw (c .before .answer2 .given .1) (refl, refl) }
 
-pub rewrites-tabulate-spec : {M : Type 1} → statement M
-rewrites-tabulate-spec =
+pub export-spec : {M : Type 1} → statement M
+export-spec =
     tie.close
     (tie.spec
     (λ c κs. search needs)

@@ -1,9 +1,9 @@
--- `rewrites_review` meets its contract: the answer of `review`, told case by case. Assumes nothing.
+-- `export` meets its contract: the answer of `review`, told case by case. Assumes nothing.
 use Rattle.review.proofs.Reviews.{filled-few}
 use mathlib.Core.Path.{refl}
 use borrow.Author.Needs.{needs}
-use Rattle.rewrites.proofs.rewrites_review.Statement.{statement}
-use Rattle.rewrites.proofs.rewrites_review.Tie as tie
+use Rattle.host_review.proofs.export.Statement.{statement}
+use Rattle.host_review.proofs.export.Tie as tie
 
 copy-requires : tie.Need-copy-requires
 copy-requires c κs = let f = rw (c .before .before .before .before .before .before .before .answer2 .given .1) at (c .before .before .before .before .before .before .before .before .before .before .before .review .ensures) in (filled-few f, f .rest .sizes .0)
@@ -30,8 +30,8 @@ returns-2 c =
       returned = rw (c .before .before .before .before .before .before .before .before .before .before .before .before .before .before .before .before .before .answer2 .given .1) (refl, rw (c .before .before .before .before .before .before .before .before .before .copy .ensures, c .before .before .before .before .before .before .copy2 .ensures, c .before .before .before .copy3 .ensures, c .copy4 .ensures));
     }
 
-pub rewrites-review-spec : {M : Type 1} → statement M
-rewrites-review-spec =
+pub export-spec : {M : Type 1} → statement M
+export-spec =
     tie.close
     (tie.spec
     (λ c κs. search needs)

@@ -1,8 +1,8 @@
--- `rewrites_judge` meets its contract: the answer of `judge`, told case by case. Assumes nothing.
+-- `export` meets its contract: the answer of `judge`, told case by case. Assumes nothing.
 use mathlib.Core.Path.{refl}
 use borrow.Author.Needs.{needs}
-use Rattle.rewrites.proofs.rewrites_judge.Statement.{statement}
-use Rattle.rewrites.proofs.rewrites_judge.Tie as tie
+use Rattle.host_judge.proofs.export.Statement.{statement}
+use Rattle.host_judge.proofs.export.Tie as tie
 
 returns : tie.Need-returns
 returns c =
@@ -14,8 +14,8 @@ returns-2 c =
     let judge = c .before .before .before .before .before .before .before .judge in
     record { answer = judge .result; answers = judge .ensures; returned = rw (c .before .answer2 .given .1) (refl, refl) }
 
-pub rewrites-judge-spec : {M : Type 1} → statement M
-rewrites-judge-spec =
+pub export-spec : {M : Type 1} → statement M
+export-spec =
     tie.close
     (tie.spec
     (λ c κs. search needs)

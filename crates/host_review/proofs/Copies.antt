@@ -7,7 +7,7 @@ use native.Mathlib.Omega.{arith}
 use lib.ListN.{length, take, getD, set}
 use lib.Seq.{sets, length-take-le, take-suc}
 use Rattle.statement_writer.proofs.Puts.{sets-append}
-use Rattle.rewrites.specs.Exports.{begun}
+use Rattle.host_review.specs.Places.{begun}
 
 pub begun-more : (xs ys : List ℕ) (i : ℕ) → i < length xs → set (begun i xs ys) i (getD xs i 0) ≡ begun (i + 1) xs ys
 begun-more xs ys i l =
