@@ -175,7 +175,7 @@ fn faults_are_compared() {
          \x20     2    2  i3 := 9                           skip                              i3 9 0\n\
          \x20     3    3  i1 := 0                           i1 := 0                           i3 9 0\n\
          \x20     4    4  i2 := i0 / i1                     i2 := i0 / 0                      i3 9 0\n\
-         given fault at 4 steps 4\nrewritten fault at 4 steps 4\nstatements and outcome agree\n";
+         given fault at 4 steps 4\nrewritten fault at 4 steps 4\nstatements, outcome and live variables agree\n";
     for budget in ["4", "1000000"] {
         let start = format!("5\n{budget}\n");
         let files = [("given", &given[..]), ("marks", &list[..]), ("start", start.as_bytes())];
@@ -201,9 +201,9 @@ fn the_longest_fault_is_printed() {
     let start = b"0\n1000000\n";
     let expected = desk::compare(given, b"", start);
     let line = "fault at 255 steps 4\n";
-    assert!(
-        expected.ends_with(&format!("given {line}rewritten {line}statements and outcome agree\n"))
-    );
+    assert!(expected.ends_with(&format!(
+        "given {line}rewritten {line}statements, outcome and live variables agree\n"
+    )));
     let files = [("given", given), ("marks", &b""[..]), ("start", &start[..])];
     same(1, &printed(&comparer, "longest_faults", &files, &[]), &expected, &files);
 }
@@ -223,7 +223,7 @@ fn sums_are_compared() {
          \x20     4    4  i3 := i2                          skip                              i3 6 0\n\
          \x20     5    5  write i2                          write i2                          i3 6 0\n\
          given ended 6 steps 5 kept 0 0 0 0 0 0 0 0\nrewritten ended 6 steps 5 kept 0 0 0 0 0 0 0 0\n\
-         statements and outcome agree\n";
+         statements, outcome and live variables agree\n";
     let start = b"5\n100\n";
     let files = [("given", &given[..]), ("marks", &list[..]), ("start", &start[..])];
     assert_eq!(desk::compare(given, list, start), expected);
@@ -310,8 +310,8 @@ fn the_longest_endings_are_printed() {
     let files = [("given", &given[..]), ("marks", &b""[..]), ("start", start.as_bytes())];
     let expected = desk::compare(given, b"", start.as_bytes());
     let line = format!("ended -2147483648 steps 2 {kept}");
-    assert!(
-        expected.ends_with(&format!("given {line}rewritten {line}statements and outcome agree\n"))
-    );
+    assert!(expected.ends_with(&format!(
+        "given {line}rewritten {line}statements, outcome and live variables agree\n"
+    )));
     same(1, &printed(&comparer, "longest_endings", &files, &[]), &expected, &files);
 }
