@@ -244,12 +244,11 @@ pub fn write(p: Program, out: &mut [u8]) -> usize
     requires { ⌜ length (text (statements p)) ≤ length (now out) ⌝ }
     ensures { λ r. ⌜ Put (now (out .entry)) 0 (text (statements p)) (now (out .exit)) r ⌝ }
 {
-    let entries = p.entries;
     let n = p.count;
     let mut at: usize = 0;
     let mut s: usize = 0;
     while s < n {
-        let e = entries[s];
+        let e = p.entries[s];
         let t = e.statement;
         at = statement_writer::line(out, at, t);
         s += 1;
