@@ -57,9 +57,13 @@ total ps P = sum (prices ps P)
 unfoldable pub column : List ℕ → List Statement → List ℕ
 column ps P = sets (replicate most 0) 0 (prices ps P)
 
+-- no entry is above m
+abbrev pub AtMost : ℕ → List ℕ → Type 0
+AtMost m ns = (k : ℕ) → getD ns k 0 ≤ m
+
 -- no price of a table is above this, so that a program's total has room in 32 bits
 abbrev pub most-price : ℕ
 most-price = 65535
 
 abbrev pub Fair : List ℕ → Type 0
-Fair ps = (k : ℕ) → getD ps k 0 ≤ most-price
+Fair ps = AtMost most-price ps
