@@ -47,9 +47,9 @@ module _ (P Q : List Statement) (vs : List ℕ) (input : ℕ) (beside : (k : ℕ
       (ps : List ℕ) (budget : ℕ) (a : Answer) (ws ks : List ℕ) → Answers ps P vs input budget a ws ks
       → (b : Answer) × (us : List ℕ) × Answers ps Q vs input budget b us ks × Alike a b
   answers-beside ps budget (Ended x k t) ws ks (v, e, l, is, same, paid) =
-      (Ended x k (ticks ps Q vs input k), vs, (v, ends-beside k _ e, l, is, refl, refl), refl, refl)
+      (Ended x k (ticks ps Q vs input k), vs, (v, ends-beside k _ e, l, is, refl, refl), (refl, refl))
   answers-beside ps budget (Fault n k t) ws ks (s, e, l, is, same, kept, paid) =
-      (Fault n k (ticks ps Q vs input k), vs, (s, ends-beside k _ e, l, is, refl, kept, refl), refl, refl)
+      (Fault n k (ticks ps Q vs input k), vs, (s, ends-beside k _ e, l, is, refl, kept, refl), (refl, refl))
   answers-beside ps budget (Spent n t) ws ks (s, is, stands, same, paid) =
       let there = stands-beside (after P vs input budget) (after Q vs input budget) s ws (beside budget) stands in
       (Spent n (ticks ps Q vs input budget), there .0, (s, is, there .1, same, refl), refl)
