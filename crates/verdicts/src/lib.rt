@@ -78,10 +78,10 @@ fn verdict_of(
     if repeated {
         return Verdict::Repeated;
     }
-    if !rewriting::fits(m, i) {
+    if !fitting::fits(m, i) {
         return Verdict::Unfit;
     }
-    if !rewriting::droppable(m) {
+    if !fitting::droppable(m) {
         return Verdict::MayFault;
     }
     let row = published_rows::remembered_row(m, n, rows, codes, flow, keys, memory);
@@ -183,7 +183,7 @@ pub fn rewrite(marks: &[u8], p: Program, verdicts: &[u8]) -> Rewriting
             let e = p.entries[place];
             let i = e.statement;
             entries[place] = Entry {
-                statement: rewriting::makes(m, i),
+                statement: making::makes(m, i),
             };
             accepted += 1;
             j += 1;

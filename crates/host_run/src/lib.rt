@@ -1,0 +1,53 @@
+// `run` for a host: the answer goes into the places that it lends, and the number is 0 or the refusal's.
+ghost use Rattle.host_run.specs.Places.{RunExported};
+use language::KEPT;
+use machine::Answer;
+use machine::VALUES;
+use run::RunAnswer;
+
+pub fn export(
+    program: &[u8],
+    values: &[u32; VALUES],
+    input: u32,
+    budget: u32,
+    ended: &mut u32,
+    value: &mut i32,
+    steps: &mut u32,
+    statement: &mut u32,
+    left: &mut [u32; VALUES],
+    kept: &mut [u32; KEPT],
+) -> u8
+    ensures { λ r. ⌜ RunExported (now (program .entry)) (now (values .entry)) input budget r (record { ended = now (ended .entry); value = now (value .entry); steps = now (steps .entry); statement = now (statement .entry); left = now (left .entry); kept = now (kept .entry) }) (record { ended = now (ended .exit); value = now (value .exit); steps = now (steps .exit); statement = now (statement .exit); left = now (left .exit); kept = now (kept .exit) }) ⌝ }
+{
+    let start = *values;
+    let ran = run::run(program, start, input, budget);
+    let after = ran.values;
+    let eight = ran.kept;
+    let answer = ran.answer;
+    match answer {
+        RunAnswer::Refused(number) => number,
+        RunAnswer::Finished(finished) => {
+            match finished {
+                Answer::Ended(v, k) => {
+                    *ended = 1;
+                    *value = v;
+                    *steps = k;
+                    *kept = eight;
+                    0
+                }
+                Answer::Fault(n, taken) => {
+                    *ended = 2;
+                    *statement = n;
+                    *steps = taken;
+                    0
+                }
+                Answer::Spent(n) => {
+                    *ended = 0;
+                    *statement = n;
+                    *left = after;
+                    0
+                }
+            }
+        }
+    }
+}
