@@ -20,8 +20,9 @@ pub extern "C" fn rewrites_run(
     statement: &mut u32,
     left: &mut [u32; VALUES],
     kept: &mut [u32; KEPT],
+    ticks: &mut u64,
 ) -> u8
-    ensures { λ r. ⌜ RunExported (now (program .entry)) (now (values .entry)) input budget r (record { ended = now (ended .entry); value = now (value .entry); steps = now (steps .entry); statement = now (statement .entry); left = now (left .entry); kept = now (kept .entry) }) (record { ended = now (ended .exit); value = now (value .exit); steps = now (steps .exit); statement = now (statement .exit); left = now (left .exit); kept = now (kept .exit) }) ⌝ }
+    ensures { λ r. ⌜ RunExported (now (program .entry)) (now (values .entry)) input budget r (record { ended = now (ended .entry); value = now (value .entry); steps = now (steps .entry); statement = now (statement .entry); left = now (left .entry); kept = now (kept .entry); ticks = now (ticks .entry) }) (record { ended = now (ended .exit); value = now (value .exit); steps = now (steps .exit); statement = now (statement .exit); left = now (left .exit); kept = now (kept .exit); ticks = now (ticks .exit) }) ⌝ }
 {
     host_run::export(
         program,
@@ -34,6 +35,7 @@ pub extern "C" fn rewrites_run(
         statement,
         left,
         kept,
+        ticks,
     )
 }
 
