@@ -11,6 +11,7 @@ pub mod folder;
 pub mod generate;
 pub mod machine;
 pub mod marks;
+pub mod pricing;
 pub mod program;
 pub mod review;
 pub mod steps;
