@@ -111,7 +111,8 @@ fn judge(folder: &mut Folder) -> Option<Judged> {
     let list = folder.read_or_empty("marks")?;
     let (mut verdicts, mut text) = ([0; VERDICT_BYTES], [0; TEXT_BYTES]);
     let judged = rewrites::judge(&given.bytes, &list.bytes, &mut verdicts, &mut text);
-    let reported = judged.and_then(|judged| Ok((judged, rewrites::report(&given.bytes, &list.bytes)?)));
+    let reported =
+        judged.and_then(|judged| Ok((judged, rewrites::report(&given.bytes, &list.bytes)?)));
     match reported {
         Ok((judged, report)) => {
             let bytes = verdicts.into_iter().take(judged.marks as usize);

@@ -57,9 +57,7 @@ impl From<Outcome> for Ending {
             Outcome::Spent { statement, values, ticks } => {
                 Ending::Spent { statement, ticks, left: values.map(|value| value as i32) }
             }
-            Outcome::Fault { statement, steps, ticks } => {
-                Ending::Fault { statement, steps, ticks }
-            }
+            Outcome::Fault { statement, steps, ticks } => Ending::Fault { statement, steps, ticks },
         }
     }
 }
