@@ -24,7 +24,7 @@ FAULTED = START | {"statement", "steps", "ticks"}
 LINES = {"marks", "bytes", "lines"}
 LINE = {"line", "begin", "end", "mark"}
 
-# The totals of all folders that were checked.
+# The totals of the folders that were checked since the last total.
 summed = dict.fromkeys(TICKS, 0)
 
 
@@ -43,6 +43,7 @@ def total(thing):
     assert thing["marks"] == sum(thing["counts"].values())
     assert thing["accepted"] == thing["counts"]["accepted"]
     assert thing["ticks"] == summed
+    summed.update(dict.fromkeys(TICKS, 0))
     return "total {folders} {results} {refused} {unread} {marks} {accepted} status {status}\n".format(**thing)
 
 
