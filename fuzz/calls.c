@@ -22,7 +22,8 @@
      twenty, is a use: without them the table may tell otherwise, and never refuses more;
    - what is dropped becomes `skip`, and what is reused a copy;
    - the rewritten program is taken, and both programs' runs agree, in all nine values where they end,
-     in statement and steps where they fault;
+     in statement and steps where they fault, and before each step in the values of all variables x for
+     which `E[!def(x) U use(x)]` is true there in the given program, by a review of all 32;
    - the lines of a list that is taken, one after another, are the list.
    `fuzz/run` builds it and runs it; `host/tests/fuzz.rs` runs it on the seeds. */
 #define _DEFAULT_SOURCE
@@ -855,11 +856,37 @@ static void check_lines(struct text marks, uint8_t refused, uint32_t count) {
     if (refused == 0) REQUIRE(start == marks.length);
 }
 
+/* Finds the statements at which each variable is live, as rows. Every part of the 32 lines is spelled
+   differently, so the review fills as many tables as it can. */
+static void find_live(struct text program, uint64_t live[VARIABLES][4]) {
+    static struct review answer;
+    static uint8_t lines[1024];
+    struct text all = {lines, 0};
+
+    for (unsigned x = 0; x < VARIABLES; x++)
+        all.length += (size_t)snprintf((char *)lines + all.length, sizeof lines - all.length,
+                                       "E[!def(i%u) U use(i%u)]\n", x, x);
+    REQUIRE(review(program, all, REVIEW_WORDS, &answer) == 0);
+    REQUIRE(answer.tables == MOST_TABLES);
+    for (unsigned x = 0; x < VARIABLES; x++)
+        memcpy(live[x], answer.words + 4 * answer.of_lines[TABLE_OF][x], sizeof live[x]);
+}
+
+/* Both runs are spent at one statement: they hold the same values of what is live there. */
+static void check_live(uint64_t live[VARIABLES][4], const struct run *given, const struct run *made) {
+    for (unsigned x = 0; x < VARIABLES; x++) {
+        if (given->left[x] == made->left[x]) continue;
+        REQUIRE(!holds(live[x], given->statement));
+        met(OF_CALLS, 96 + (x >= FIRST_KEPT));
+    }
+}
+
 static void check_marks(struct text program, struct text marks, uint8_t refused,
                         const uint32_t values[VARIABLES], uint32_t input, uint32_t budget) {
     static struct judgement answer, other;
     struct run given = {0}, made = {0};
     struct text rewritten;
+    uint64_t live[VARIABLES][4];
     uint8_t number = judge(program, marks, VERDICT_BYTES, TEXT_BYTES, &answer);
 
     REQUIRE(judge(program, marks, VERDICT_BYTES - 1, TEXT_BYTES, &other) == 1);
@@ -885,11 +912,13 @@ static void check_marks(struct text program, struct text marks, uint8_t refused,
     rewritten = put(&others, answer.text, answer.bytes);
     REQUIRE(lines_of(rewritten) == lines_of(program));
     if (answer.accepted == 0) REQUIRE(memcmp(answer.text, program.bytes, program.length) == 0);
+    find_live(program, live);
     for (uint32_t b = 0; b <= budget; b++) {
         REQUIRE(run(program, values, input, b, &given) == 0);
         REQUIRE(run(rewritten, values, input, b, &made) == 0);
         REQUIRE(agree(&given, &made));
         if (given.ended) break;
+        check_live(live, &given, &made);
     }
 }
 

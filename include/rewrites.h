@@ -117,7 +117,9 @@ uint8_t rewrites_review(const uint8_t *program, size_t program_len, const uint8_
    list: it tells the condition of an rm true also where a `cse` of the list refuses the rm. Accepted
    marks are all made together, refused ones aren't. The new program has the same line count. Started
    alike, it runs alike: to the same value and the same kept values in the same steps, to a fault at the
-   same statement in the same steps, or spent at the same statement. The values left then may differ.
+   same statement in the same steps, or spent at the same statement. Before each step every variable
+   that the given program may still use before defining it, its live variables, holds the same value
+   in both; others, and so the values left where a run is spent, may differ.
    Takes at most 128 KiB of stack.
 
    Returns 0, and sets

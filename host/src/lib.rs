@@ -592,7 +592,9 @@ pub fn review(program: &[u8], conditions: &[u8], table: &mut [u64]) -> Result<Re
 ///
 /// From every start, and under every budget that isn't refused, runs of the two programs answer the
 /// same value, the same steps and the same kept values, a fault at the same statement after the same
-/// steps, or 'spent' at the same statement. The values told with 'spent' may differ.
+/// steps, or 'spent' at the same statement. Of the values told with 'spent', those of every variable that
+/// the given program may still use before defining it, its live variables, are the same in both: those x
+/// for which `E[!def(x) U use(x)]` is true at that statement of the given program. The others may differ.
 ///
 /// Takes at most 128 KiB of stack.
 ///
@@ -661,6 +663,15 @@ pub fn review(program: &[u8], conditions: &[u8], table: &mut [u64]) -> Result<Re
 /// // By itself the first mark is accepted: the given program never uses i1.
 /// let answer = judge(program, &marks[..24], &mut verdicts, &mut text)?;
 /// assert_eq!((answer.accepted, verdicts[0]), (1, 0));
+///
+/// // Before statement 3, i1 isn't live, and differs; i0, which 3 uses, is the same.
+/// use rewrites::{run, Outcome};
+/// let left = |program: &[u8]| match run(program, &[0; 32], 6, 2) {
+///     Ok(Outcome::Spent { statement: 3, values }) => (values[0], values[1]),
+///     other => panic!("{:?}", other),
+/// };
+/// assert_eq!(left(program), (6, 7));
+/// assert_eq!(left(&text[..answer.bytes as usize]), (6, 0));
 /// # Ok::<(), rewrites::Refusal>(())
 /// ```
 pub fn judge(

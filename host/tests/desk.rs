@@ -76,6 +76,9 @@ fn ending(output: &str) -> Option<&'static str> {
 
 const ENDINGS: [&str; 4] = ["ended, kept zeros", "ended, kept others", "spent", "fault"];
 
+/// The bytes of a step's line in which no variable differs: the step, the statement's number, and two statements.
+const STEP_BYTES: usize = 7 + 2 + 3 + 2 + 32 + 2 + 32;
+
 const OF_PROGRAMS: [&str; 5] = ["result", "refused 2", "refused 3", "refused 4", "refused 5"];
 const OF_STARTS: [&str; 2] = ["refused start", "refused 15"];
 
@@ -123,6 +126,7 @@ fn comparisons_are_as_by_the_oracle() {
     let classes = OF_PROGRAMS.into_iter().chain(OF_STARTS).chain(["refused 9"]);
     let mut met = Tally::new("comparisons", classes);
     let mut endings = Tally::new("endings of comparisons", ENDINGS);
+    let mut differences = Tally::new("steps compared", ["alike", "dead variables differ"]);
     for (case, mut random) in cases("compare") {
         let random = &mut random;
         let ((given, text), start) = (folder::given(random), folder::start(random));
@@ -134,9 +138,15 @@ fn comparisons_are_as_by_the_oracle() {
         same(case, &printed(&comparer, "compare", &files, &[]), &expected, &files);
         met.met(class(&expected));
         ending(&expected).into_iter().for_each(|ending| endings.met(ending));
+        for line in expected.lines().filter(|line| line.starts_with(' ')) {
+            // Both statements fill their columns, and the last of a line without differences ends there.
+            let is_alike = line.len() == STEP_BYTES;
+            differences.met(if is_alike { "alike" } else { "dead variables differ" });
+        }
     }
     met.report();
     endings.report();
+    differences.report();
 }
 
 // Faults
@@ -175,7 +185,7 @@ fn faults_are_compared() {
          \x20     2    2  i3 := 9                           skip                              i3 9 0\n\
          \x20     3    3  i1 := 0                           i1 := 0                           i3 9 0\n\
          \x20     4    4  i2 := i0 / i1                     i2 := i0 / 0                      i3 9 0\n\
-         given fault at 4 steps 4\nrewritten fault at 4 steps 4\nstatements and outcome agree\n";
+         given fault at 4 steps 4\nrewritten fault at 4 steps 4\nstatements, outcome and live variables agree\n";
     for budget in ["4", "1000000"] {
         let start = format!("5\n{budget}\n");
         let files = [("given", &given[..]), ("marks", &list[..]), ("start", start.as_bytes())];
@@ -201,9 +211,9 @@ fn the_longest_fault_is_printed() {
     let start = b"0\n1000000\n";
     let expected = desk::compare(given, b"", start);
     let line = "fault at 255 steps 4\n";
-    assert!(
-        expected.ends_with(&format!("given {line}rewritten {line}statements and outcome agree\n"))
-    );
+    assert!(expected.ends_with(&format!(
+        "given {line}rewritten {line}statements, outcome and live variables agree\n"
+    )));
     let files = [("given", given), ("marks", &b""[..]), ("start", &start[..])];
     same(1, &printed(&comparer, "longest_faults", &files, &[]), &expected, &files);
 }
@@ -223,11 +233,34 @@ fn sums_are_compared() {
          \x20     4    4  i3 := i2                          skip                              i3 6 0\n\
          \x20     5    5  write i2                          write i2                          i3 6 0\n\
          given ended 6 steps 5 kept 0 0 0 0 0 0 0 0\nrewritten ended 6 steps 5 kept 0 0 0 0 0 0 0 0\n\
-         statements and outcome agree\n";
+         statements, outcome and live variables agree\n";
     let start = b"5\n100\n";
     let files = [("given", &given[..]), ("marks", &list[..]), ("start", &start[..])];
     assert_eq!(desk::compare(given, list, start), expected);
     same(0, &printed(&comparer, "sums", &files, &[]), expected, &files);
+}
+
+// Variables that aren't live
+
+/// i5 is dropped and set anew: while it differs, before steps 4 and 5, nothing can use it.
+#[test]
+fn what_differs_is_dead() {
+    let comparer = built("compare_runs");
+    let given = b"read i0\ni1 := i0 + 1\ni5 := i0 * 2\ni2 := i0 + 1\ni5 := i2\nwrite i5\n";
+    let list = b"4: mark(cse, i1, i0 + 1)\n3: mark(rm, i5, i0 * 2)\n";
+    let expected = "marks 2 accepted 2\n\
+         \x20     1    1  read i0                           read i0                         \n\
+         \x20     2    2  i1 := i0 + 1                      i1 := i0 + 1                    \n\
+         \x20     3    3  i5 := i0 * 2                      skip                              i5 8 0\n\
+         \x20     4    4  i2 := i0 + 1                      i2 := i1                          i5 8 0\n\
+         \x20     5    5  i5 := i2                          i5 := i2                        \n\
+         \x20     6    6  write i5                          write i5                        \n\
+         given ended 5 steps 6 kept 0 0 0 0 0 0 0 0\nrewritten ended 5 steps 6 kept 0 0 0 0 0 0 0 0\n\
+         statements, outcome and live variables agree\n";
+    let start = b"4\n100\n";
+    let files = [("given", &given[..]), ("marks", &list[..]), ("start", &start[..])];
+    assert_eq!(desk::compare(given, list, start), expected);
+    same(0, &printed(&comparer, "dead", &files, &[]), expected, &files);
 }
 
 // The longest statement fills its column
@@ -310,8 +343,8 @@ fn the_longest_endings_are_printed() {
     let files = [("given", &given[..]), ("marks", &b""[..]), ("start", start.as_bytes())];
     let expected = desk::compare(given, b"", start.as_bytes());
     let line = format!("ended -2147483648 steps 2 {kept}");
-    assert!(
-        expected.ends_with(&format!("given {line}rewritten {line}statements and outcome agree\n"))
-    );
+    assert!(expected.ends_with(&format!(
+        "given {line}rewritten {line}statements, outcome and live variables agree\n"
+    )));
     same(1, &printed(&comparer, "longest_endings", &files, &[]), &expected, &files);
 }

@@ -14,6 +14,7 @@ use coverage::Tally;
 use lent::{Lent, Text};
 use oracle::condition::{self, Atom, Condition, Demand, Direction, Part, Quantifier};
 use oracle::generate::{self, Damage, Random, WrongReuse, WrongSign};
+use oracle::liveness::{differing, Liveness};
 use oracle::machine::{self, kept_of, Outcome, Run, State, Values};
 use oracle::marks::{self, Judge, Kind, Mark};
 use oracle::program::{is_kept, Expression, Operand, Operator, Program, Statement, LARGEST, LEAST};
@@ -925,13 +926,13 @@ fn judgement_agrees(
     })
 }
 
-/// What a run tells that a rewriting must leave as it is: its nine values and its steps, the statement and the steps
-/// of its fault, or its statement.
+/// What a run tells: its nine values and its steps, the statement and the steps of its fault, or the statement before
+/// which it stands, with the values there.
 #[derive(Debug, PartialEq)]
 enum Stand {
     Ended { value: u32, steps: u32, kept: Vec<u32> },
     Faulted { statement: u32, steps: u32 },
-    Before(u32),
+    Before { statement: u32, values: Values },
 }
 
 fn stand(
@@ -951,7 +952,90 @@ fn stand(
             kept: places[KEPT_ONES..KEPT_ONES + KEPT].to_vec(),
         },
         2 => Stand::Faulted { statement: places[STATEMENT], steps: places[STEPS] },
-        _ => Stand::Before(places[STATEMENT]),
+        _ => {
+            let mut values = [0; VARIABLES];
+            values.copy_from_slice(&places[LEFT..LEFT + VARIABLES]);
+            Stand::Before { statement: places[STATEMENT], values }
+        }
+    }
+}
+
+/// What a rewriting must leave of a run as it is: all but the values of variables that aren't live in the given program
+/// before the statement. Those that differ.
+fn dead_and_differing(live: &Liveness, one: &Stand, other: &Stand) -> Option<Vec<u8>> {
+    match (one, other) {
+        (
+            Stand::Before { statement, values },
+            Stand::Before { statement: there, values: others },
+        ) => {
+            let differ = differing(values, others);
+            let is_dead = |x: &u8| !live.is_live(*statement, *x);
+            (statement == there && differ.iter().all(is_dead)).then_some(differ)
+        }
+        _ => (one == other).then(Vec::new),
+    }
+}
+
+/// What steps of given and rewritten runs meet, each by the state before it.
+const TRACES: [&str; 6] = [
+    "no variable differs",
+    "dead ones differ",
+    "a kept one differs, dead",
+    "dead ones differ at write",
+    "dead ones differ before a fault",
+    "dead ones differ in a loop",
+];
+
+/// Both programs, run side by side.
+struct Traces<'a> {
+    given: &'a [u8],
+    new: &'a [u8],
+    count: u32,
+    live: Liveness,
+}
+
+impl<'a> Traces<'a> {
+    fn new(given: &'a [u8], new: &'a [u8]) -> Traces<'a> {
+        let program = Program::read(given).expect("a program that was judged is taken");
+        Traces { given, new, count: program.count(), live: Liveness::new(&program) }
+    }
+
+    /// How both runs stand under a budget, which agrees, with the variables that differ.
+    fn stand(
+        &self,
+        case: &str,
+        (values, input): (&Values, u32),
+        budget: u32,
+        places: &mut Lent<u32>,
+    ) -> (Stand, Vec<u8>) {
+        let one = stand(self.given, values, input, budget, places);
+        let other = stand(self.new, values, input, budget, places);
+        match dead_and_differing(&self.live, &one, &other) {
+            Some(differ) => (one, differ),
+            None => panic!(
+                "case {case}: values {values:?} input {input} budget {budget} given {} new {}: {one:?} {other:?}",
+                escaped(self.given),
+                escaped(self.new)
+            ),
+        }
+    }
+
+    /// What the state before a step is. `earlier` are the statements that were performed before.
+    fn met(&self, at: u32, differ: &[u8], earlier: &[u32], met: &mut Tally<&str>) {
+        if differ.is_empty() {
+            met.met("no variable differs");
+            return;
+        }
+        met.met("dead ones differ");
+        if differ.iter().any(|&x| is_kept(x)) {
+            met.met("a kept one differs, dead");
+        }
+        if at == self.count {
+            met.met("dead ones differ at write");
+        }
+        if earlier.contains(&at) {
+            met.met("dead ones differ in a loop");
+        }
     }
 }
 
@@ -961,22 +1045,18 @@ fn runs_stay(random: &mut Random, case: &str, given: &[u8], new: &[u8], runs: &m
     let mut places = Lent::new(random, RUN_WORDS, |bits| bits as u32);
     let by_steps = if given.len() < 1_000 { 30 } else { 6 };
     let starts = if given.len() < 1_000 { 2 } else { 1 };
+    let traces = Traces::new(given, new);
     for _ in 0..starts {
         let (values, input) = (generate::values(random), generate::word(random));
         let further = random.between(by_steps as usize, 400) as u32;
         let far = random.pick(&[2_000, 2_000, 2_000, 20_000]);
         let budgets = (0..by_steps).chain(further..further + 6).chain([far]);
         for budget in budgets {
-            let one = stand(given, &values, input, budget, &mut places);
-            let other = stand(new, &values, input, budget, &mut places);
-            assert_eq!(
-                one,
-                other,
-                "case {case}: values {values:?} input {input} budget {budget} given {} new {}",
-                escaped(given),
-                escaped(new)
-            );
+            let (one, differ) = traces.stand(case, (&values, input), budget, &mut places);
             runs.met("budgets");
+            if !differ.is_empty() {
+                runs.met("dead variables differ");
+            }
             match one {
                 Stand::Ended { kept, .. } => {
                     runs.met("ended");
@@ -989,11 +1069,88 @@ fn runs_stay(random: &mut Random, case: &str, given: &[u8], new: &[u8], runs: &m
                     runs.met("fault");
                     break;
                 }
-                Stand::Before(_) if budget == far => runs.met("spent"),
-                Stand::Before(_) => {}
+                Stand::Before { .. } if budget == far => runs.met("spent"),
+                Stand::Before { .. } => {}
             }
         }
     }
+}
+
+/// The statements at which each variable is live, by the library's review of `E[!def(x) U use(x)]` for all of them.
+fn live_by_review(program: &[u8]) -> Vec<[u64; 4]> {
+    let lines: String = (0..VARIABLES).map(|x| format!("E[!def(i{x}) U use(i{x})]\n")).collect();
+    let mut table = [0; REVIEW_WORDS];
+    let reviewed = rewrites::review(program, lines.as_bytes(), &mut table).expect("it is taken");
+    assert_eq!(reviewed.tables as usize, 4 * VARIABLES);
+    let row = |x: usize| {
+        let first = 4 * reviewed.table_of[x] as usize;
+        std::array::from_fn(|word| table[first + word])
+    };
+    (0..VARIABLES).map(row).collect()
+}
+
+/// Before each step, from the first to the run's end or 300 steps on, given and rewritten program hold the same value of
+/// each variable that is live in the given one.
+#[test]
+fn live_variables_agree_before_each_step() {
+    const LONGEST: u32 = 300;
+    let mut met = Tally::new("states before a step of both programs", TRACES);
+    let mut by_kinds = Tally::new("lists traced, by what is accepted", KINDS_MADE);
+    let mut endings = Tally::new("traces", ["ended", "fault", "still running"]);
+    let mut live_bits = Tally::new("variables at statements", ["live", "dead"]);
+    for (case, mut random) in cases("traces").filter(|(case, _)| case % 20 == 0) {
+        let random = &mut random;
+        let size = if random.chance(90) { random.between(4, 40) } else { generate::size(random) };
+        let program = generate::program(random, size);
+        let (text, count) = (program.text(), random.between(1, size.min(40)));
+        let list = marks::text(&generate::marks(random, &program, count));
+        let case = case.to_string();
+        let rooms = (VERDICT_BYTES, TEXT_BYTES);
+        let judged = judgement_agrees(random, &case, &text, &list, rooms).expect("both are taken");
+        let traces = Traces::new(&text, &judged.text);
+        for (x, row) in live_by_review(&text).iter().enumerate() {
+            for n in 1..=program.count() {
+                let bit = row[(n as usize - 1) / 64] >> ((n - 1) % 64) & 1 == 1;
+                assert_eq!(bit, traces.live.is_live(n, x as u8), "i{x} at {n}: {}", escaped(&text));
+                live_bits.met(if bit { "live" } else { "dead" });
+            }
+        }
+        let list = marks::read(&list).expect("it is taken");
+        if judged.verdicts.iter().any(|&verdict| verdict == 0) {
+            by_kinds.met(kinds_made(&list, &judged.verdicts));
+        }
+        let mut places = Lent::new(random, RUN_WORDS, |bits| bits as u32);
+        let (values, input) = (generate::values(random), generate::word(random));
+        let (mut earlier, mut differed) = (Vec::new(), false);
+        for budget in 0..=LONGEST {
+            let (one, differ) = traces.stand(&case, (&values, input), budget, &mut places);
+            match one {
+                Stand::Before { statement, .. } => {
+                    traces.met(statement, &differ, &earlier, &mut met);
+                    earlier.push(statement);
+                    differed = !differ.is_empty();
+                    if budget == LONGEST {
+                        endings.met("still running");
+                    }
+                }
+                Stand::Ended { .. } => {
+                    endings.met("ended");
+                    break;
+                }
+                Stand::Faulted { .. } => {
+                    endings.met("fault");
+                    if differed {
+                        met.met("dead ones differ before a fault");
+                    }
+                    break;
+                }
+            }
+        }
+    }
+    met.report();
+    by_kinds.report();
+    endings.report();
+    live_bits.report();
 }
 
 /// What an accepted mark does to its statement.
@@ -1226,7 +1383,8 @@ fn judgements_are_as_by_the_oracle_and_keep_runs() {
     let mut text_rooms = rooms("bytes of new text", TEXT_BYTES);
     let mut of_programs = damages("damages of programs judged");
     let mut of_lists = damages("damages of marks");
-    let classes = ["budgets", "ended", "kept other values", "fault", "spent"];
+    let classes =
+        ["budgets", "dead variables differ", "ended", "kept other values", "fault", "spent"];
     let mut runs = Tally::new("runs of both programs", classes);
     let mut on_kept = Tally::new("marks on what is kept", MARKS_ON_KEPT);
     let mut on_divisions = Tally::new("marks on divisions", MARKS_ON_DIVISIONS);

@@ -1,6 +1,7 @@
 //! What the desk's programs print: the viewer, the runner, and the comparison of two runs.
 
 use crate::condition::{Checker, Condition};
+use crate::liveness::{differing, Liveness};
 use crate::machine::{self, Kept, Outcome, Run, State, Values, VALUES};
 use crate::marks::{self, TEXT_BYTES, VERDICT_BYTES};
 use crate::program::{Program, Statement};
@@ -218,7 +219,8 @@ pub fn run(program: &[u8], start: &[u8], trace: bool) -> String {
     text
 }
 
-/// What the comparison prints for a program, a list of marks and a start.
+/// What the comparison prints for a program, a list of marks and a start. Before each step the live variables of the given
+/// program agree, else the comparison itself is wrong.
 pub fn compare(program: &[u8], list: &[u8], start: &[u8]) -> String {
     let start = match read_start(start) {
         Ok(start) => start,
@@ -238,11 +240,14 @@ pub fn compare(program: &[u8], list: &[u8], start: &[u8]) -> String {
     let given = Program::read(program).expect("a program that was judged is taken");
     let rewritten = Program::read(&new).expect("a rewritten program is taken");
     let mut text = format!("marks {count} accepted {accepted}\n");
+    let live = Liveness::new(&given);
     let both = walk(&given, &start).into_iter().zip(walk(&rewritten, &start));
-    for (k, ((at, _, one), (there, _, other))) in both.enumerate() {
+    for (k, ((at, before, one), (there, before_there, other))) in both.enumerate() {
+        let dead = |x: &u8| !live.is_live(at, *x);
+        assert!(at == there && differing(&before, &before_there).iter().all(dead));
         let (old, new) = (spelled(&given, at), spelled(&rewritten, there));
         text += &format!("{}  {new:STATEMENT_COLUMNS$}", head(k + 1, at, &old));
-        for x in (0..VALUES).filter(|&x| one[x] != other[x]) {
+        for x in differing(&one, &other).into_iter().map(usize::from) {
             text += &format!("  i{x} {} {}", one[x] as i32, other[x] as i32);
         }
         text.push('\n');
@@ -257,5 +262,5 @@ pub fn compare(program: &[u8], list: &[u8], start: &[u8]) -> String {
             Outcome::Fault { statement, steps } => format!("{name} {}", fault(statement, steps)),
         };
     }
-    text + "statements and outcome agree\n"
+    text + "statements, outcome and live variables agree\n"
 }

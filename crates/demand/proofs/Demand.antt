@@ -1,7 +1,9 @@
 -- Demand 3, one theorem. Given a program text and a marks text that are taken, whatever the list holds, the verdict bytes that document 01
--- defines, and the program with just the accepted marks made: a byte is 0 exactly where none of 11 to 14 applies, and that program is
+-- defines, and the program with just the accepted marks made: a byte is 0 exactly where none of 11 to 14 and 18 applies, and that program is
 -- itself taken. Whatever the starting values and the input are, after every number of steps its run and the given program's stand before
--- the same statement or have ended with the same value and the same kept ones, and under every budget that isn't refused both answer alike.
+-- the same statement, and every variable that the given program may still use before defining it holds the same value in both; or both have
+-- ended with the same value and the same kept ones, or with a fault at the same statement. Under every budget that isn't refused both answer
+-- alike.
 -- Assumes nothing.
 use mathlib.Core.Path.{_≡_, refl, subst}
 use mathlib.Core.List.{List}
@@ -17,7 +19,7 @@ use Rattle.marks.specs.Reading as marks
 use Rattle.marks.specs.declared.Mark.{Mark}
 use Rattle.rewriting.specs.Verdicts.{Widened, Verdicts, Rewritten}
 use Rattle.lockstep.specs.Lockstep.{Changed}
-use Rattle.lockstep.proofs.Lockstep.{together}
+use Rattle.lockstep.proofs.Lockstep.{lockstep, together}
 use Rattle.lockstep.proofs.Changed.{changed-wellformed}
 use Rattle.lockstep.proofs.Answers.{answers-alike}
 use Rattle.rewriting.proofs.Accepted.{accepted-judged, judged-accepted}
@@ -50,6 +52,7 @@ demand-3 {t} {u} {P} {ms} given listed vs judged Q r = record {
   rewritten = r;
   taken = taken;
   together = together (given .program) changed;
+  traces = lockstep (given .program) changed;
   alike = alike;
 }
   where

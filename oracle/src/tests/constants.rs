@@ -316,7 +316,7 @@ fn columns_of_the_desk() {
         "marks 1 accepted 0\n\
          \x20     1    1  read i0                           read i0                         \n\
          \x20     2    2  i10 := -2147483648 + -2147483648  i10 := -2147483648 + -2147483648\n\
-         given spent at 3\nrewritten spent at 3\nstatements and outcome agree\n"
+         given spent at 3\nrewritten spent at 3\nstatements, outcome and live variables agree\n"
     );
 }
 

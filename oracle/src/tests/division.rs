@@ -336,10 +336,11 @@ fn desk_lines_tell_of_faults() {
          \x20     2    2  i3 := 9                           skip                              i3 9 0\n\
          \x20     3    3  i1 := 0                           i1 := 0                           i3 9 0\n\
          \x20     4    4  i2 := i0 / i1                     i2 := i0 / 0                      i3 9 0\n\
-         given fault at 4 steps 4\nrewritten fault at 4 steps 4\nstatements and outcome agree\n"
+         given fault at 4 steps 4\nrewritten fault at 4 steps 4\nstatements, outcome and live variables agree\n"
     );
-    assert!(desk::compare(given.as_bytes(), list, b"5\n3\n")
-        .ends_with("given spent at 4\nrewritten spent at 4\nstatements and outcome agree\n"));
+    assert!(desk::compare(given.as_bytes(), list, b"5\n3\n").ends_with(
+        "given spent at 4\nrewritten spent at 4\nstatements, outcome and live variables agree\n"
+    ));
     let report = format!("marks 1 accepted 0\n2 18\n{program}");
     assert_eq!(check(program.as_bytes(), b"2: mark(rm, i1, 10 / i0)\n"), report.as_bytes());
 }

@@ -172,9 +172,9 @@ fn desk_lines_tell_what_is_kept() {
     assert!(desk::run(program.as_bytes(), start.as_bytes(), true).ends_with(line));
     let compared = desk::compare(program.as_bytes(), b"2: mark(rm, i24, 5)\n", start.as_bytes());
     assert!(compared.starts_with("marks 1 accepted 0\n"));
-    assert!(
-        compared.ends_with(&format!("given {line}rewritten {line}statements and outcome agree\n"))
-    );
+    assert!(compared.ends_with(&format!(
+        "given {line}rewritten {line}statements, outcome and live variables agree\n"
+    )));
     start = start.replace("100", "3");
     let spent = desk::run(program.as_bytes(), start.as_bytes(), false);
     assert!(spent.starts_with("spent at 4\ni0 = 0\n") && spent.ends_with("i31 = -1\n"));

@@ -10,6 +10,7 @@ mod mark_lines;
 mod naive;
 mod open_points;
 mod review;
+mod traces;
 mod tuned;
 
 use crate::condition;
