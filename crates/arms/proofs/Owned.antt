@@ -1,5 +1,5 @@
 -- The places at which the driver picks, found from the first statement on. Assumes nothing.
-use mathlib.Core.Path.{_≡_, sym, ap, _∙_}
+use mathlib.Core.Path.{_≡_, refl, sym, ap, _∙_}
 use mathlib.Core.Bool.{Bool, true, false, _||_}
 use mathlib.Core.List.{List}
 use Prim.Native.Nat.{ℕ, _+_, _≤_, _<_}
@@ -8,8 +8,10 @@ use lib.Dec.{eqb}
 use borrow.Author.Count.{below-more, below-none}
 use Rattle.program.specs.declared.Entry.{Entry}
 use Rattle.program.specs.declared.Program.{Program}
+use Rattle.language.specs.declared.Statement.{Statement}
+use Rattle.language.specs.declared.Statement.the-variants.{Read, Write, Assign, Branch, Skip}
 use Rattle.language.specs.Spelling.{Valid}
-use Rattle.program.specs.Program.{WellFormed}
+use Rattle.program.specs.Program.{at, WellFormed}
 use Rattle.program.specs.Reading.{statements, Held}
 use Rattle.program.proofs.Held.{held, at-held, held-valid}
 use Rattle.ctl.proofs.Reach.{more-self, more-other}
@@ -44,3 +46,14 @@ module _ (p : Program) (h : Held p) where
 
   pub owned-his : {named own : ℕ → Bool} {s : ℕ} → p .count ≤ s → Owned (p .entries) named own s → (j : ℕ) → j < p .count → own j ≡ his (statements p) named j
   owned-his {named = named} past w j l = w .done j (omega arith) ∙ ap (asks named) (sym (at-held (p .entries) (p .count) j (omega (arith, statements-size p h))))
+
+-- the same variables, named otherwise
+asks-same : {f g : ℕ → Bool} → ((x : ℕ) → f x ≡ g x) → (x : Statement) → asks f x ≡ asks g x
+asks-same e (Read x) = refl
+asks-same e (Write x) = refl
+asks-same e (Assign x y) = refl
+asks-same e (Branch x n m) = e x
+asks-same e Skip = refl
+
+pub his-same : (P : List Statement) {f g : ℕ → Bool} → ((x : ℕ) → f x ≡ g x) → (s : ℕ) → his P f s ≡ his P g s
+his-same P e s = asks-same e (at P s)

@@ -1,5 +1,6 @@
 // What two players can do on a program: the driver picks at each `if` on a variable of his, the unit at every other. The numbers of the
 // statements, in how many steps he can force a goal, and the arms that both take: 0 for none, 1 for `goto`, 2 for `else`.
+ghost use mathlib.Core.Bool.{Bool};
 ghost use mathlib.Core.Path.{_≡_};
 ghost use Prim.Native.Nat.{ℕ, _-_, _*_, _≤_, _<_};
 ghost use lib.ListN.{length, getD};
@@ -129,7 +130,7 @@ pub fn of(
     requires { ⌜ Held p ⌝ }
     requires { ⌜ WellFormed (statements p) ⌝ }
     requires { ⌜ Lent (statements p) (p .count) (now flow) (now named) (now goal) (now numbers) (now arms) ⌝ }
-    ensures { λ _. ⌜ Forced (statements p) (his (statements p) (member (now (named .entry)))) (So (member (now (goal .entry)))) (now (numbers .exit)) (now (arms .exit)) ⌝ }
+    ensures { λ _. ⌜ ((f : ℕ → Bool) → ((x : ℕ) → member (now (named .entry)) x ≡ f x) → Forced (statements p) (his (statements p) f) (So (member (now (goal .entry)))) (now (numbers .exit)) (now (arms .exit))) ⌝ }
     ensures { λ _. ⌜ Kept (p .count) (now (numbers .entry)) (now (numbers .exit)) (now (arms .entry)) (now (arms .exit)) ⌝ }
 {
     let mut mine = bits::blank();

@@ -1,11 +1,13 @@
 -- `arms::of` meets its contract: his places, then the numbers by the lists of edges, then the arms by the numbers.
 -- Assumes nothing.
-use mathlib.Core.Path.{sym}
+use mathlib.Core.Path.{sym, _∙_}
 use native.Mathlib.Omega.{arith}
 use borrow.Author.Needs.{needs}
 use lib.Seq.{length-take-le}
 use Rattle.graph.specs.Graphs.{entries}
+use Rattle.program.specs.Reading.{statements}
 use Rattle.flow.proofs.Successors.{statements-size}
+use Rattle.arms.proofs.Owned.{his-same}
 use Rattle.arms.proofs.Forced.{lent-directions, forced-of}
 use Rattle.arms.proofs.of.Statement.{statement}
 use Rattle.arms.proofs.of.Tie as tie
@@ -35,8 +37,9 @@ returns c =
     let a = c .before .before .before .before .before .before .before .before .before .before .before .before .before .before .before .before .before .before .before .before .before .before in
     let z = a .pre .1 .1 in
     let r = c .before .before .before .before .before .before .before .before .number .ensures in
-    let f = c .before .before .fill .ensures in (
-      forced-of _ _ (statements-size (a .args .p) (a .pre .0)) (a .args .flow .now) (z .size) (z .flows) _ _ _ _ _ (c .before .before .before .before .before .before .before .before .before .before .before .before .before .before .own .ensures) (r .0) (r .1 .0) (f .0),
+    let f = c .before .before .fill .ensures in
+    (
+      λ g same. forced-of _ _ (statements-size (a .args .p) (a .pre .0)) (a .args .flow .now) (z .size) (z .flows) _ _ g _ _ (λ s l. c .before .before .before .before .before .before .before .before .before .before .before .before .before .before .own .ensures s l ∙ his-same (statements (a .args .p)) same s) (r .0) (r .1 .0) (f .0),
       record { numbers-kept = r .1 .1; arms-kept = f .1 },
     )
 
