@@ -22,7 +22,7 @@ use Rattle.driver_reader.specs.Names.{among}
 use Rattle.driver_reader.proofs.Unique.{named-unique}
 use Rattle.arms.specs.Arms.{his, armAt}
 use Rattle.arms.specs.Forced.{Forced}
-use Rattle.force.specs.Force.{TextRefusal, driver, condition, number, TextRefused, ForceRefused, Beside, Rest, ForceFilled, ForceAnswers}
+use Rattle.force.specs.Force.{TextRefusal, driver, condition, number, TextRefused, ForceRefused, Beside, Beyond, ForceFilled, ForceAnswers}
 use Rattle.force.specs.declared.ForceAnswer.{ForceAnswer}
 use Rattle.force.specs.declared.ForceAnswer.the-variants as force
 
@@ -36,36 +36,36 @@ number-unique xs ys s a b = go (ℕ-discrete (numberOf xs s) none) (ℕ-discrete
     go (no e) (yes f) = absurd (b .never f (numberOf xs s) (a .enough e))
     go (no e) (no f) = omega (arith, a .least (numberOf ys s) (b .enough f), b .least (numberOf xs s) (a .enough e))
 
--- two that tell the numbers and arms of the first n statements alike, and zeros past them
-module _ {o q : Beside} {n : ℕ} (a : Rest o n) (b : Rest q n) where
+-- two that tell the numbers and arms of the first n statements alike, and keep the entries past them
+module _ {before o q : Beside} {n : ℕ} (a : Beyond n before o) (b : Beyond n before q) where
   numbers-same : ((s : ℕ) → s < n → getD (o .numbers) s 0 ≡ getD (q .numbers) s 0) → o .numbers ≡ q .numbers
   numbers-same f = ext-getD 0 (o .numbers) (q .numbers) (a .sizes .0 ∙ sym (b .sizes .0)) (λ s _. go s (decLt s n))
     where
       go : (s : ℕ) → Dec (s < n) → getD (o .numbers) s 0 ≡ getD (q .numbers) s 0
       go s (yes l) = f s l
-      go s (no l) = a .zeros s (omega arith) .0 ∙ sym (b .zeros s (omega arith) .0)
+      go s (no l) = a .kept s (omega arith) .0 ∙ sym (b .kept s (omega arith) .0)
 
   arms-same : ((s : ℕ) → s < n → getD (o .arms) s 0 ≡ getD (q .arms) s 0) → o .arms ≡ q .arms
   arms-same f = ext-getD 0 (o .arms) (q .arms) (a .sizes .1 ∙ sym (b .sizes .1)) (λ s _. go s (decLt s n))
     where
       go : (s : ℕ) → Dec (s < n) → getD (o .arms) s 0 ≡ getD (q .arms) s 0
       go s (yes l) = f s l
-      go s (no l) = a .zeros s (omega arith) .1 ∙ sym (b .zeros s (omega arith) .1)
+      go s (no l) = a .kept s (omega arith) .1 ∙ sym (b .kept s (omega arith) .1)
 
 beside-same : (xs ys vs ws : List ℕ) → xs ≡ ys → vs ≡ ws → _≡_ {A = Beside} (record { numbers = xs; arms = vs }) (record { numbers = ys; arms = ws })
 beside-same xs ys vs ws e f = rw (e, f)
 
-forced-unique : {P : List Statement} {mine : ℕ → Bool} {X : ℕ → Type 0} (o q : Beside) → Forced P mine X (o .numbers) (o .arms) → Forced P mine X (q .numbers) (q .arms) → Rest o (length P) → Rest q (length P) → o ≡ q
+forced-unique : {P : List Statement} {mine : ℕ → Bool} {X : ℕ → Type 0} {before : Beside} (o q : Beside) → Forced P mine X (o .numbers) (o .arms) → Forced P mine X (q .numbers) (q .arms) → Beyond (length P) before o → Beyond (length P) before q → o ≡ q
 forced-unique {P = P} {mine = mine} o q x y a b =
     let e = numbers-same a b (λ s l. number-unique (o .numbers) (q .numbers) s (x .told s l) (y .told s l)) in
     let f = arms-same a b (λ s l. x .chosen s l ∙ ap (λ (xs : List ℕ). armAt (at P s) (mine s) xs s) e ∙ sym (y .chosen s l)) in
     beside-same (o .numbers) (q .numbers) (o .arms) (q .arms) e f
 
 -- what is told of the program P, the condition c and the variables vs
-abbrev Of : Beside → List Statement → Condition → List ℕ → Type 0
-Of o P c vs = Forced P (his P (among vs)) (Sat P c) (o .numbers) (o .arms) × Rest o (length P)
+abbrev Of : Beside → Beside → List Statement → Condition → List ℕ → Type 0
+Of before o P c vs = Forced P (his P (among vs)) (Sat P c) (o .numbers) (o .arms) × Beyond (length P) before o
 
-module _ (t d u old : List ℕ) where
+module _ (t d u old : List ℕ) (before : Beside) where
   table-apart : length old < table-words → table-words ≤ length old → ⊥
   table-apart s e = omega arith
 
@@ -78,7 +78,7 @@ module _ (t d u old : List ℕ) where
   force-refused : (n m : ℕ) → ForceRefused t d u old n → ForceRefused t d u old m → n ≡ m
   force-refused = refuses-unique table-apart t (TextRefused d u) number text-unique
 
-  module _ {m n k : ℕ} {new : List ℕ} {o : Beside} (f : ForceFilled t d u old new m n k o) where
+  module _ {m n k : ℕ} {new : List ℕ} {o : Beside} (f : ForceFilled t d u old new m n k before o) where
     text-taken : (r : TextRefusal) → TextRefused d u r → ⊥
     text-taken driver a = a (f .vs) (f .named)
     text-taken (condition r) a = condition-unique.taken-refused (f .table .condition) r (a .1)
@@ -86,24 +86,21 @@ module _ (t d u old : List ℕ) where
     force-not : (i : ℕ) → ForceRefused t d u old i → ⊥
     force-not i r = refuses-not table-apart t (TextRefused d u) number i r (f .table .room) (f .table .program) text-taken
 
-    force-filled : {i j l : ℕ} {other : List ℕ} {q : Beside} → ForceFilled t d u old other i j l q → Words new → Words other → (force.Filled m n k ≡ force.Filled i j l) × (new ≡ other) × (o ≡ q)
+    force-filled : {i j l : ℕ} {other : List ℕ} {q : Beside} → ForceFilled t d u old other i j l before q → Words new → Words other → (force.Filled m n k ≡ force.Filled i j l) × (new ≡ other) × (o ≡ q)
     force-filled {i = i} {j = j} {l = l} {other = other} {q = q} g w v =
         let same = tabulate-unique t u old (tabulate.Filled m n k) (tabulate.Filled i j l) new other w v (f .table) (g .table) in
         let ep = taken-unique (g .table .program) (f .table .program) in
         let ec = condition-unique.taken-unique (g .table .condition) (f .table .condition) in
         let ev = named-unique (g .named) (f .named) in
-        let x : Of q (f .table .P) (f .table .c) (f .vs) =
-        subst (λ (vs : List ℕ). Of q (f .table .P) (f .table .c) vs) ev
-        (subst (λ (c : Condition). Of q (f .table .P) c (g .vs)) ec (subst (λ (P : List Statement). Of q P (g .table .c) (g .vs)) ep (g .forced, g .rest))) in
-        (cc (same .0), same .1, forced-unique o q (f .forced) (x .0) (f .rest) (x .1))
+        let x : Of before q (f .table .P) (f .table .c) (f .vs) =
+        subst (λ (vs : List ℕ). Of before q (f .table .P) (f .table .c) vs) ev
+        (subst (λ (c : Condition). Of before q (f .table .P) c (g .vs)) ec (subst (λ (P : List Statement). Of before q P (g .table .c) (g .vs)) ep (g .forced, g .beyond))) in
+        (cc (same .0), same .1, forced-unique o q (f .forced) (x .0) (f .beyond) (x .1))
 
   -- a call of `force` has one answer, tells one thing of each statement, and leaves one table
   pub force-unique : (a b : ForceAnswer) (new other : List ℕ) (o q : Beside) → Words new → Words other
-      → ForceAnswers t d u old new a o → ForceAnswers t d u old other b q → (a ≡ b) × (new ≡ other) × (o ≡ q)
-  force-unique (force.Refused n) (force.Refused m) new other o q w v x y =
-      let e = numbers-same (x .2) (y .2) (λ s l. absurd (omega arith)) in
-      let f = arms-same (x .2) (y .2) (λ s l. absurd (omega arith)) in
-      (ap force.Refused (force-refused n m (x .0) (y .0)), x .1 ∙ sym (y .1), beside-same (o .numbers) (q .numbers) (o .arms) (q .arms) e f)
+      → ForceAnswers t d u old new a before o → ForceAnswers t d u old other b before q → (a ≡ b) × (new ≡ other) × (o ≡ q)
+  force-unique (force.Refused n) (force.Refused m) new other o q w v x y = (ap force.Refused (force-refused n m (x .0) (y .0)), x .1 ∙ sym (y .1), x .2 ∙ sym (y .2))
   force-unique (force.Refused n) (force.Filled i j k) new other o q w v x y = absurd (force-not y n (x .0))
   force-unique (force.Filled i j k) (force.Refused m) new other o q w v x y = absurd (force-not x m (y .0))
   force-unique (force.Filled i j k) (force.Filled l m n) new other o q w v x y = force-filled x y w v

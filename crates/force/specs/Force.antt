@@ -2,7 +2,7 @@
 use mathlib.Core.Path.{_≡_}
 use mathlib.Core.List.{List}
 use Prim.Native.Nat.{ℕ, _≤_, _<_}
-use lib.ListN.{length, getD}
+use lib.ListN.{length, getD, replicate}
 use Rattle.program.specs.Program.{most}
 use Rattle.truth.specs.Truth.{Sat}
 use Rattle.condition_reader.specs.Reading as condition-reading
@@ -39,23 +39,27 @@ pub record Beside : Type 0 where
   pub numbers : List ℕ
   pub arms : List ℕ
 
--- zeros from n on
-pub record Rest (beside : Beside) (n : ℕ) : Type 0 where
-  pub sizes : (length (beside .numbers) ≡ most) × (length (beside .arms) ≡ most)
-  pub zeros : (s : ℕ) → n ≤ s → (getD (beside .numbers) s 0 ≡ 0) × (getD (beside .arms) s 0 ≡ 0)
+-- none is told yet
+abbrev pub blank : Beside
+blank = record { numbers = replicate most 0; arms = replicate most 0 }
+
+-- the entries from n on are kept
+pub record Beyond (n : ℕ) (before after : Beside) : Type 0 where
+  pub sizes : (length (after .numbers) ≡ length (before .numbers)) × (length (after .arms) ≡ length (before .arms))
+  pub kept : (s : ℕ) → n ≤ s → (getD (after .numbers) s 0 ≡ getD (before .numbers) s 0) × (getD (after .arms) s 0 ≡ getD (before .arms) s 0)
 
 -- none applies: what the driver, with the variables vs, can force on the program
-pub record ForceFilled (t d u old new : List ℕ) (count satisfied first : ℕ) (beside : Beside) : Type 0 where
+pub record ForceFilled (t d u old new : List ℕ) (count satisfied first : ℕ) (before after : Beside) : Type 0 where
   -- "The lent table is filled as for p alone."
   pub table : TabulateFilled t u old new count satisfied first
   pub vs : List ℕ
   pub named : Named d vs
   -- "whether the driver can bring about p in some number of steps, however the unit answers, and the least number he can be sure of", and the
   -- arms
-  pub forced : Forced (table .P) (his (table .P) (among vs)) (Sat (table .P) (table .c)) (beside .numbers) (beside .arms)
-  pub rest : Rest beside (length (table .P))
+  pub forced : Forced (table .P) (his (table .P) (among vs)) (Sat (table .P) (table .c)) (after .numbers) (after .arms)
+  pub beyond : Beyond (length (table .P)) before after
 
 -- "A refused call answers only its number and keeps all lent memory."
-abbrev pub ForceAnswers : List ℕ → List ℕ → List ℕ → List ℕ → List ℕ → ForceAnswer → Beside → Type 0
-ForceAnswers t d u old new (Refused n) beside = ForceRefused t d u old n × (new ≡ old) × Rest beside 0
-ForceAnswers t d u old new (Filled count satisfied first) beside = ForceFilled t d u old new count satisfied first beside
+abbrev pub ForceAnswers : List ℕ → List ℕ → List ℕ → List ℕ → List ℕ → ForceAnswer → Beside → Beside → Type 0
+ForceAnswers t d u old new (Refused n) before after = ForceRefused t d u old n × (new ≡ old) × (after ≡ before)
+ForceAnswers t d u old new (Filled count satisfied first) before after = ForceFilled t d u old new count satisfied first before after

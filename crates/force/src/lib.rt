@@ -1,8 +1,9 @@
-// A call: what a driver can force on a program, however the unit answers. It takes any bytes, and has no `requires`.
+// A call, `force`: what a driver can force on a program, however the unit answers. It takes any bytes, and has no `requires`.
 ghost use mathlib.Core.Path.{_≡_};
+ghost use Prim.Native.Nat.{_≤_};
+ghost use lib.ListN.{length};
 ghost use Rattle.program.specs.Program.{most};
-ghost use Rattle.bits.specs.Row.{Zeros};
-ghost use Rattle.force.specs.Force.{Rest, ForceAnswers};
+ghost use Rattle.force.specs.Force.{blank, ForceAnswers};
 use calls::ROOM_NUMBER;
 use driver_reader::DRIVER_NUMBER;
 use program::MOST;
@@ -23,49 +24,47 @@ pub struct Forced {
 }
 
 fn blank_numbers() -> [u32; MOST]
-    ensures { λ r. ⌜ Zeros most r ⌝ }
+    ensures { λ r. ⌜ r ≡ blank .numbers ⌝ }
 {
     [0; MOST]
 }
 
 fn blank_arms() -> [u8; MOST]
-    ensures { λ r. ⌜ Zeros most r ⌝ }
+    ensures { λ r. ⌜ r ≡ blank .arms ⌝ }
 {
     [0; MOST]
 }
 
-fn refused(n: u8) -> Forced
-    ensures { λ r. ⌜ (r .answer ≡ ForceAnswer.Refused n) × Rest (record { numbers = r .number; arms = r .arm }) 0 ⌝ }
-{
-    Forced {
-        answer: ForceAnswer::Refused(n),
-        number: blank_numbers(),
-        arm: blank_arms(),
-    }
-}
-
-// Fills the table as `tabulate` does, and tells the numbers and the arms.
-pub fn force(program: &[u8], driver: &[u8], condition: &[u8], table: &mut [u64]) -> Forced
-    ensures { λ r. ⌜ ForceAnswers (now (program .entry)) (now (driver .entry)) (now (condition .entry)) (now (table .entry)) (now (table .exit)) (r .answer) (record { numbers = r .number; arms = r .arm }) ⌝ }
+// Fills the table as `tabulate` does, and tells the numbers and the arms in `numbers` and `arms`, where entries past the statements are kept.
+pub fn fill(
+    program: &[u8],
+    driver: &[u8],
+    condition: &[u8],
+    table: &mut [u64],
+    numbers: &mut [u32],
+    arms: &mut [u8],
+) -> ForceAnswer
+    requires { ⌜ (most ≤ length (now numbers)) × (most ≤ length (now arms)) ⌝ }
+    ensures { λ r. ⌜ ForceAnswers (now (program .entry)) (now (driver .entry)) (now (condition .entry)) (now (table .entry)) (now (table .exit)) r (record { numbers = now (numbers .entry); arms = now (arms .entry) }) (record { numbers = now (numbers .exit); arms = now (arms .exit) }) ⌝ }
 {
     if table.len() < TABLE_WORDS {
-        return refused(ROOM_NUMBER);
+        return ForceAnswer::Refused(ROOM_NUMBER);
     }
     let reading = program::read(program);
     let answer = reading.answer;
     if let program::Answer::Refused(refusal) = answer {
-        return refused(program::number_of(refusal));
+        return ForceAnswer::Refused(program::number_of(refusal));
     }
     let p = reading.program;
     let mut named = bits::blank();
     if !driver_reader::read(driver, &mut named) {
-        return refused(DRIVER_NUMBER);
+        return ForceAnswer::Refused(DRIVER_NUMBER);
     }
     let conditions = condition_reader::read(condition);
     let told = conditions.answer;
     match told {
         condition_reader::Answer::Refused(refusal) => {
-            refused(condition_reader::number_of(refusal))
+            ForceAnswer::Refused(condition_reader::number_of(refusal))
         }
         condition_reader::Answer::Taken(parts) => {
             let words = conditions.words;
@@ -73,14 +72,22 @@ pub fn force(program: &[u8], driver: &[u8], condition: &[u8], table: &mut [u64])
             let summary = tabulate::fill(p, condition, words, parts, &mut flow, table);
             let count = parts as usize;
             let goal = table::row_of(&*table, count - 1);
-            let mut numbers = blank_numbers();
-            let mut arms = blank_arms();
-            arms::of(p, &flow, &named, &goal, &mut numbers, &mut arms);
-            Forced {
-                answer: ForceAnswer::Filled(parts, summary.satisfied, summary.first),
-                number: numbers,
-                arm: arms,
-            }
+            arms::of(p, &flow, &named, &goal, numbers, arms);
+            ForceAnswer::Filled(parts, summary.satisfied, summary.first)
         }
+    }
+}
+
+// Fills the table as `tabulate` does, and tells the numbers and the arms.
+pub fn force(program: &[u8], driver: &[u8], condition: &[u8], table: &mut [u64]) -> Forced
+    ensures { λ r. ⌜ ForceAnswers (now (program .entry)) (now (driver .entry)) (now (condition .entry)) (now (table .entry)) (now (table .exit)) (r .answer) blank (record { numbers = r .number; arms = r .arm }) ⌝ }
+{
+    let mut numbers = blank_numbers();
+    let mut arms = blank_arms();
+    let answer = fill(program, driver, condition, table, &mut numbers, &mut arms);
+    Forced {
+        answer: answer,
+        number: numbers,
+        arm: arms,
     }
 }
