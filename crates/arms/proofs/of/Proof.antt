@@ -37,8 +37,7 @@ returns c =
     let a = c .before .before .before .before .before .before .before .before .before .before .before .before .before .before .before .before .before .before .before .before .before .before in
     let z = a .pre .1 .1 in
     let r = c .before .before .before .before .before .before .before .before .number .ensures in
-    let f = c .before .before .fill .ensures in
-    (
+    let f = c .before .before .fill .ensures in (
       λ g same. forced-of _ _ (statements-size (a .args .p) (a .pre .0)) (a .args .flow .now) (z .size) (z .flows) _ _ g _ _ (λ s l. c .before .before .before .before .before .before .before .before .before .before .before .before .before .before .own .ensures s l ∙ his-same (statements (a .args .p)) same s) (r .0) (r .1 .0) (f .0),
       record { numbers-kept = r .1 .1; arms-kept = f .1 },
     )
