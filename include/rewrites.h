@@ -103,6 +103,30 @@ uint8_t rewrites_review(const uint8_t *program, size_t program_len, const uint8_
                         uint32_t *lines, uint32_t table_of[32], uint32_t parts[32],
                         uint32_t satisfied[32], uint32_t first[32]);
 
+/* Tells what a driver can force. The variables that his list names are his: at an `if` on one of them
+   he picks the arm, at every other the unit does, without regard to values. The list is empty, or
+   variables with single spaces between.
+
+   Returns 0, and sets
+   table, *parts, *satisfied, *first
+              as rewrites_tabulate does for the condition.
+   number     entry s for statement s+1: the least number of steps within which he can be sure of the
+              condition, however the unit answers, 0 where it is true there; 4294967295 where he
+              can't, and the unit can avoid it for ever. All further entries are kept.
+   arm        entry s for statement s+1: 1 `goto`, 2 `else`, at his `if` where he can and the number
+              isn't 0, and at the unit's `if` where he can't; else 0. With these arms he has the
+              condition within the number, and the unit never. All further entries are kept.
+
+   Returns the number of a refusal, and keeps all:
+    1: the table has under 256 words.
+    2 to 5: the program, as with rewrites_run.
+   22: the list has a variable misspelled or named twice.
+    6 to 8: the condition, as with rewrites_tabulate. */
+uint8_t rewrites_force(const uint8_t *program, size_t program_len, const uint8_t *driver,
+                       size_t driver_len, const uint8_t *condition, size_t condition_len,
+                       uint64_t *table, size_t table_len, uint32_t *parts, uint32_t *satisfied,
+                       uint32_t *first, uint32_t number[256], uint8_t arm[256]);
+
 /* Judges each mark of a list on the program, and writes the program with the accepted marks made. A
    list has zero to 256 lines, each ended by byte 10: `n: mark(rm, X, E)`, `n: mark(rpl, X, A)` or
    `n: mark(cse, T, E)`, in any order.
