@@ -122,7 +122,10 @@ parts 1 satisfied 1 first 8 forced 8
     assert_eq!((status(&output), printed(&output).as_str()), (0, exit));
     let output = run_in(&p, &["force", ".", "--driver", "", "--condition", "node(6)"]);
     let text = printed(&output);
-    assert!(text.contains("\n  5  if i0 goto 6 else 8               unit      -  else\n"), "{text}");
+    assert!(
+        text.contains("\n  5  if i0 goto 6 else 8               unit      -  else\n"),
+        "{text}"
+    );
     assert!(text.contains("\n  6  i0 := i0 - 1                                0\n"), "{text}");
     assert!(text.ends_with("parts 1 satisfied 1 first 6 forced 1\n"), "{text}");
     let words = ["force", ".", "--driver", "i1 i0", "--condition", "use(i2)", "--json"];
