@@ -393,7 +393,10 @@ fn random_plays_keep_to_what_is_told() {
         let mut table = [0; 256];
         let text = program.text();
         let driver = generate::driver_text(&his);
-        let Ok(told) = force(&text, &driver, &goal, &mut table) else { continue };
+        let told = match force(&text, &driver, &goal, &mut table) {
+            Ok(told) => told,
+            Err(_) => continue,
+        };
         let steps = Steps::new(&program);
         let target = |at: usize, arm: Arm| match (&program.statements()[at], arm) {
             (Statement::Branch { then, .. }, Arm::Goto) => *then as usize - 1,
