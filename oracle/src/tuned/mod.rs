@@ -10,7 +10,7 @@ mod run;
 mod tabulate;
 
 pub use force::force;
-pub use judge::{judge, judge_by_labels};
+pub use judge::{judge, judge_by_labels, report};
 pub use review::review;
 pub use run::run;
 pub use tabulate::tabulate;
