@@ -9,6 +9,7 @@ use Rattle.table.specs.Fill.{SomeHeld}
 use Rattle.table.specs.Known.{Known}
 use Rattle.table.proofs.Whole.{held-some, held-few}
 use Rattle.table.proofs.By.{known-in, table-by}
+use Rattle.atoms.proofs.Found.{placeless}
 use Rattle.calls.proofs.Known.{known-program}
 use Rattle.tabulate.proofs.Tabulates.{tabulated}
 use Rattle.tabulate.proofs.tabulate.Statement.{statement}
@@ -33,7 +34,7 @@ condition-held c = let h = rw (c .told2 .given .1) at (c .before .before .read2 
 find-requires : tie.Need-find-requires
 find-requires c κs =
     let p = program-taken (c .before .before .before .before .before .before .before .before .before .before) in
-    (p .1, (p .0 .program, (c .before .before .before .blank .ensures, c .before .before .blank-codes .ensures)))
+    (p .1, (p .0 .program, placeless (c .before .before .before .blank .ensures)))
 
 of-requires : tie.Need-of-requires
 of-requires c κs = let p = program-taken (c .before .before .before .before .before .before .before .before .before .before .before .before .before .before .before) in (p .1, (p .0 .program, c .before .blank2 .ensures .size))
@@ -47,7 +48,7 @@ known :
 known c =
     let p = program-taken (c .before .before .before .before .before .before .before .before .before .before .before .before .before .before .before .before .before) in
     let of = c .before .of in
-    known-program {flow = of .last .1 .0} (p .0) (p .1) (c .before .before .before .before .before .before .find .ensures) (of .ensures) (omega (arith, of .kept, c .before .before .before .blank2 .ensures .size))
+    known-program {flow = of .last .1 .0} (p .0) (p .1) (c .before .before .before .before .before .before .find .ensures) (c .before .before .before .before .before .before .before .before .before .blank-codes .ensures .many) (of .ensures) (omega (arith, of .kept, c .before .before .before .blank2 .ensures .size))
 
 fill-requires : tie.Need-fill-requires
 fill-requires c κs =
