@@ -5,8 +5,10 @@ ghost use Prim.Native.Nat.{_≤_};
 ghost use lib.ListN.{length};
 ghost use Rattle.sharing.specs.Sharing.{most-lines};
 ghost use Rattle.rewrites.specs.Exports.{begun, ReviewExported};
+ghost use Rattle.host_listing.specs.Exports.{ListExported, RelistExported};
 use judge::JudgeAnswer;
 use language::KEPT;
+use listing::COUNTS;
 use machine::Answer;
 use machine::VALUES;
 use mark_line::MarkLineAnswer;
@@ -175,4 +177,29 @@ pub extern "C" fn rewrites_mark_line(
             0
         }
     }
+}
+
+#[no_mangle]
+pub extern "C" fn rewrites_list(
+    program: &[u8],
+    list: &mut [u64],
+    defined: &mut [u32; COUNTS],
+    used: &mut [u32; COUNTS],
+) -> u8
+    ensures { λ r. ⌜ ListExported (now (program .entry)) (now (list .entry)) (now (list .exit)) r (record { defined = now (defined .entry); used = now (used .entry) }) (record { defined = now (defined .exit); used = now (used .exit) }) ⌝ }
+{
+    host_listing::list(program, list, defined, used)
+}
+
+#[no_mangle]
+pub extern "C" fn rewrites_relist(
+    program: &[u8],
+    marks: &[u8],
+    list: &mut [u64],
+    defined: &mut [u32; COUNTS],
+    used: &mut [u32; COUNTS],
+) -> u8
+    ensures { λ r. ⌜ RelistExported (now (program .entry)) (now (marks .entry)) (now (list .entry)) (now (list .exit)) r (record { defined = now (defined .entry); used = now (used .entry) }) (record { defined = now (defined .exit); used = now (used .exit) }) ⌝ }
+{
+    host_listing::relist(program, marks, list, defined, used)
 }
