@@ -6,6 +6,7 @@ mod division;
 mod document;
 mod generated;
 mod kept;
+mod listing;
 mod mark_lines;
 mod naive;
 mod open_points;

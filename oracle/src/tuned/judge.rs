@@ -287,21 +287,15 @@ impl Writer<'_> {
 /// Stands for the verdict of an `rm` until each `cse` is judged.
 const UNDECIDED: u8 = 255;
 
+/// Judges the marks of a list, and makes the accepted ones in the program; how many there are, and how many are accepted.
 #[inline(always)]
-fn judge_with(
-    program: &[u8],
-    marks: &[u8],
+fn make_all(
+    program: &mut Program,
+    list: &List,
     verdicts: &mut [u8],
-    text: &mut [u8],
     is_true: impl Fn(&Judge, &Program, &Mark, u8) -> bool,
-) -> Result<(u32, u32, u32), u8> {
-    if verdicts.len() < VERDICT_BYTES || text.len() < TEXT_BYTES {
-        return Err(1);
-    }
-    let mut program = Program::read(program)?;
-    let mut list = List::empty();
-    list.read(marks)?;
-    let mut judge = Judge { flow: Flow::new(&program), rows: Rows::new(&program) };
+) -> (u32, u32) {
+    let mut judge = Judge { flow: Flow::new(program), rows: Rows::new(program) };
     let (mut named, mut accepted) = ([0; 4], 0);
     for (mark, verdict) in list.marks().iter().zip(verdicts.iter_mut()) {
         let count = judge.flow.count as u32;
@@ -319,7 +313,7 @@ fn judge_with(
                     18
                 } else if matches!(mark.kind, Kind::Remove(_)) {
                     UNDECIDED
-                } else if is_true(&judge, &program, mark, at) {
+                } else if is_true(&judge, program, mark, at) {
                     accepted += 1;
                     // Other kinds don't ask for uses.
                     if matches!(mark.kind, Kind::Reuse(_)) {
@@ -334,7 +328,7 @@ fn judge_with(
     }
     for (mark, verdict) in list.marks().iter().zip(verdicts.iter_mut()) {
         if *verdict == UNDECIDED {
-            let is_true = is_true(&judge, &program, mark, (mark.number - 1) as u8);
+            let is_true = is_true(&judge, program, mark, (mark.number - 1) as u8);
             accepted += u32::from(is_true);
             *verdict = if is_true { 0 } else { 14 };
         }
@@ -344,9 +338,42 @@ fn judge_with(
             make(mark, &mut program.statements_mut()[mark.number as usize - 1]);
         }
     }
+    (list.marks().len() as u32, accepted)
+}
+
+/// Whether a mark's condition is true, by a search from its statement.
+#[inline(always)]
+fn is_true_by_search(judge: &Judge, program: &Program, mark: &Mark, at: u8) -> bool {
+    match mark.kind {
+        Kind::Remove(_) => judge.is_dead(mark.variable, at),
+        Kind::Replace(a) => judge.is_held(program, Copied(mark.variable, a), at),
+        Kind::Reuse(e) => judge.is_held(program, Computed(mark.variable, e), at),
+    }
+}
+
+/// Makes the accepted marks of a list in the program.
+pub fn rewrite(program: &mut Program, list: &List) {
+    make_all(program, list, &mut [0; VERDICT_BYTES], is_true_by_search);
+}
+
+#[inline(always)]
+fn judge_with(
+    program: &[u8],
+    marks: &[u8],
+    verdicts: &mut [u8],
+    text: &mut [u8],
+    is_true: impl Fn(&Judge, &Program, &Mark, u8) -> bool,
+) -> Result<(u32, u32, u32), u8> {
+    if verdicts.len() < VERDICT_BYTES || text.len() < TEXT_BYTES {
+        return Err(1);
+    }
+    let mut program = Program::read(program)?;
+    let mut list = List::empty();
+    list.read(marks)?;
+    let (count, accepted) = make_all(&mut program, &list, verdicts, is_true);
     let mut writer = Writer { text, at: 0 };
     program.statements().iter().for_each(|statement| writer.statement(statement));
-    Ok((list.marks().len() as u32, accepted, writer.at as u32))
+    Ok((count, accepted, writer.at as u32))
 }
 
 /// The call: fills verdicts and new text; the number of marks, of accepted ones and of bytes of new text, or the
@@ -357,11 +384,7 @@ pub fn judge(
     verdicts: &mut [u8],
     text: &mut [u8],
 ) -> Result<(u32, u32, u32), u8> {
-    judge_with(program, marks, verdicts, text, |judge, program, mark, at| match mark.kind {
-        Kind::Remove(_) => judge.is_dead(mark.variable, at),
-        Kind::Replace(a) => judge.is_held(program, Copied(mark.variable, a), at),
-        Kind::Reuse(e) => judge.is_held(program, Computed(mark.variable, e), at),
-    })
+    judge_with(program, marks, verdicts, text, is_true_by_search)
 }
 
 /// The same, with each mark's condition labelled at every statement.

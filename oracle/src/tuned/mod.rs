@@ -3,12 +3,14 @@
 
 mod flow;
 mod judge;
+mod listing;
 mod read;
 mod review;
 mod run;
 mod tabulate;
 
 pub use judge::{judge, judge_by_labels};
+pub use listing::{list, relist};
 pub use review::review;
 pub use run::run;
 pub use tabulate::tabulate;
