@@ -22,14 +22,14 @@ use std::path::Path;
 const CASES: u64 = 3_000;
 
 #[rustfmt::skip]
-const WORDS: [&str; 32] = [
-    "check", "tabulate", "review", "run", "lines", "help", ".", "a", "nowhere", "given", "--json", "--text", "--explain",
+const WORDS: [&str; 33] = [
+    "check", "tabulate", "review", "run", "lines", "list", "help", ".", "a", "nowhere", "given", "--json", "--text", "--explain",
     "-o", "new", "--output=new", "-onew", "--condition", "E[", "--input", "-1", "2147483648", "--budget",
     "1000001", "--set", "--set=i32=1", "--", "-", "--help", "-V", "-x", "",
 ];
 
 /// The options of each call, some of them such that they are refused.
-const OPTIONS: [(&str, &[&[&str]]); 5] = [
+const OPTIONS: [(&str, &[&[&str]]); 6] = [
     (
         "check",
         &[&["--json"], &["--explain"], &["--text"], &["."], &["a"], &["nowhere"], &["-o", "new"]],
@@ -56,6 +56,7 @@ const OPTIONS: [(&str, &[&[&str]]); 5] = [
         ],
     ),
     ("lines", &[&["--json"]]),
+    ("list", &[&["--json"]]),
 ];
 
 /// The words of a call, mostly such that it is made, at times damaged or any.
