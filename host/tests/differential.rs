@@ -1653,14 +1653,17 @@ fn list_change(before: &Statement, after: &Statement) -> &'static str {
             (false, false) => "replaced in write",
             _ => "replaced in write, one kept",
         },
+        (Statement::Assign(_, Expression::Pair(..)), Statement::Assign(_, Expression::Single(_))) => {
+            "read again"
+        }
         _ => "replaced in an assignment",
     }
 }
 
 #[rustfmt::skip]
-const LIST_CHANGES: [&str; 7] = [
+const LIST_CHANGES: [&str; 8] = [
     "accepted, no text changed", "dropped", "dropped, used and defined alike", "replaced in if",
-    "replaced in write", "replaced in write, one kept", "replaced in an assignment",
+    "replaced in write", "replaced in write, one kept", "replaced in an assignment", "read again",
 ];
 
 #[rustfmt::skip]
