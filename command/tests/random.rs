@@ -22,8 +22,8 @@ use std::path::Path;
 const CASES: u64 = 3_000;
 
 #[rustfmt::skip]
-const WORDS: [&str; 35] = [
-    "check", "tabulate", "review", "force", "run", "lines", "help", ".", "a", "nowhere", "given", "--json", "--text", "--explain",
+const WORDS: [&str; 36] = [
+    "check", "tabulate", "review", "force", "run", "lines", "list", "help", ".", "a", "nowhere", "given", "--json", "--text", "--explain",
     "-o", "new", "--output=new", "-onew", "--condition", "E[", "--driver", "i0 i1", "--input", "-1", "2147483648", "--budget",
     "1000001", "--set", "--set=i32=1", "--", "-", "--help", "-V", "-x", "",
 ];
@@ -67,6 +67,7 @@ const OPTIONS: [(&str, &[&[&str]]); 6] = [
         ],
     ),
     ("lines", &[&["--json"]]),
+    ("list", &[&["--json"]]),
 ];
 
 /// The words of a call, mostly such that it is made, at times damaged or any.
