@@ -29,7 +29,7 @@ const WORDS: [&str; 36] = [
 ];
 
 /// The options of each call, some of them such that they are refused.
-const OPTIONS: [(&str, &[&[&str]]); 6] = [
+const OPTIONS: [(&str, &[&[&str]]); 7] = [
     (
         "check",
         &[&["--json"], &["--explain"], &["--text"], &["."], &["a"], &["nowhere"], &["-o", "new"]],
