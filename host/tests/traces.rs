@@ -9,16 +9,27 @@ use rewrites::{judge, review, run, Outcome};
 use rewrites::{KEPT, PART_WORDS, REVIEW_WORDS, TEXT_BYTES, VARIABLES, VERDICT_BYTES};
 
 /// The states before each step of a run, from the first to the last, each a statement and the values there; and how the
-/// run ends.
+/// run ends, without its ticks, which a rewriting may change.
 fn trace(program: &[u8], values: &[u32; 32], input: u32) -> (Vec<(u32, [u32; 32])>, Outcome) {
     let mut states = Vec::new();
     for budget in 0..1_000 {
         match run(program, values, input, budget).expect("a program is taken") {
-            Outcome::Spent { statement, values } => states.push((statement, values)),
-            over => return (states, over),
+            Outcome::Spent { statement, values, .. } => states.push((statement, values)),
+            over => return (states, without_ticks(over)),
         }
     }
     panic!("the run goes on");
+}
+
+fn without_ticks(mut outcome: Outcome) -> Outcome {
+    match &mut outcome {
+        Outcome::Ended { ticks, .. }
+        | Outcome::Fault { ticks, .. }
+        | Outcome::Spent { ticks, .. } => {
+            *ticks = 0;
+        }
+    }
+    outcome
 }
 
 /// For each variable whether it is live at each statement, statement n at n - 1.
@@ -84,7 +95,7 @@ fn from<'a>(first: usize, last: usize, at: &'a [Difference]) -> Vec<(usize, &'a 
 }
 
 fn ended(value: i32, steps: u32) -> Outcome {
-    Outcome::Ended { value, steps, kept: [0; KEPT] }
+    Outcome::Ended { value, steps, ticks: 0, kept: [0; KEPT] }
 }
 
 #[test]
@@ -108,13 +119,13 @@ fn a_pair_that_faults() {
     let marks = [("2: mark(rm, i3, 9)", 0), ("4: mark(rm, i4, i0 / i1)", 18)];
     let differences = from(3, 4, &[(3, 9, 0)]);
     let ends = side_by_side(&program, &marks, &[(2, "skip")], (&[0; 32], 5), &differences);
-    assert_eq!(ends, Outcome::Fault { statement: 4, steps: 4 });
+    assert_eq!(ends, Outcome::Fault { statement: 4, steps: 4, ticks: 0 });
     // The same by 0 in place of i1, where i1 is a copy of it.
     let program = ["read i0", "i3 := 9", "i1 := 0", "i4 := i0 / i1", "i3 := i4", "write i3"];
     let marks = [("2: mark(rm, i3, 9)", 0), ("4: mark(rpl, i1, 0)", 0)];
     let made = [(2, "skip"), (4, "i4 := i0 / 0")];
     let ends = side_by_side(&program, &marks, &made, (&[0; 32], 5), &differences);
-    assert_eq!(ends, Outcome::Fault { statement: 4, steps: 4 });
+    assert_eq!(ends, Outcome::Fault { statement: 4, steps: 4, ticks: 0 });
 }
 
 #[test]
@@ -126,7 +137,7 @@ fn a_kept_gear_set_on_one_arm() {
     for (input, gear, steps) in [(0, 1, 4), (7, 3, 5)] {
         kept[0] = gear;
         let ends = side_by_side(&program, &marks, &[], (&[0; 32], input), &[]);
-        assert_eq!(ends, Outcome::Ended { value: input as i32, steps, kept });
+        assert_eq!(ends, Outcome::Ended { value: input as i32, steps, ticks: 0, kept });
     }
     // i24 is live there, but for the arm that sets it.
     assert_eq!(live(&text(&program), 5)[24], [false, false, true, false, true]);
@@ -145,10 +156,10 @@ fn a_kept_gear_set_on_one_arm() {
     let made = [(2, "skip")];
     kept[0] = 14;
     let ends = side_by_side(&program, &marks, &made, (&[0; 32], 7), &from(3, 4, &[(24, 8, 0)]));
-    assert_eq!(ends, Outcome::Ended { value: 7, steps: 6, kept });
+    assert_eq!(ends, Outcome::Ended { value: 7, steps: 6, ticks: 0, kept });
     kept[0] = 10;
     let ends = side_by_side(&program, &marks, &made, (&[0; 32], 0), &from(3, 6, &[(24, 1, 0)]));
-    assert_eq!(ends, Outcome::Ended { value: 5, steps: 8, kept });
+    assert_eq!(ends, Outcome::Ended { value: 5, steps: 8, ticks: 0, kept });
 }
 
 #[test]

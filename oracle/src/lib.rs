@@ -12,6 +12,7 @@ pub mod generate;
 pub mod liveness;
 pub mod machine;
 pub mod marks;
+pub mod pricing;
 pub mod program;
 pub mod review;
 pub mod steps;

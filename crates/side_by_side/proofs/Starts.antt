@@ -13,7 +13,7 @@ use Rattle.marks.proofs.Lists.{taken-unique}
 use Rattle.rewriting.specs.Verdicts.{acceptedCount}
 use Rattle.judge.specs.Judge.{Lent, JudgeFinished}
 use Rattle.report.specs.Report.{countsLine}
-use Rattle.report.proofs.Reports.{new-within}
+use Rattle.priced.proofs.Reports.{new-within}
 use Rattle.desk.specs.Refusals.{refusalText}
 use Rattle.start_refusal.specs.StartRefusal.{startText}
 use Rattle.start.specs.Start.{StartTaken, StartRead}

@@ -149,9 +149,11 @@ fn a_sum_and_a_dropped_product() {
     assert_eq!(first_disagreement(&one, &other, [0; 32], 4, 100), None);
     let compared = desk::compare(lines(given).as_bytes(), lines(list).as_bytes(), b"4\n100\n");
     let zeros = " 0".repeat(8);
-    let ended = format!("ended 5 steps 6 kept{zeros}\n");
+    let ended = |ticks| format!("ended 5 steps 6 ticks {ticks} kept{zeros}\n");
     assert!(compared.ends_with(&format!(
-        "given {ended}rewritten {ended}statements, outcome and live variables agree\n"
+        "given {}rewritten {}statements, outcome and live variables agree\n",
+        ended(25),
+        ended(16)
     )));
     assert_eq!(compared.matches("  i5 8 0\n").count(), 2);
 }
@@ -171,10 +173,10 @@ fn a_pair_that_faults() {
     assert_eq!(differing(&last(&a).1, &last(&b).1), [3]);
     assert!(!Liveness::new(&one).is_live(4, 3));
     let compared = desk::compare(given.as_bytes(), list.as_bytes(), b"5\n100\n");
-    let fault = "fault at 4 steps 4\n";
-    assert!(compared.ends_with(&format!(
-        "given {fault}rewritten {fault}statements, outcome and live variables agree\n"
-    )));
+    assert!(compared.ends_with(
+        "given fault at 4 steps 4 ticks 33\nrewritten fault at 4 steps 4 ticks 32\n\
+         statements, outcome and live variables agree\n"
+    ));
 }
 
 /// i24 is set on one arm only, so it is live on the other; where it is set again it isn't, and may differ.

@@ -8,7 +8,7 @@ mod review;
 mod run;
 mod tabulate;
 
-pub use judge::{judge, judge_by_labels};
+pub use judge::{judge, judge_by_labels, report};
 pub use review::review;
 pub use run::run;
 pub use tabulate::tabulate;

@@ -2,7 +2,7 @@
 use mathlib.Core.Path.{sym}
 use native.Mathlib.Omega.{arith}
 use lib.Seq.{length-take-le}
-use Rattle.report.proofs.Reports.{new-within}
+use Rattle.priced.proofs.Reports.{new-within}
 use Rattle.side_by_side.proofs.Closings.{closes, trace-alike, never-over, never-refused}
 use borrow.Author.Needs.{needs}
 use Rattle.side_by_side.proofs.closing.Statement.{statement}
