@@ -4,12 +4,14 @@ ghost use mathlib.Core.Path.{_≡_};
 ghost use Prim.Native.Nat.{_≤_};
 ghost use lib.ListN.{length};
 ghost use Rattle.sharing.specs.Sharing.{most-lines};
+ghost use Rattle.host_force.specs.Exports.{ForceExported};
 ghost use Rattle.rewrites.specs.Exports.{begun, ReviewExported};
 use judge::JudgeAnswer;
 use language::KEPT;
 use machine::Answer;
 use machine::VALUES;
 use mark_line::MarkLineAnswer;
+use program::MOST;
 use review::ReviewAnswer;
 use run::RunAnswer;
 use sharing::MOST_LINES;
@@ -175,4 +177,31 @@ pub extern "C" fn rewrites_mark_line(
             0
         }
     }
+}
+
+#[no_mangle]
+pub extern "C" fn rewrites_force(
+    program: &[u8],
+    driver: &[u8],
+    condition: &[u8],
+    table: &mut [u64],
+    parts: &mut u32,
+    satisfied: &mut u32,
+    first: &mut u32,
+    number: &mut [u32; MOST],
+    arm: &mut [u8; MOST],
+) -> u8
+    ensures { λ r. ⌜ ForceExported (now (program .entry)) (now (driver .entry)) (now (condition .entry)) (now (table .entry)) (now (table .exit)) r (record { numbers = now (number .entry); arms = now (arm .entry) }) (record { numbers = now (number .exit); arms = now (arm .exit) }) (record { parts = now (parts .entry); satisfied = now (satisfied .entry); first = now (first .entry) }) (record { parts = now (parts .exit); satisfied = now (satisfied .exit); first = now (first .exit) }) ⌝ }
+{
+    host_force::force(
+        program,
+        driver,
+        condition,
+        table,
+        parts,
+        satisfied,
+        first,
+        number,
+        arm,
+    )
 }
