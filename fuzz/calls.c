@@ -1,6 +1,6 @@
 /* A libFuzzer target over the calls. An input is a program, a condition or the conditions of a
-   review, a list of marks and some bytes that choose the rest, with '%', which no text holds, between
-   them. What is checked holds for every input:
+   review, a list of marks, some bytes that choose the rest and a driver's list, with '%', which no text
+   holds, between them. What is checked holds for every input:
    - a refused call changes nothing, and a finished one only what its result sets;
    - no byte beyond a lent text or buffer is touched: each ends at a page that can't be;
    - a program is misspelled exactly where a line of it is, and is written as it was read;
@@ -14,6 +14,9 @@
    - `!` in front of a condition complements its row and keeps the others;
    - a review is refused for its first line that is refused alone, its tables are those of its lines'
      parts alone, and there is one for each part that is spelled differently, in the order of endings;
+   - a driver's list is refused exactly where it isn't names with single spaces between, or has one twice;
+     what he can force is number 0 where the condition's table has it, else one more than the lower of his
+     arms' numbers and than the higher of the unit's, and none where there is none; the arms are by these;
    - a mark that drops fits where its statement stands, and is refused for a fault exactly where it
      then divides by a variable or by 0; at `write` only what is written is replaced; a sum is reused
      where its right side stands and has two operands;
@@ -60,6 +63,7 @@
 #define FIRST_KEPT 24
 #define KEPT 8
 #define STATEMENTS 256
+#define UNFORCED UINT32_MAX
 
 static const char P[] =
     "read i0\ni1 := i0\ni2 := 7\ni3 := i1 + i2\n"
@@ -125,7 +129,7 @@ static struct text put(struct region *r, const void *bytes, size_t length) {
     return (struct text){lent, length};
 }
 
-static struct region programs, others, conditions, tables, verdict_bytes, new_text;
+static struct region programs, others, conditions, tables, verdict_bytes, new_text, drivers;
 
 /* What out-parameters hold before a call, and the words on both sides of each. */
 #define UNSET 0xa5c3e187u
@@ -637,6 +641,145 @@ static void check_use_at_write(struct text program, unsigned variable) {
     REQUIRE(holds_at_write(program, condition) == (is_kept || is_written(program, variable)));
 }
 
+/* Games */
+
+/* The variables of a driver's list as bits, or -1 where it is none. */
+static int64_t names_of(struct text list) {
+    int64_t names = 0;
+    size_t at = 0;
+
+    if (list.length == 0) return 0;
+    for (;;) {
+        char name[8];
+        size_t end = at;
+        unsigned x = 0;
+
+        while (end < list.length && list.bytes[end] != ' ') end++;
+        for (; x < VARIABLES; x++) {
+            size_t length = (size_t)snprintf(name, sizeof name, "i%u", x);
+            if (end - at == length && memcmp(list.bytes + at, name, length) == 0) break;
+        }
+        if (x == VARIABLES || names >> x & 1) return -1;
+        names |= (int64_t)1 << x;
+        if (end == list.length) return names;
+        at = end + 1;
+    }
+}
+
+struct game {
+    uint32_t number[STATEMENTS];
+    uint8_t arm[STATEMENTS];
+};
+
+static uint8_t force(struct text program, struct text driver, struct text condition, size_t room,
+                     struct table *table, struct game *answer) {
+    uint32_t places[7], number[STATEMENTS + 2];
+    uint8_t arm[STATEMENTS + 2], refused;
+    uint64_t *words = (uint64_t *)(void *)lend(&tables, room * sizeof *words);
+    size_t lines = lines_of(program);
+
+    unset(places, 7);
+    unset(number, STATEMENTS + 2);
+    memset(arm, 0xa5, sizeof arm);
+    refused = rewrites_force(program.bytes, program.length, driver.bytes, driver.length,
+                             condition.bytes, condition.length, words, room, &places[1], &places[3],
+                             &places[5], number + 1, arm + 1);
+    for (size_t k = 0; k < 7; k++) REQUIRE((refused == 0 && k % 2 == 1) || places[k] == UNSET);
+    REQUIRE(number[0] == UNSET && arm[0] == 0xa5);
+    for (size_t k = refused == 0 ? lines + 1 : 1; k < STATEMENTS + 2; k++)
+        REQUIRE(number[k] == UNSET && arm[k] == 0xa5);
+    if (refused == 0) {
+        REQUIRE(places[1] >= 1 && places[1] <= 64);
+        set(&tables, (uint8_t *)words, 4 * places[1] * sizeof *words);
+        table->parts = places[1];
+        table->satisfied = places[3];
+        table->first = places[5];
+        memcpy(table->words, words, 4 * places[1] * sizeof *words);
+        memcpy(answer->number, number + 1, lines * sizeof *number);
+        memcpy(answer->arm, arm + 1, lines);
+    }
+    require_kept(&tables);
+    return refused;
+}
+
+/* The number and the arm of a statement, counted from 1, by those of where it steps to. */
+static void check_place(struct text program, int64_t names, size_t n, int is_met,
+                        const struct game *answer) {
+    const uint32_t *number = answer->number;
+    uint32_t here = number[n - 1], one, other, wanted;
+    unsigned x, then, otherwise;
+    uint8_t arm = answer->arm[n - 1];
+    char line[64];
+
+    copy_line(program, n, line);
+    REQUIRE((here == 0) == is_met);
+    if (sscanf(line, "if i%u goto %u else %u", &x, &then, &otherwise) != 3) {
+        REQUIRE(arm == 0);
+        if (is_met) return;
+        if (n == lines_of(program)) {
+            REQUIRE(here == UNFORCED);
+        } else {
+            REQUIRE(here == (number[n] == UNFORCED ? UNFORCED : number[n] + 1));
+        }
+        return;
+    }
+    one = number[then - 1];
+    other = number[otherwise - 1];
+    if (names >> x & 1) {
+        wanted = one < other ? one : other;
+        REQUIRE(arm == (here == 0 || here == UNFORCED ? 0 : other < one ? 2 : 1));
+    } else {
+        wanted = one > other ? one : other;
+        REQUIRE(arm == (here != UNFORCED ? 0 : one == UNFORCED ? 1 : 2));
+    }
+    if (!is_met) REQUIRE(here == (wanted == UNFORCED ? UNFORCED : wanted + 1));
+    met(OF_CALLS, 1500 + arm + 4 * (unsigned)(names >> x & 1) + 8 * (here == 0) + 16 * (one != other));
+}
+
+static void check_force(struct text program, struct text driver, struct text condition,
+                        uint8_t refused) {
+    static struct table alone, table;
+    static struct game answer;
+    int64_t names = names_of(driver);
+    uint8_t expected = tabulate(program, condition, TABLE_WORDS, &alone);
+    uint8_t number = force(program, driver, condition, TABLE_WORDS, &table, &answer);
+    const uint64_t *row;
+
+    REQUIRE(force(program, driver, condition, TABLE_WORDS - 1, &table, &answer) == 1);
+    if (refused != 0) {
+        REQUIRE(number == refused);
+        return;
+    }
+    if (names < 0) {
+        REQUIRE(number == 22);
+        met(OF_CALLS, 1540);
+        return;
+    }
+    REQUIRE(number == expected);
+    if (number != 0) return;
+    REQUIRE(table.parts == alone.parts && table.satisfied == alone.satisfied);
+    REQUIRE(table.first == alone.first);
+    REQUIRE(memcmp(table.words, alone.words, 4 * table.parts * sizeof *table.words) == 0);
+    row = table.words + 4 * (table.parts - 1);
+    for (size_t n = 1; n <= lines_of(program); n++)
+        check_place(program, names, n, holds(row, n), &answer);
+    met(OF_CALLS, 1541 + (answer.number[0] == UNFORCED) + 2 * (names != 0));
+}
+
+/* What the input's list can force, and what a list of the variables whose bits are set can. */
+static void check_games(struct text program, struct text driver, struct text condition,
+                        uint8_t refused, uint32_t names) {
+    char list[VARIABLES * 4 + 1];
+    size_t at = 0;
+
+    check_force(program, driver, condition, refused);
+    for (unsigned x = 0; x < VARIABLES; x++)
+        if (names >> x & 1)
+            at += (size_t)snprintf(list + at, sizeof list - at, at == 0 ? "i%u" : " i%u", x);
+    check_force(program, put(&drivers, list, at), condition, refused);
+    require_kept(&drivers);
+}
+
 /* Marks */
 
 struct judgement {
@@ -1015,12 +1158,13 @@ int LLVMFuzzerInitialize(int *count, char ***arguments) {
     map(&tables, 2);
     map(&verdict_bytes, 1);
     map(&new_text, 3);
+    map(&drivers, 16);
     return 0;
 }
 
 int LLVMFuzzerTestOneInput(const uint8_t *data, size_t size) {
     static const uint32_t edges[8] = {0, 1, 2, 0x7fffffff, 0x80000000, 0xffffffff, 0xfffffffe, 7};
-    struct text program, condition, marks;
+    struct text program, condition, marks, choice, driver;
     uint32_t values[VARIABLES], input, budget, sum = 0;
     uint8_t refused;
 
@@ -1028,8 +1172,10 @@ int LLVMFuzzerTestOneInput(const uint8_t *data, size_t size) {
     program = cut(&data, &size);
     condition = cut(&data, &size);
     marks = cut(&data, &size);
-    budget = size > 0 ? data[0] % 64 : 12;
-    for (size_t k = 0; k < size; k++) sum = sum * 31 + data[k];
+    choice = cut(&data, &size);
+    driver = cut(&data, &size);
+    budget = choice.length > 0 ? choice.bytes[0] % 64 : 12;
+    for (size_t k = 0; k < choice.length; k++) sum = sum * 31 + choice.bytes[k];
     for (size_t k = 0; k < VARIABLES; k++) {
         uint32_t bits = (sum + (uint32_t)k) * 2654435761u;
         values[k] = bits & 1 ? edges[bits >> 29] : bits >> 3;
@@ -1045,6 +1191,8 @@ int LLVMFuzzerTestOneInput(const uint8_t *data, size_t size) {
     condition = put(&conditions, condition.bytes, condition.length);
     check_condition(program, condition, refused);
     check_review(program, condition, refused);
+    driver = put(&drivers, driver.bytes, driver.length);
+    check_games(program, driver, condition, refused, sum * 2654435761u);
     if (refused != 0) {
         struct text plain = put(&programs, P, strlen(P));
         check_condition(plain, condition, 0);

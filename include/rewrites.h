@@ -103,6 +103,37 @@ uint8_t rewrites_review(const uint8_t *program, size_t program_len, const uint8_
                         uint32_t *lines, uint32_t table_of[32], uint32_t parts[32],
                         uint32_t satisfied[32], uint32_t first[32]);
 
+/* Tells what a driver can force. The list, empty or with single spaces between, names the variables
+   that are his: at an `if` on one of them he picks the arm, at every other the unit does, without
+   regard to values. `write` steps to itself. Takes at most 256 KiB of stack, most where brackets stand
+   within one another.
+
+   Returns 0, and sets
+   table, *parts, *satisfied, *first
+              as rewrites_tabulate does.
+   number     entry k, counted from 0, for statement k+1: the least number of steps within which he can
+              bring about the condition, however the unit answers, 0 where it is true already;
+              4294967295 where he can't, and the unit can avoid it for ever. All entries past the
+              program's statements are kept.
+   arm        entry k for statement k+1: 1 for the arm behind `goto`, 2 for that behind `else`, 0 for
+              none. At his `if`, where he can force the condition and it isn't true there, the arm from
+              which the number is lower, or the only one that has a number; at the unit's `if`, where he
+              can't, an arm from which he can't either; 1 where both serve alike. Runs that take his arms
+              meet the condition within the number, runs that take the unit's never do. No other
+              statement has one. All entries past the program's statements are kept.
+
+   Returns the number of a refusal, and keeps all:
+    1: the table has under 256 words.
+    2 to 5: the program, as with rewrites_run.
+   22: the list isn't empty and isn't variables with single spaces between, or names one twice.
+    6: the condition is longer than 1,024 bytes.
+    7: it is misspelled.
+    8: it has over 64 parts. */
+uint8_t rewrites_force(const uint8_t *program, size_t program_len, const uint8_t *driver,
+                       size_t driver_len, const uint8_t *condition, size_t condition_len,
+                       uint64_t *table, size_t table_len, uint32_t *parts, uint32_t *satisfied,
+                       uint32_t *first, uint32_t number[256], uint8_t arm[256]);
+
 /* Judges each mark of a list on the program, and writes the program with the accepted marks made. A
    list has zero to 256 lines, each ended by byte 10: `n: mark(rm, X, E)`, `n: mark(rpl, X, A)` or
    `n: mark(cse, T, E)`, in any order.

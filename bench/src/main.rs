@@ -7,8 +7,8 @@ mod time;
 use inputs::{atoms_condition, binary_condition, text, unary_condition, OPERATORS};
 use inputs::{cse_and_rm_marks_for, cse_marks_for, different_marks_for, marks_for};
 use oracle::tuned;
-use rewrites::{judge, report, review, run, tabulate, MOST_STEPS};
-use rewrites::{REVIEW_WORDS, STATEMENTS, TABLE_WORDS, TEXT_BYTES, VERDICT_BYTES};
+use rewrites::{force, judge, report, review, run, tabulate, MOST_STEPS};
+use rewrites::{REVIEW_WORDS, STATEMENTS, TABLE_WORDS, TEXT_BYTES, UNFORCED, VERDICT_BYTES};
 use std::fs;
 use time::medians;
 
@@ -330,6 +330,79 @@ fn print_reviews(worst: &mut Worst) {
     println!("largest ratio to a call for each line: {:.2} ({})", largest.0, largest.1);
 }
 
+// Games
+
+/// A driver's list and a condition, and whether they are ordinary ones.
+struct Game {
+    name: &'static str,
+    is_ordinary: bool,
+    driver: &'static str,
+    condition: &'static str,
+}
+
+const GAMES: [Game; 4] = [
+    Game { name: "two levers, the end", is_ordinary: true, driver: "i1 i12", condition: "exit" },
+    Game { name: "no lever, a use", is_ordinary: true, driver: "", condition: "use(i3)" },
+    Game {
+        name: "all even levers, the end",
+        is_ordinary: false,
+        driver: "i0 i2 i4 i6",
+        condition: "exit",
+    },
+    Game {
+        name: "all levers, line 2",
+        is_ordinary: false,
+        driver: "i0 i1 i2 i3 i4 i5 i6 i7",
+        condition: "node(2)",
+    },
+];
+
+fn time_game(program: &[u8], game: &Game) -> [f64; 2] {
+    let (driver, condition) = (game.driver.as_bytes(), game.condition.as_bytes());
+    let (mut table, mut table_2) = ([0; TABLE_WORDS], [0; TABLE_WORDS]);
+    let (mut number, mut arm) = ([UNFORCED; STATEMENTS], [0; STATEMENTS]);
+    let times = medians(
+        TIMES,
+        [&mut || force(program, driver, condition, &mut table).is_ok(), &mut || {
+            tuned::force(program, driver, condition, &mut table_2, &mut number, &mut arm).is_ok()
+        }],
+    );
+    let answer = force(program, driver, condition, &mut table).expect("the game is taken");
+    assert!(table == table_2 && answer.number == number && answer.arm == arm);
+    times
+}
+
+/// A chain of `if`s, each of which goes to the next line or back to itself.
+fn chain(size: usize) -> Vec<u8> {
+    let inner = |n: usize| format!("if i{} goto {} else {}", n % 2 * 2, n + 1, n);
+    let lines: Vec<String> = (2..size).map(inner).collect();
+    let lines: Vec<&str> = lines.iter().map(String::as_str).collect();
+    text(&[&["read i0"], &lines[..], &["write i3"]].concat())
+}
+
+fn print_games(worst: &mut Worst) {
+    print_heading(
+        "What a driver can force, reading included, in microseconds; tuned by a queue",
+        "     forced",
+    );
+    let chain = Flow { name: "chain of ifs", is_ordinary: false, program: chain };
+    for flow in FLOWS.iter().chain([&chain]) {
+        for game in &GAMES {
+            for size in [16, 64, 256] {
+                let program = (flow.program)(size);
+                let name = format!("{}, {}, {}", flow.name, game.name, size);
+                let (driver, condition) = (game.driver.as_bytes(), game.condition.as_bytes());
+                let answer = force(&program, driver, condition, &mut [0; TABLE_WORDS]);
+                let numbers = answer.expect("the game is taken").number;
+                let forced = numbers.iter().filter(|&&number| number != UNFORCED).count();
+                let ratio = print_line(&name, time_game(&program, game), &format!("{forced:>11}"));
+                let is_ordinary = flow.is_ordinary && game.is_ordinary;
+                worst.meet(is_ordinary, ratio, format!("force, {}", name));
+            }
+        }
+    }
+}
+
 // Marks
 
 fn time_judging(program: &[u8], marks: &[u8]) -> [f64; 3] {
@@ -448,6 +521,7 @@ fn main() {
     print_tables(&mut worst);
     print_table_growth(&mut worst);
     print_reviews(&mut worst);
+    print_games(&mut worst);
     print_judging(&mut worst);
     print_reports(&mut worst);
     println!("\nlargest ratio, ordinary inputs:    {:.2} ({})", worst.ordinary.0, worst.ordinary.1);

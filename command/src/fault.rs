@@ -52,6 +52,7 @@ fn whose(refusal: Refusal) -> &'static str {
         Refusal::ConditionLength | Refusal::ConditionMisspelled | Refusal::ConditionParts => {
             "the author of the condition"
         }
+        Refusal::Driver => "the author of the driver's list",
         Refusal::ReviewLines | Refusal::ReviewParts => "the author of the review",
         Refusal::MarkMisspelled | Refusal::MarkCount => "the optimiser",
     }
@@ -83,6 +84,7 @@ fn expected(refusal: Refusal, text: &[u8]) -> String {
             "`!p`, `(p & q)`, `(p | q)`, `EX p` and the like, `E[p U q]` and the like, or an atom"
         }
         Refusal::ConditionParts => "at most 64 parts",
+        Refusal::Driver => "variables, `i0` to `i31`, with single spaces between, none twice, or nothing",
         Refusal::ReviewLines => "1 to 32 lines",
         Refusal::ReviewParts => "at most 128 differing parts",
         Refusal::MarkMisspelled => {
@@ -108,6 +110,8 @@ impl Fault {
             }
             (Refusal::ConditionLength, _) => Some(grouped(bytes.len()) + " bytes"),
             (Refusal::Budget | Refusal::ConditionMisspelled, _) => Some(quoted(bytes)),
+            // A byte 10 at the end of a list is shown: it is what is wrong with it.
+            (Refusal::Driver, _) => Some(quoted(&[bytes, &b"\n"[..]].concat())),
             _ => None,
         };
         Fault {

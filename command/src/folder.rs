@@ -5,8 +5,10 @@ use crate::files::{self, shown, Text, Unread};
 use crate::output::{reason, Output, Unwritten};
 use crate::status::Status;
 use serde::Serialize;
+use std::ffi::OsString;
 use std::fs;
 use std::io::ErrorKind;
+use std::os::unix::ffi::OsStrExt;
 use std::path::Path;
 
 pub struct Folder<'a> {
@@ -55,6 +57,18 @@ impl<'a> Folder<'a> {
             Ok(bytes) => Some(Text { name: shown(&path), bytes }),
             Err(why) => self.unread(&path, &why),
         }
+    }
+
+    /// The text of an option, or that of the file of its name, without a byte 10 at its end.
+    pub fn option_or_bare(&mut self, option: &Option<OsString>, file: &str) -> Option<Text> {
+        if let Some(text) = option {
+            return Some(Text { name: format!("--{file}"), bytes: text.as_bytes().to_vec() });
+        }
+        let mut text = self.read(file)?;
+        if text.bytes.ends_with(b"\n") {
+            text.bytes.pop();
+        }
+        Some(text)
     }
 
     /// A file of the folder, or none where there is none.

@@ -8,6 +8,7 @@ mod check;
 mod fault;
 mod files;
 mod folder;
+mod force;
 mod lines;
 mod marks;
 mod output;
@@ -36,7 +37,8 @@ Exit status:
   3  output that wasn't written
 Of many folders the worst is told.";
 
-/// Shift programs: judges marks, tabulates and reviews conditions, runs, and finds the lines of marks
+/// Shift programs: judges marks, tabulates and reviews conditions, runs, finds what a driver can force,
+/// and the lines of marks
 #[derive(Parser)]
 #[command(name = "rewrites", version, after_help = STATUSES)]
 struct Arguments {
@@ -55,6 +57,9 @@ enum Call {
     /// Show at which statements each condition of a review is true
     #[command(after_help = STATUSES)]
     Review(review::Arguments),
+    /// Show what a driver can force, however the unit answers
+    #[command(after_help = STATUSES)]
+    Force(force::Arguments),
     /// Run a program from a start
     #[command(after_help = STATUSES)]
     Run(run::Arguments),
@@ -67,7 +72,9 @@ enum Call {
 fn wrong(arguments: &Arguments) -> Option<clap::Error> {
     let (name, words) = match &arguments.call {
         Call::Check(check) => ("check", check.wrong()?),
-        Call::Tabulate(_) | Call::Review(_) | Call::Run(_) | Call::Lines(_) => return None,
+        Call::Tabulate(_) | Call::Review(_) | Call::Force(_) | Call::Run(_) | Call::Lines(_) => {
+            return None
+        }
     };
     let mut command = Arguments::command();
     command.build();
@@ -97,6 +104,7 @@ fn answered(output: &mut Output) -> Result<Status, Unwritten> {
         Call::Check(call) => call.run(output),
         Call::Tabulate(call) => call.run(output),
         Call::Review(call) => call.run(output),
+        Call::Force(call) => call.run(output),
         Call::Run(call) => call.run(output),
         Call::Lines(call) => call.run(output),
     }

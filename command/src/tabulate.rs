@@ -2,7 +2,6 @@
 
 use crate::blame::lines;
 use crate::fault::Fault;
-use crate::files::Text;
 use crate::folder::Folder;
 use crate::output::{Output, Unwritten};
 use crate::parts;
@@ -11,7 +10,6 @@ use clap::Args;
 use rewrites::{Refusal, PART_WORDS, TABLE_WORDS};
 use serde::Serialize;
 use std::ffi::OsString;
-use std::os::unix::ffi::OsStrExt;
 use std::path::PathBuf;
 
 #[derive(Args)]
@@ -88,25 +86,10 @@ impl Answer {
 }
 
 impl Arguments {
-    /// The condition: the option's, or the file's without a byte 10 at its end.
-    fn condition(&self, folder: &mut Folder) -> Option<Text> {
-        match &self.condition {
-            Some(text) => {
-                Some(Text { name: "--condition".to_string(), bytes: text.as_bytes().to_vec() })
-            }
-            None => folder.read("condition").map(|mut text| {
-                if text.bytes.ends_with(b"\n") {
-                    text.bytes.pop();
-                }
-                text
-            }),
-        }
-    }
-
     fn tabulate(&self, folder: &mut Folder) -> Option<Answer> {
         folder.is_there("a program in `given` and a condition in `condition`")?;
         let given = folder.read("given")?;
-        let condition = self.condition(folder)?;
+        let condition = folder.option_or_bare(&self.condition, "condition")?;
         let mut table = [0; TABLE_WORDS];
         match rewrites::tabulate(&given.bytes, &condition.bytes, &mut table) {
             Ok(answer) => {

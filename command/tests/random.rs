@@ -22,14 +22,14 @@ use std::path::Path;
 const CASES: u64 = 3_000;
 
 #[rustfmt::skip]
-const WORDS: [&str; 32] = [
-    "check", "tabulate", "review", "run", "lines", "help", ".", "a", "nowhere", "given", "--json", "--text", "--explain",
-    "-o", "new", "--output=new", "-onew", "--condition", "E[", "--input", "-1", "2147483648", "--budget",
+const WORDS: [&str; 35] = [
+    "check", "tabulate", "review", "force", "run", "lines", "help", ".", "a", "nowhere", "given", "--json", "--text", "--explain",
+    "-o", "new", "--output=new", "-onew", "--condition", "E[", "--driver", "i0 i1", "--input", "-1", "2147483648", "--budget",
     "1000001", "--set", "--set=i32=1", "--", "-", "--help", "-V", "-x", "",
 ];
 
 /// The options of each call, some of them such that they are refused.
-const OPTIONS: [(&str, &[&[&str]]); 5] = [
+const OPTIONS: [(&str, &[&[&str]]); 6] = [
     (
         "check",
         &[&["--json"], &["--explain"], &["--text"], &["."], &["a"], &["nowhere"], &["-o", "new"]],
@@ -44,6 +44,17 @@ const OPTIONS: [(&str, &[&[&str]]); 5] = [
         ],
     ),
     ("review", &[&["--json"]]),
+    (
+        "force",
+        &[
+            &["--json"],
+            &["--driver", "i0 i3"],
+            &["--driver="],
+            &["--driver", "i0 i0"],
+            &["--condition", "exit"],
+            &["--condition", "E["],
+        ],
+    ),
     (
         "run",
         &[
@@ -99,12 +110,14 @@ fn fill(random: &mut Random, base: &Path) {
     let condition = random_folder::condition(random, &program);
     let conditions = random_folder::conditions(random, &program);
     let start = random_folder::start(random);
+    let driver = random_folder::driver(random, &program);
     for (name, content) in [
         ("given", given),
         ("marks", list),
         ("condition", condition),
         ("conditions", conditions),
         ("start", start),
+        ("driver", driver),
     ] {
         let path = base.join(name);
         let content = match random.below(60) {

@@ -14,6 +14,8 @@ PRICES = {"before", "after"}
 TICKS = {"given", "rewritten", "saved"}
 MARK = {"line", "mark", "statement", "verdict", "name", "words", "condition"}
 TABULATE = {"condition", "statements", "parts", "satisfied", "first", "table"}
+FORCE = {"driver", "condition", "parts", "satisfied", "first", "forced", "statements"}
+PLACE = {"statement", "text", "player", "number", "arm"}
 ROW = {"part", "text", "satisfied", "statements"}
 REVIEW = {"statements", "tables", "lines", "conditions"}
 CONDITION = {"line", "condition", "table", "parts", "satisfied", "first", "statements"}
@@ -106,6 +108,25 @@ def review(thing):
     return text + "tables {tables} lines {lines}\n".format(**thing)
 
 
+def force(thing):
+    has(thing, REPORT | FORCE)
+    text = ""
+    for at, place in enumerate(thing["statements"]):
+        has(place, PLACE)
+        assert place["statement"] == at + 1
+        assert (place["player"] is None) == (not place["text"].startswith("if "))
+        assert place["player"] in (None, "driver", "unit") and place["arm"] in (None, "goto", "else")
+        assert place["arm"] is None or (place["player"] == "driver") == (place["number"] is not None)
+        if place["player"] is not None:
+            assert (place["player"] == "driver") == (place["text"].split(" ")[1] in thing["driver"])
+        number = "-" if place["number"] is None else str(place["number"])
+        line = "%3d  %-32s  %-6s  %3s" % (at + 1, place["text"], place["player"] or "", number)
+        text += line + ("" if place["arm"] is None else "  " + place["arm"]) + "\n"
+    assert thing["forced"] == sum(place["number"] is not None for place in thing["statements"])
+    assert thing["satisfied"] == sum(place["number"] == 0 for place in thing["statements"])
+    return text + "parts {parts} satisfied {satisfied} first {first} forced {forced}\n".format(**thing)
+
+
 def run(thing):
     assert len(thing["values"]) == 32 and all(map(whole, thing["values"]))
     if thing["outcome"] == "ended":
@@ -161,11 +182,13 @@ def told(thing):
         assert thing["status"] != 0
         return refused
     assert refused == ""
-    return {"check": check, "tabulate": tabulate, "review": review, "run": run, "lines": lines}[thing["call"]](thing)
+    return {"check": check, "tabulate": tabulate, "review": review, "force": force, "run": run, "lines": lines}[thing["call"]](thing)
 
 
 described = pathlib.Path(__file__).parents[2].joinpath("docs/REFERENCE.md").read_text()
-for names in (VERDICTS, FAULT, REPORT, TOTAL, CHECK, PRICES, TICKS, MARK, TABULATE, ROW, REVIEW, CONDITION, ENDED, SPENT, FAULTED, LINES, LINE):
+for names in (
+    VERDICTS, FAULT, REPORT, TOTAL, CHECK, PRICES, TICKS, MARK, TABULATE, ROW, REVIEW, CONDITION, FORCE, PLACE, ENDED, SPENT, FAULTED, LINES, LINE
+):
     for name in names:
         assert "`%s`" % name in described, name
 

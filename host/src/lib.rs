@@ -67,6 +67,19 @@
 //! assert_eq!(answer.first[..2], [1, 3]);
 //! ```
 //!
+//! A driver picks the arm at each `if` on a variable of his, and the unit at all others. Can he force a
+//! condition, however the unit answers, and within how many steps?
+//!
+//! ```
+//! use rewrites::{force, Arm, TABLE_WORDS};
+//!
+//! // He holds the lever i0, the unit tests i1: from statement 2 he gets to the end in two steps.
+//! let program = b"read i0\nif i0 goto 4 else 3\nif i1 goto 2 else 2\nskip\nwrite i0\n";
+//! let answer = force(program, b"i0", b"exit", &mut [0; TABLE_WORDS]).unwrap();
+//! assert_eq!(answer.number[..5], [3, 2, 3, 1, 0]);
+//! assert_eq!(answer.arm_at(2), Some(Arm::Goto));
+//! ```
+//!
 //! A mark proposes to drop an assignment, to put a copied variable or a constant in place of a
 //! variable that is used, or to put a variable in place of a right side whose value it holds already.
 //! Each mark is judged by a condition. The accepted ones are made, and runs of the two programs answer
@@ -133,6 +146,9 @@ pub const REVIEW_WORDS: usize = 512;
 
 /// The most lines of a review.
 pub const REVIEW_LINES: usize = 32;
+
+/// What stands in [`Forced::number`] where the driver can't force the condition.
+pub const UNFORCED: u32 = u32::MAX;
 
 /// The bytes that there must be for verdicts: one for each of the most marks.
 pub const VERDICT_BYTES: usize = 256;
@@ -213,6 +229,52 @@ pub struct Reviewed {
     pub satisfied: [u32; REVIEW_LINES],
     /// The first of them, numbered from 1; 0 if none.
     pub first: [u32; REVIEW_LINES],
+}
+
+/// An arm of an `if`.
+#[derive(Clone, Copy, Debug, PartialEq, Eq, Hash)]
+#[repr(u8)]
+pub enum Arm {
+    /// That behind `goto`.
+    Goto = 1,
+    /// That behind `else`.
+    Else = 2,
+}
+
+/// What a driver can force, beside the table. Entry k of an array is that of statement k + 1; of entries
+/// past the statements those of `number` are [`UNFORCED`], those of `arm` 0.
+#[derive(Clone, Copy, Debug, PartialEq, Eq)]
+pub struct Forced {
+    /// The number of parts of the condition, 1 to 64.
+    pub parts: u32,
+    /// How many statements satisfy it.
+    pub satisfied: u32,
+    /// The first of them, numbered from 1; 0 if none.
+    pub first: u32,
+    /// The least number of steps within which the driver can be sure of the condition, however the unit
+    /// answers, 0 where it is true already; [`UNFORCED`] where the unit can avoid it for ever.
+    pub number: [u32; STATEMENTS],
+    /// The arm that does so, as the number of [`Arm`]: the driver's where he can force the condition and
+    /// it isn't true yet, the unit's where it can avoid it; else 0.
+    pub arm: [u8; STATEMENTS],
+}
+
+impl Forced {
+    /// The least number of steps from a statement, counted from 1, if the driver can force the condition.
+    pub fn number_at(&self, statement: u32) -> Option<u32> {
+        let at = usize::try_from(statement).ok()?.checked_sub(1)?;
+        self.number.get(at).copied().filter(|&number| number != UNFORCED)
+    }
+
+    /// The arm that is told of a statement, counted from 1.
+    pub fn arm_at(&self, statement: u32) -> Option<Arm> {
+        let at = usize::try_from(statement).ok()?.checked_sub(1)?;
+        match self.arm.get(at) {
+            Some(1) => Some(Arm::Goto),
+            Some(2) => Some(Arm::Else),
+            _ => None,
+        }
+    }
 }
 
 /// What the judging of a list of marks answers beside the verdicts and the new text.
@@ -326,6 +388,8 @@ pub enum Refusal {
     Placement = 4,
     /// A target of an `if` is 0, 1 or above the count of statements.
     Target = 5,
+    /// A driver's list isn't variables with single spaces between, or names one twice.
+    Driver = 22,
     /// A review has no line, or over [`REVIEW_LINES`] lines.
     ReviewLines = 16,
     /// The condition, or a line of a review, is longer than 1,024 bytes.
@@ -344,13 +408,14 @@ pub enum Refusal {
 
 impl Refusal {
     /// Every refusal, in the order in which they apply.
-    pub const ALL: [Refusal; 13] = [
+    pub const ALL: [Refusal; 14] = [
         Refusal::Buffer,
         Refusal::Budget,
         Refusal::Misspelled,
         Refusal::LineCount,
         Refusal::Placement,
         Refusal::Target,
+        Refusal::Driver,
         Refusal::ReviewLines,
         Refusal::ConditionLength,
         Refusal::ConditionMisspelled,
@@ -386,6 +451,7 @@ impl fmt::Display for Refusal {
             Refusal::LineCount => "under 2 or over 256 lines",
             Refusal::Placement => "`read` or `write` missing from its place or standing elsewhere",
             Refusal::Target => "a target outside 2 to N",
+            Refusal::Driver => "a misspelled or repeated variable of the driver",
             Refusal::ReviewLines => "no line or over 32 lines of a review",
             Refusal::ConditionLength => "condition longer than 1,024 bytes",
             Refusal::ConditionMisspelled => "condition misspelled",
@@ -625,6 +691,79 @@ pub fn review(program: &[u8], conditions: &[u8], table: &mut [u64]) -> Result<Re
         return Err(Refusal::returned(number));
     }
     Ok(reviewed)
+}
+
+/// Tells what a driver can force on a program. The list, empty or with single spaces between, names the
+/// variables that are his: at an `if` on one of them he picks the arm, at every other the unit does,
+/// without regard to values.
+///
+/// For each statement the answer has the least number of steps within which he can bring about the
+/// condition, however the unit answers: he has a way to pick arms such that every run that keeps to it
+/// has met the condition by then, and none for a smaller number. From every other statement the unit
+/// has a way to avoid the condition for ever. [`Forced::arm`] has the arms of both: at his `if` that from
+/// which the number is lower, or the only one that has a number; at the unit's one from which he can't
+/// force it either; the one behind `goto` where both serve alike. `write` stays where it is.
+///
+/// The table is filled as by [`tabulate`]. Takes at most 256 KiB of stack, most where brackets stand
+/// within one another.
+///
+/// # Errors
+///
+/// [`Refusal::Buffer`] for a table of under [`TABLE_WORDS`] words, whatever the texts hold; else, for
+/// the program, [`Refusal::Misspelled`], [`Refusal::LineCount`], [`Refusal::Placement`] or
+/// [`Refusal::Target`]; else [`Refusal::Driver`] for the list; else, for the condition,
+/// [`Refusal::ConditionLength`], [`Refusal::ConditionMisspelled`] or [`Refusal::ConditionParts`]. The
+/// table is then kept.
+///
+/// ```
+/// use rewrites::{force, Arm, Refusal, TABLE_WORDS, UNFORCED};
+///
+/// // A loop that goes round while i0 isn't 0.
+/// let program = b"read i0\ni0 := i0 - 1\nif i0 goto 2 else 4\nwrite i0\n";
+/// let mut table = [0; TABLE_WORDS];
+///
+/// // If i0 is the driver's he leaves it; if not, the unit can go round for ever.
+/// let answer = force(program, b"i0", b"exit", &mut table)?;
+/// assert_eq!(answer.number[..4], [3, 2, 1, 0]);
+/// assert_eq!(answer.arm_at(3), Some(Arm::Else));
+/// let answer = force(program, b"", b"exit", &mut table)?;
+/// assert_eq!(answer.number[..4], [UNFORCED, UNFORCED, UNFORCED, 0]);
+/// assert_eq!((answer.number_at(3), answer.arm_at(3)), (None, Some(Arm::Goto)));
+///
+/// assert_eq!(force(program, b"i0 i0", b"exit", &mut table), Err(Refusal::Driver));
+/// # Ok::<(), Refusal>(())
+/// ```
+pub fn force(
+    program: &[u8],
+    driver: &[u8],
+    condition: &[u8],
+    table: &mut [u64],
+) -> Result<Forced, Refusal> {
+    let (number, arm) = ([UNFORCED; STATEMENTS], [0; STATEMENTS]);
+    let mut forced = Forced { parts: 0, satisfied: 0, first: 0, number, arm };
+    // SAFETY: the pointers come from references, so none is null, and those that are written
+    // through are the only ones to their places.
+    let number = unsafe {
+        raw::rewrites_force(
+            program.as_ptr(),
+            program.len(),
+            driver.as_ptr(),
+            driver.len(),
+            condition.as_ptr(),
+            condition.len(),
+            table.as_mut_ptr(),
+            table.len(),
+            &mut forced.parts,
+            &mut forced.satisfied,
+            &mut forced.first,
+            &mut forced.number,
+            &mut forced.arm,
+        )
+    };
+    if number != 0 {
+        return Err(Refusal::returned(number));
+    }
+    Ok(forced)
 }
 
 /// Judges each mark of a list on a program, and writes the program with the accepted marks made.

@@ -65,6 +65,29 @@ extern "C" {
         first: *mut [u32; REVIEW_LINES],
     ) -> u8;
 
+    /// See [`crate::force`] and the header.
+    ///
+    /// # Safety
+    ///
+    /// `program` points to `program_len` bytes, `driver` to `driver_len` bytes, `condition` to
+    /// `condition_len` bytes and `table` to `table_len` words; each of them may be null where its length
+    /// is 0. No other pointer is null. Places that the call writes overlap no other place lent to it.
+    pub fn rewrites_force(
+        program: *const u8,
+        program_len: usize,
+        driver: *const u8,
+        driver_len: usize,
+        condition: *const u8,
+        condition_len: usize,
+        table: *mut u64,
+        table_len: usize,
+        parts: *mut u32,
+        satisfied: *mut u32,
+        first: *mut u32,
+        number: *mut [u32; STATEMENTS],
+        arm: *mut [u8; STATEMENTS],
+    ) -> u8;
+
     /// See [`crate::judge`] and the header.
     ///
     /// # Safety

@@ -13,7 +13,8 @@ use common::{option, P};
 use coverage::Tally;
 use lent::{Lent, Text};
 use oracle::condition::{self, Atom, Condition, Demand, Direction, Part, Quantifier};
-use oracle::generate::{self, Damage, Random, WrongReuse, WrongSign};
+use oracle::forcing::{self, player, Arm, Forced, Player};
+use oracle::generate::{self, Damage, Random, WrongDriver, WrongReuse, WrongSign};
 use oracle::liveness::{differing, Liveness};
 use oracle::machine::{self, kept_of, Outcome, Run, State, Values};
 use oracle::marks::{self, Judge, Kind, Mark};
@@ -21,7 +22,8 @@ use oracle::pricing::{self, kind, KIND_NAMES};
 use oracle::program::{is_kept, Expression, Operand, Operator, Program, Statement, LARGEST, LEAST};
 use oracle::review::{self, Reviewed, MOST_TABLES};
 use rewrites::{raw, FIRST_KEPT, KEPT, MOST_STEPS, VARIABLES};
-use rewrites::{REVIEW_LINES, REVIEW_WORDS, STATEMENTS, TABLE_WORDS, TEXT_BYTES, VERDICT_BYTES};
+use rewrites::{REVIEW_LINES, REVIEW_WORDS, STATEMENTS, TABLE_WORDS, TEXT_BYTES};
+use rewrites::{UNFORCED, VERDICT_BYTES};
 use std::ops::Range;
 
 const CASES: u64 = 100_000;
@@ -1734,6 +1736,240 @@ fn cheaper_kind(mark: &str, kind: &str) -> &'static str {
     class.unwrap_or_else(|| panic!("{mark} of {kind} changed a price"))
 }
 
+// Games
+
+/// The places that a game sets, with kept words between them.
+const GAME_PARTS: usize = 0;
+const GAME_SATISFIED: usize = 2;
+const GAME_FIRST: usize = 4;
+const NUMBER: usize = 6;
+const GAME_PLACES: usize = NUMBER + STATEMENTS;
+
+/// Holds a game to the oracle's, and tells its answer.
+fn game_agrees(
+    random: &mut Random,
+    case: &str,
+    program: &[u8],
+    driver: &[u8],
+    condition: &[u8],
+    room: usize,
+) -> Result<Forced, u8> {
+    let (mut given, mut asked) = (Text::new(random, program), Text::new(random, condition));
+    let mut list = Text::new(random, driver);
+    let mut table = Lent::new(random, room, |bits| bits);
+    let mut places = Lent::new(random, GAME_PLACES, |bits| bits as u32);
+    let mut arms = Lent::new(random, STATEMENTS, |bits| bits as u8);
+    let (mut expected, mut expected_places) = (table.clone(), places.clone());
+    let mut expected_arms = arms.clone();
+    let wanted = forcing::force(program, driver, condition, expected.part());
+    if let Ok(forced) = &wanted {
+        let places = expected_places.part();
+        places[GAME_PARTS] = forced.parts;
+        places[GAME_SATISFIED] = forced.satisfied;
+        places[GAME_FIRST] = forced.first;
+        for (at, number) in forced.number.iter().enumerate() {
+            places[NUMBER + at] = number.unwrap_or(UNFORCED);
+            expected_arms.part()[at] = Arm::number(forced.arm[at]);
+        }
+    }
+    let shown = || {
+        let (program, driver) = (escaped(program), escaped(driver));
+        let condition = escaped(condition);
+        format!("case {case}: table of {room} words program {program} driver {driver} condition {condition}")
+    };
+    let (program, driver, condition) = (given.part(), list.part(), asked.part());
+    let (words, set) = (table.part(), places.part().as_mut_ptr());
+    // SAFETY: the pointers come from references, and no two of the written places overlap.
+    let number = unsafe {
+        raw::rewrites_force(
+            program.as_ptr(),
+            program.len(),
+            driver.as_ptr(),
+            driver.len(),
+            condition.as_ptr(),
+            condition.len(),
+            words.as_mut_ptr(),
+            words.len(),
+            set.add(GAME_PARTS),
+            set.add(GAME_SATISFIED),
+            set.add(GAME_FIRST),
+            set.add(NUMBER).cast(),
+            arms.part().as_mut_ptr().cast(),
+        )
+    };
+    assert_eq!(number, wanted.as_ref().err().copied().unwrap_or(0), "number of {}", shown());
+    table.assert_same(&expected, "table", shown);
+    places.assert_same(&expected_places, "places", shown);
+    arms.assert_same(&expected_arms, "arms", shown);
+    given.assert_kept("program", shown);
+    list.assert_kept("driver", shown);
+    asked.assert_kept("condition", shown);
+    wanted
+}
+
+#[rustfmt::skip]
+const GAME_IFS: [&str; 15] = [
+    "driver's, goto by a lower number", "driver's, else by a lower number", "driver's, a tie", "driver's, equal targets",
+    "driver's, only goto", "driver's, only else", "driver's, met", "driver's, lost",
+    "unit's, both arms avoid", "unit's, only goto avoids", "unit's, only else avoids", "unit's, equal targets",
+    "unit's, won by the driver", "unit's, met", "unit's, arms of different numbers",
+];
+
+/// What is told of an `if`, by whose it is and by the numbers of its arms.
+fn game_if(program: &Program, his: &[u8], forced: &Forced, at: usize) -> Vec<&'static str> {
+    let statement = &program.statements()[at];
+    let (then, other) = match *statement {
+        Statement::Branch { then, other, .. } => (then as usize - 1, other as usize - 1),
+        _ => return Vec::new(),
+    };
+    let (n, m) = (forced.number[then], forced.number[other]);
+    match (player(statement, his), forced.number[at]) {
+        (Some(Player::Driver), Some(0)) => vec!["driver's, met"],
+        (Some(Player::Driver), None) => vec!["driver's, lost"],
+        (Some(Player::Driver), _) if then == other => vec!["driver's, equal targets"],
+        (Some(Player::Driver), _) => match (n, m) {
+            (Some(n), Some(m)) if n == m => vec!["driver's, a tie"],
+            (Some(n), Some(m)) if n < m => vec!["driver's, goto by a lower number"],
+            (Some(_), Some(_)) => vec!["driver's, else by a lower number"],
+            (Some(_), None) => vec!["driver's, only goto"],
+            _ => vec!["driver's, only else"],
+        },
+        (_, Some(0)) => vec!["unit's, met"],
+        (_, Some(_)) if n != m => {
+            vec!["unit's, won by the driver", "unit's, arms of different numbers"]
+        }
+        (_, Some(_)) => vec!["unit's, won by the driver"],
+        (_, None) if then == other => vec!["unit's, equal targets"],
+        (_, None) => match (n, m) {
+            (None, None) => vec!["unit's, both arms avoid"],
+            (None, _) => vec!["unit's, only goto avoids"],
+            _ => vec!["unit's, only else avoids"],
+        },
+    }
+}
+
+#[test]
+fn games_are_as_by_the_oracle() {
+    let mut refusals = Tally::new("refusals of force", [1, 2, 3, 4, 5, 22, 6, 7, 8]);
+    let mut sizes = Tally::new("sizes of programs played", 2..=256);
+    let mut names = Tally::new("names of a list", 0..=32);
+    let mut wrong_lists = Tally::new("wrong lists", WrongDriver::ALL.map(Shown));
+    let mut before_7 = Tally::new("wrong lists before a misspelled condition", [22]);
+    let mut numbers = Tally::new("numbers", 0..=40);
+    let mut largest = Tally::new("numbers of size", ["255", "over 100", "N - 1"]);
+    let mut ifs = Tally::new("ifs", GAME_IFS);
+    let mut wins = Tally::new("statements forced", ["none", "some", "all"]);
+    let mut rooms = rooms("words of a table of a game", TABLE_WORDS);
+    let mut of_programs = damages("damages of programs played");
+    let mut of_lists = damages("damages of driver's lists");
+    let mut of_conditions = damages("damages of goals");
+    for (case, mut random) in cases("force") {
+        let random = &mut random;
+        let size = in_turn(case, EACH_SIZE, 2..=256).unwrap_or_else(|| generate::size(random));
+        let program = match random.below(8) {
+            0 | 1 => generate::program(random, size),
+            // A chain, at times with an `if` in it.
+            2 => chain(random, size),
+            _ => generate::game(random, size),
+        };
+        let mut text = program.text();
+        let his = generate::driver(random, &program);
+        let mut driver = generate::driver_text(&his);
+        let mut condition = generate::goal(random, &program);
+        let (mut words, mut wrong) = (TABLE_WORDS + random.below(3), None);
+        if !is_whole(case) {
+            match random.below(40) {
+                0..=3 => damaged(random, &mut text, &mut of_programs),
+                4 => text = generate::statement_soup(random),
+                _ => {}
+            }
+            match random.below(20) {
+                0 => damaged(random, &mut driver, &mut of_lists),
+                1..=3 => {
+                    let kind = random.pick(&WrongDriver::ALL);
+                    driver = generate::wrong_driver(random, kind, &his);
+                    wrong = Some(kind);
+                }
+                _ => {}
+            }
+            match random.below(20) {
+                0 | 1 => damaged(random, &mut condition, &mut of_conditions),
+                2 => condition = condition_text(random, &program),
+                _ => {}
+            }
+            words = room(random, TABLE_WORDS);
+        }
+        rooms.met(words);
+        let answer = game_agrees(random, &case.to_string(), &text, &driver, &condition, words);
+        if let Some(wrong) = wrong.filter(|_| answer == Err(22)) {
+            wrong_lists.met(Shown(wrong));
+            if Condition::read(&condition) == Err(7) {
+                before_7.met(22);
+            }
+        }
+        match answer {
+            Err(number) => refusals.met(number),
+            Ok(forced) => {
+                let program = Program::read(&text).expect("a program that was played is taken");
+                let his = forcing::names(&driver).expect("its list is taken");
+                let count = forced.number.len();
+                sizes.met(program.count());
+                names.met(his.len());
+                for at in 0..count {
+                    game_if(&program, &his, &forced, at).into_iter().for_each(|kind| ifs.met(kind));
+                    if let Some(number) = forced.number[at] {
+                        numbers.met(number);
+                        if number == 255 {
+                            largest.met("255");
+                        }
+                        if number > 100 {
+                            largest.met("over 100");
+                        }
+                        if number as usize == count - 1 {
+                            largest.met("N - 1");
+                        }
+                    }
+                }
+                wins.met(match forced.number.iter().flatten().count() {
+                    0 => "none",
+                    won if won == count => "all",
+                    _ => "some",
+                });
+            }
+        }
+    }
+    refusals.report();
+    sizes.report();
+    names.report();
+    wrong_lists.report();
+    before_7.report();
+    numbers.report();
+    largest.report();
+    ifs.report();
+    wins.report();
+    rooms.report();
+    of_programs.report();
+    of_lists.report();
+    of_conditions.report();
+}
+
+/// `skip`s in a row, or `if`s each of which goes on or to a place before.
+fn chain(random: &mut Random, size: usize) -> Program {
+    let percent = random.pick(&[0, 0, 10, 100]);
+    let mut lines = vec![Statement::Read(0)];
+    for at in 2..size {
+        let (next, back) = (at as u32 + 1, random.between(2, at) as u32);
+        let (then, other) = if random.chance(50) { (next, back) } else { (back, next) };
+        lines.push(if random.chance(percent) {
+            Statement::Branch { tested: random.below(2) as u8, then, other }
+        } else {
+            Statement::Skip
+        });
+    }
+    lines.push(Statement::Write(0));
+    Program::new(lines).expect("a chain is taken")
+}
+
 // Lines of marks
 
 /// The places that the call sets, with kept words between them.
@@ -2101,6 +2337,20 @@ fn programs_edited_by_one_byte_are_as_by_the_oracle() {
     for text in edits(EACH_KIND).chain(edits(BELOW_ZERO)).chain(edits(DIVIDING)) {
         numbers.met(run_agrees(random, "edit", &text, 5, 20).err().unwrap_or(0));
         let _ = report_agrees(random, "edit", &text, b"2: mark(rm, i1, i0)\n");
+    }
+    numbers.report();
+}
+
+#[test]
+fn lists_edited_by_one_byte_are_as_by_the_oracle() {
+    let random = &mut Random::new(10);
+    let mut numbers = Tally::new("answers to edited lists", [0, 22]);
+    for list in [&b"i0 i31"[..], b"i1", b"i2 i20 i0", b""] {
+        for driver in edits(list) {
+            let answer =
+                game_agrees(random, "edit", P.as_bytes(), &driver, b"use(i2)", TABLE_WORDS);
+            numbers.met(answer.err().unwrap_or(0));
+        }
     }
     numbers.report();
 }

@@ -276,6 +276,51 @@ static int tabulate_answers(void) {
     return 0;
 }
 
+/* What a driver can force on P, by i0 and by nothing. */
+static int force_answers(void) {
+    uint8_t (*const force)(const uint8_t *, size_t, const uint8_t *, size_t, const uint8_t *, size_t,
+                           uint64_t *, size_t, uint32_t *, uint32_t *, uint32_t *, uint32_t *,
+                           uint8_t *) = rewrites_force;
+    static const char lever[] = "i0", wrong[] = "i0 i0", end[] = "exit", rubbish[] = "rubbish";
+    static const uint32_t numbers[8] = {5, 4, 3, 2, 1, 2, 1, 0};
+    const uint8_t *p = (const uint8_t *)P, *d = (const uint8_t *)lever, *w = (const uint8_t *)wrong;
+    const uint8_t *c = (const uint8_t *)end, *r = (const uint8_t *)rubbish;
+    const size_t length = strlen(P);
+    /* The arrays, with an entry on both sides of each. */
+    uint32_t places[258], *const number = places + 1, parts = 11, satisfied = 12, first = 13;
+    uint8_t marks[258], *const arm = marks + 1;
+    uint64_t table[260];
+    size_t k;
+
+    for (k = 0; k < 258; k++) places[k] = 0xa5c30000 + (uint32_t)k;
+    for (k = 0; k < 258; k++) marks[k] = (uint8_t)(3 + k % 200);
+    for (k = 0; k < 260; k++) table[k] = 14 + k;
+    CHECK(force(p, 0, w, 5, r, 7, table, 255, &parts, &satisfied, &first, number, arm) == 1);
+    CHECK(force(p, length - 1, w, 5, r, 7, table, 256, &parts, &satisfied, &first, number, arm) == 2);
+    CHECK(force(NULL, 0, NULL, 0, NULL, 0, NULL, 0, &parts, &satisfied, &first, number, arm) == 1);
+    CHECK(force(NULL, 0, NULL, 0, NULL, 0, table, 256, &parts, &satisfied, &first, number, arm) == 3);
+    CHECK(force(p, length, w, 5, r, 7, table, 256, &parts, &satisfied, &first, number, arm) == 22);
+    CHECK(force(p, length, w, 3, c, 4, table, 256, &parts, &satisfied, &first, number, arm) == 22);
+    CHECK(force(p, length, NULL, 0, r, 7, table, 256, &parts, &satisfied, &first, number, arm) == 7);
+    CHECK(parts == 11 && satisfied == 12 && first == 13);
+    for (k = 0; k < 258; k++) CHECK(places[k] == 0xa5c30000 + k && marks[k] == 3 + k % 200);
+    for (k = 0; k < 260; k++) CHECK(table[k] == 14 + k);
+
+    CHECK(force(p, length, d, 2, c, 4, table, 256, &parts, &satisfied, &first, number, arm) == 0);
+    CHECK(parts == 1 && satisfied == 1 && first == 8 && table[0] == 128);
+    for (k = 1; k < 4; k++) CHECK(table[k] == 0);
+    for (k = 4; k < 260; k++) CHECK(table[k] == 14 + k);
+    for (k = 0; k < 8; k++) CHECK(number[k] == numbers[k]);
+    for (k = 0; k < 8; k++) CHECK(arm[k] == (k == 4 || k == 6 ? 2 : 0));
+    for (k = 9; k < 258; k++) CHECK(places[k] == 0xa5c30000 + k && marks[k] == 3 + k % 200);
+    CHECK(places[0] == 0xa5c30000 && marks[0] == 3);
+
+    CHECK(force(p, length, NULL, 0, c, 4, table, 256, &parts, &satisfied, &first, number, arm) == 0);
+    for (k = 0; k < 8; k++) CHECK(number[k] == (k == 7 ? 0 : 0xffffffff));
+    for (k = 0; k < 8; k++) CHECK(arm[k] == (k == 4 || k == 6 ? 1 : 0));
+    return 0;
+}
+
 /* Arrays of 32 entries with a marked word on both sides of each. */
 enum {
     TABLE_OF = 1,
@@ -491,6 +536,7 @@ static int mark_line_answers(void) {
 
 int main(void) {
     return run_answers() || kept_answers() || division_answers() || report_answers() || cse_answers() ||
-           tabulate_answers() || review_answers() || full_review_answers() || judge_answers() ||
+           tabulate_answers() || force_answers() || review_answers() || full_review_answers() ||
+           judge_answers() ||
            below_zero_answers() || mark_line_answers();
 }

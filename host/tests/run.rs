@@ -1572,6 +1572,7 @@ fn refusals_print_their_words() {
         (3, "under 2 or over 256 lines"),
         (4, "`read` or `write` missing from its place or standing elsewhere"),
         (5, "a target outside 2 to N"),
+        (22, "a misspelled or repeated variable of the driver"),
         (16, "no line or over 32 lines of a review"),
         (6, "condition longer than 1,024 bytes"),
         (7, "condition misspelled"),

@@ -1,6 +1,7 @@
 /* Prints how many bytes of stack the deepest calls take. Each runs in a thread whose stack was filled
    with a pattern before; what the thread alone overwrites is not counted. Exits with 0 where `run`,
-   `judge`, `tabulate`, `review`, `mark_line` and `report` take no more than the bytes given as arguments. */
+   `judge`, `tabulate`, `review`, `mark_line`, `report` and `force` take no more than the bytes given as
+   arguments. */
 #define _POSIX_C_SOURCE 200112L
 #include "rewrites.h"
 
@@ -40,6 +41,16 @@ static void *review(void *unused) {
     static uint32_t tables, lines, table_of[32], parts[32], satisfied[32], first[32];
     number = rewrites_review(program, program_len, conditions, conditions_len, table, 512, &tables,
                              &lines, table_of, parts, satisfied, first);
+    return unused;
+}
+
+static void *force(void *unused) {
+    static const uint8_t driver[] = "i31";
+    static uint64_t table[256];
+    static uint32_t parts, satisfied, first, least[256];
+    static uint8_t arm[256];
+    number = rewrites_force(program, program_len, driver, 3, condition, condition_len, table, 256, &parts,
+                            &satisfied, &first, least, arm);
     return unused;
 }
 
@@ -126,11 +137,11 @@ int main(int count, char **arguments) {
         {"EX ", "true", "", 340, 8}, {"!", "true", "", 1020, 8},  {"E[", "", "", 512, 7},
         {"(", "true", "", 1020, 7},  {"(", "", "", 1024, 7},
     };
-    size_t most[6] = {ROOM, ROOM, ROOM, ROOM, ROOM, ROOM};
+    size_t most[7] = {ROOM, ROOM, ROOM, ROOM, ROOM, ROOM, ROOM};
     size_t alone = overwritten(nothing), bytes, k;
     int fails = 0, line;
 
-    for (k = 0; k < 6 && k + 1 < (size_t)count; k++) most[k] = strtoul(arguments[k + 1], NULL, 10);
+    for (k = 0; k < 7 && k + 1 < (size_t)count; k++) most[k] = strtoul(arguments[k + 1], NULL, 10);
 
     put_sums();
     bytes = overwritten(judge) - alone;
@@ -174,6 +185,10 @@ int main(int count, char **arguments) {
         printf("%7lu bytes of stack: tabulate, %4d of '%s', then '%s': %d\n", (unsigned long)bytes,
                cases[k].depth, cases[k].open, cases[k].middle, number);
         fails += number != cases[k].number || bytes > most[2];
+        bytes = overwritten(force) - alone;
+        printf("%7lu bytes of stack: force, %4d of '%s', then '%s': %d\n", (unsigned long)bytes,
+               cases[k].depth, cases[k].open, cases[k].middle, number);
+        fails += number != cases[k].number || bytes > most[6];
 
         /* The same on each line of a review; where it is refused, on the last of 32. */
         conditions_len = 0;

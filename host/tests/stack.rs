@@ -4,12 +4,12 @@
 mod common;
 
 use common::{lines, text};
-use rewrites::{review, tabulate, Refusal, REVIEW_LINES, REVIEW_WORDS, TABLE_WORDS};
+use rewrites::{force, review, tabulate, Refusal, REVIEW_LINES, REVIEW_WORDS, TABLE_WORDS};
 use std::process::Command;
 use std::thread;
 
-/// What `run`, `judge`, `tabulate`, `review`, `mark_line` and `report` take at most, in KiB, as `include/rewrites.h` tells.
-const MOST: [u32; 6] = [64, 128, 256, 256, 16, 128];
+/// What `run`, `judge`, `tabulate`, `review`, `mark_line`, `report` and `force` take at most, in KiB, as `include/rewrites.h` tells.
+const MOST: [u32; 7] = [64, 128, 256, 256, 16, 128, 256];
 
 #[test]
 fn no_call_takes_more_stack_than_is_told() {
@@ -34,7 +34,13 @@ fn the_deepest_conditions_are_read_in_a_thread_with_256_kib_of_stack() {
         let program = text(&lines(256));
         let mut table = vec![0; TABLE_WORDS];
         let last = "true\n".repeat(REVIEW_LINES - 1) + &condition + "\n";
+        let deepest = condition.clone();
         let call = move || tabulate(&program, condition.as_bytes(), &mut table);
+        assert_eq!(in_small_thread(call), Err(refusal));
+
+        let program = text(&lines(256));
+        let mut table = vec![0; TABLE_WORDS];
+        let call = move || force(&program, b"i0", deepest.as_bytes(), &mut table);
         assert_eq!(in_small_thread(call), Err(refusal));
 
         let program = text(&lines(256));

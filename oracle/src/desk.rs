@@ -1,6 +1,7 @@
 //! What the desk's programs print: the viewer, the runner, and the comparison of two runs.
 
-use crate::condition::{Checker, Condition};
+use crate::condition::{Checker, Condition, TABLE_WORDS};
+use crate::forcing::{self, Arm, Player};
 use crate::liveness::{differing, Liveness};
 use crate::machine::{self, Kept, Outcome, Run, State, Values, VALUES};
 use crate::marks::{self, TEXT_BYTES, VERDICT_BYTES};
@@ -52,12 +53,14 @@ pub fn words(number: u8, program: &[u8]) -> String {
         8 => "over 64 parts".into(),
         9 => "some line misspelled, or the last without its byte 10".into(),
         10 => "over 256 lines".into(),
+        22 => "a misspelled or repeated variable".into(),
         _ => "budget over 1,000,000".into(),
     };
     let author = match number {
         2..=5 => "the author of the shift program",
         6..=8 => "the author of the condition",
         9 | 10 => "the optimiser",
+        22 => "the author of the driver's list",
         _ => "the host program",
     };
     format!("{author}: {words}\n")
@@ -107,6 +110,40 @@ pub fn view(program: &[u8], condition: &[u8]) -> String {
     }
     let first = satisfied.first().unwrap_or(&0);
     text + &format!("parts {parts} satisfied {} first {first}\n", satisfied.len())
+}
+
+// Games
+
+/// What is shown of what a driver can force: for each statement whose `if` it is, the number or `-`, and the arm.
+pub fn force(program: &[u8], driver: &[u8], condition: &[u8]) -> String {
+    let told = match forcing::force(program, driver, condition, &mut [0; TABLE_WORDS]) {
+        Ok(told) => told,
+        Err(number) => return refused(number, program),
+    };
+    let given = Program::read(program).expect("a program that is played is taken");
+    let his = forcing::names(driver).expect("its list is taken");
+    let mut text = String::new();
+    for (at, statement) in given.statements().iter().enumerate() {
+        let player = match forcing::player(statement, &his) {
+            Some(Player::Driver) => "driver",
+            Some(Player::Unit) => "unit  ",
+            None => "      ",
+        };
+        let number = match told.number[at] {
+            Some(number) => format!("{number:3}"),
+            None => "  -".to_string(),
+        };
+        let arm = match told.arm[at] {
+            Some(Arm::Goto) => "  goto",
+            Some(Arm::Else) => "  else",
+            None => "",
+        };
+        let statement = statement.to_string();
+        text += &format!("{:3}  {statement:32}  {player}  {number}{arm}\n", at + 1);
+    }
+    let forced = told.number.iter().flatten().count();
+    let (parts, satisfied, first) = (told.parts, told.satisfied, told.first);
+    text + &format!("parts {parts} satisfied {satisfied} first {first} forced {forced}\n")
 }
 
 // Runs

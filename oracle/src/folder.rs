@@ -1,7 +1,7 @@
 //! Random contents of a folder's files: whole, damaged, too long or missing.
 
 use crate::check::LARGEST_FILE;
-use crate::generate::{self, Random};
+use crate::generate::{self, Random, WrongDriver};
 use crate::marks;
 use crate::program::Program;
 use crate::review::REVIEW_LINES;
@@ -71,7 +71,7 @@ pub fn condition(random: &mut Random, given: &Program) -> Vec<u8> {
     }
 }
 
-/// The file of a condition, and what is read of it: one byte 10 at the file's end doesn't count.
+/// The file of a condition or of a driver's list, and what is read of it: one byte 10 at the file's end doesn't count.
 pub fn condition_file(random: &mut Random, condition: &[u8]) -> (Vec<u8>, Vec<u8>) {
     let mut file = condition.to_vec();
     let bare = condition.strip_suffix(b"\n").unwrap_or(condition);
@@ -79,6 +79,34 @@ pub fn condition_file(random: &mut Random, condition: &[u8]) -> (Vec<u8>, Vec<u8
         file.push(10);
     }
     (file, bare.to_vec())
+}
+
+/// A driver's list for a program, at times refused, 22.
+pub fn driver(random: &mut Random, given: &Program) -> Vec<u8> {
+    let his = generate::driver(random, given);
+    match random.below(10) {
+        0 => {
+            let wrong = random.pick(&WrongDriver::ALL);
+            generate::wrong_driver(random, wrong, &his)
+        }
+        1 => {
+            let list = generate::driver_text(&his);
+            generate::damage(random, &list)
+        }
+        _ => generate::driver_text(&his),
+    }
+}
+
+/// A program of many `if`s, and its text or one that is refused, 2 to 5.
+pub fn game(random: &mut Random) -> (Program, Vec<u8>) {
+    let size = generate::size(random);
+    let program = generate::game(random, size);
+    let whole = program.text();
+    match random.below(12) {
+        0 => (program, generate::damage(random, &whole)),
+        1 => given(random),
+        _ => (program, whole),
+    }
 }
 
 /// A review for a program, at times damaged.

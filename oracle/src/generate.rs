@@ -1279,3 +1279,179 @@ pub fn mark_soup(random: &mut Random) -> Vec<u8> {
     };
     format!("{line}\n").into_bytes()
 }
+
+// Games
+
+/// A program of many `if`s, on few variables, whose targets lie anywhere.
+pub fn game(random: &mut Random, size: usize) -> Program {
+    let variables = random.between(1, 5);
+    let branches = random.pick(&[20, 50, 70, 90, 100]);
+    let reach = random.pick(&[3, 8, size]);
+    let mut lines = vec![Statement::Read(0)];
+    for at in 2..size {
+        let target = |random: &mut Random| {
+            let (low, high) = (at.saturating_sub(reach).max(2), (at + reach).min(size));
+            random.between(low, high) as u32
+        };
+        if !random.chance(branches) {
+            let x = random.below(variables) as u8;
+            let right = Expression::Single(Operand::Constant(at as u32));
+            lines.push(if random.chance(50) {
+                Statement::Skip
+            } else {
+                Statement::Assign(x, right)
+            });
+            continue;
+        }
+        let (then, other) = (target(random), target(random));
+        let other = match random.below(10) {
+            0 => then,
+            1 => size as u32,
+            _ => other,
+        };
+        lines.push(Statement::Branch { tested: random.below(variables) as u8, then, other });
+    }
+    lines.push(Statement::Write(random.below(variables) as u8));
+    Program::new(lines).expect("a generated program is taken")
+}
+
+/// Variables for a driver: none, some or all of those that a program tests, and at times others.
+pub fn driver(random: &mut Random, program: &Program) -> Vec<u8> {
+    let tested = |x: &u8| {
+        let tests = |s: &Statement| matches!(s, Statement::Branch { tested, .. } if tested == x);
+        program.statements().iter().any(tests)
+    };
+    let (mut his, others): (Vec<u8>, Vec<u8>) = (0..VARIABLES).partition(tested);
+    match random.below(8) {
+        0 => his.clear(),
+        1 => {}
+        _ => his.retain(|_| random.chance(50)),
+    }
+    if random.chance(20) {
+        let percent = random.pick(&[10, 50, 100]);
+        his.extend(others.into_iter().filter(|_| random.chance(percent)));
+    }
+    random.shuffle(&mut his);
+    his
+}
+
+/// The text of a driver's list.
+pub fn driver_text(his: &[u8]) -> Vec<u8> {
+    let names: Vec<String> = his.iter().map(|x| format!("i{x}")).collect();
+    names.join(" ").into_bytes()
+}
+
+/// What a driver may want of a program: a condition, mostly a small one.
+pub fn goal(random: &mut Random, program: &Program) -> Vec<u8> {
+    match random.below(12) {
+        0..=2 => b"exit".to_vec(),
+        3..=5 => format!("node({})", random.between(2, program.statements().len())).into_bytes(),
+        6 => format!("use(i{})", variable_near(random, program)).into_bytes(),
+        7 => format!("def(i{})", variable_near(random, program)).into_bytes(),
+        8 => random.pick(&[&b"true"[..], b"false", b"entry"]).to_vec(),
+        _ => {
+            let parts = random.between(1, 8);
+            condition(random, program, parts)
+        }
+    }
+}
+
+/// A way to spell a driver's list that is refused.
+#[derive(Clone, Copy, Debug, PartialEq, Eq, PartialOrd, Ord)]
+pub enum WrongDriver {
+    SpaceBefore,
+    SpaceBehind,
+    TwoSpaces,
+    /// A space and nothing else.
+    Space,
+    /// Byte 10 at the end.
+    Byte10,
+    /// A comma for a space.
+    Comma,
+    Tab,
+    /// Nothing between two names.
+    NoSpace,
+    /// A name twice.
+    Twice,
+    /// `i00`, `i07`.
+    LeadingZero,
+    /// `i32` and larger numbers.
+    TooLarge,
+    /// A number that fits 32 only when it wraps.
+    Wrapping,
+    /// `I0`, `j0`, `0`.
+    Letter,
+    /// `i`.
+    NoNumber,
+    /// `i-1`, `i+1`.
+    Sign,
+    /// A byte that no list has.
+    Byte,
+}
+
+impl WrongDriver {
+    pub const ALL: [WrongDriver; 16] = [
+        WrongDriver::SpaceBefore,
+        WrongDriver::SpaceBehind,
+        WrongDriver::TwoSpaces,
+        WrongDriver::Space,
+        WrongDriver::Byte10,
+        WrongDriver::Comma,
+        WrongDriver::Tab,
+        WrongDriver::NoSpace,
+        WrongDriver::Twice,
+        WrongDriver::LeadingZero,
+        WrongDriver::TooLarge,
+        WrongDriver::Wrapping,
+        WrongDriver::Letter,
+        WrongDriver::NoNumber,
+        WrongDriver::Sign,
+        WrongDriver::Byte,
+    ];
+}
+
+/// The text of a list, spelled in a wrong way. No such text is a list.
+pub fn wrong_driver(random: &mut Random, wrong: WrongDriver, his: &[u8]) -> Vec<u8> {
+    let mut names: Vec<String> = his.iter().map(|x| format!("i{x}")).collect();
+    for x in [3, 17, 30] {
+        if names.len() < 2 && !his.contains(&x) {
+            names.push(format!("i{x}"));
+        }
+    }
+    let at = random.below(names.len());
+    let joint = |between: &str, names: &[String]| {
+        let after = at.clamp(1, names.len() - 1);
+        format!("{}{between}{}", names[..after].join(" "), names[after..].join(" ")).into_bytes()
+    };
+    match wrong {
+        WrongDriver::SpaceBefore => return format!(" {}", names.join(" ")).into_bytes(),
+        WrongDriver::SpaceBehind => return format!("{} ", names.join(" ")).into_bytes(),
+        WrongDriver::Byte10 => return format!("{}\n", names.join(" ")).into_bytes(),
+        WrongDriver::Space => return b" ".to_vec(),
+        WrongDriver::TwoSpaces => return joint("  ", &names),
+        WrongDriver::Comma => return joint(", ", &names),
+        WrongDriver::Tab => return joint("\t", &names),
+        WrongDriver::NoSpace => return joint("", &names),
+        WrongDriver::Twice => {
+            let again = names[at].clone();
+            let to = random.below(names.len() + 1);
+            names.insert(to, again);
+        }
+        WrongDriver::LeadingZero => names[at].insert(1, '0'),
+        WrongDriver::TooLarge => {
+            names[at] = format!("i{}", random.pick(&[32, 33, 63, 99, 100, 255]))
+        }
+        WrongDriver::Wrapping => {
+            let wide = random.pick(&[256_u64, 1 << 16, 1 << 32]) + random.below(32) as u64;
+            names[at] = format!("i{wide}");
+        }
+        WrongDriver::Letter => {
+            let letter = random.pick(&["I", "j", "", "ii", "use(i"]);
+            names[at].replace_range(..1, letter);
+        }
+        WrongDriver::NoNumber => names[at] = "i".to_string(),
+        WrongDriver::Sign => names[at].insert(1, random.pick(&['-', '+'])),
+        WrongDriver::Byte => names[at].push(random.pick(&['\0', '%', '\u{e9}', 'x', ':'])),
+    }
+    names.join(" ").into_bytes()
+}

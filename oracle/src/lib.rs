@@ -8,6 +8,7 @@ pub mod check;
 pub mod condition;
 pub mod desk;
 pub mod folder;
+pub mod forcing;
 pub mod generate;
 pub mod liveness;
 pub mod machine;

@@ -54,7 +54,7 @@ fn next(all: bool, n: usize, steps: &[u16], p: &[u64], out: &mut [u64])
 }
 
 // Room for a number for each place.
-fn blank() -> [u16; PLACES]
+pub fn blank() -> [u16; PLACES]
     ensures { λ r. ⌜ Zeros places r ⌝ }
 {
     [0; PLACES]

@@ -1,6 +1,7 @@
 // The calls for C and Rust hosts: include/rewrites.h declares them. What each answers stands in the crate that it calls.
 ghost use Rattle.host_run.specs.Places.{RunExported};
 ghost use Rattle.host_tabulate.specs.Places.{TabulateExported};
+ghost use Rattle.host_force.specs.Exports.{ForceExported};
 ghost use Rattle.host_judge.specs.Places.{JudgeExported};
 ghost use Rattle.host_review.specs.Places.{ReviewExported};
 ghost use Rattle.host_mark_line.specs.Places.{MarkLineExported};
@@ -53,6 +54,33 @@ pub extern "C" fn rewrites_tabulate(
     ensures { λ r. ⌜ TabulateExported (now (program .entry)) (now (condition .entry)) (now (table .entry)) (now (table .exit)) r (record { parts = now (parts .entry); satisfied = now (satisfied .entry); first = now (first .entry) }) (record { parts = now (parts .exit); satisfied = now (satisfied .exit); first = now (first .exit) }) ⌝ }
 {
     host_tabulate::export(program, condition, table, parts, satisfied, first)
+}
+
+#[no_mangle]
+pub extern "C" fn rewrites_force(
+    program: &[u8],
+    driver: &[u8],
+    condition: &[u8],
+    table: &mut [u64],
+    parts: &mut u32,
+    satisfied: &mut u32,
+    first: &mut u32,
+    number: &mut [u32; MOST],
+    arm: &mut [u8; MOST],
+) -> u8
+    ensures { λ r. ⌜ ForceExported (now (program .entry)) (now (driver .entry)) (now (condition .entry)) (now (table .entry)) (now (table .exit)) r (record { numbers = now (number .entry); arms = now (arm .entry) }) (record { numbers = now (number .exit); arms = now (arm .exit) }) (record { parts = now (parts .entry); satisfied = now (satisfied .entry); first = now (first .entry) }) (record { parts = now (parts .exit); satisfied = now (satisfied .exit); first = now (first .exit) }) ⌝ }
+{
+    host_force::force(
+        program,
+        driver,
+        condition,
+        table,
+        parts,
+        satisfied,
+        first,
+        number,
+        arm,
+    )
 }
 
 #[no_mangle]

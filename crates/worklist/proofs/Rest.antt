@@ -72,6 +72,24 @@ module _ (head link to : List ℕ) where
       within a t h (yes e) = rw e (r .within s t (w .within t (subst (λ (x : ℕ). listed link to x t ≡ true) (ap (λ (y : ℕ). getD (set rest s k) y 0) e ∙ same) h)))
       within a t h (no e) = r .within a t (subst (λ (x : ℕ). listed link to x t ≡ true) (other a e) h)
 
+  -- no edge of s is left exactly where all its steps lead into the set
+  pub skipped-onto : (rest : List ℕ) (inside : ℕ → Bool) (s k : ℕ) → Linked head link to → Rest head link to rest inside → Skipped link to inside (getD rest s 0) k → (eqb k 0 ≡ true) ↔ Onto A (step head link to) (So inside) s
+  skipped-onto rest inside s k l r w = (every, λ o. eq-eqb k 0 (none-left o (decLt 0 k)))
+    where
+      every : eqb k 0 ≡ true → (t : ℕ) → step head link to s t ≡ true → inside t ≡ true
+      every x t h =
+          ⊎-elim (λ y. y)
+          (λ o. clash (subst (λ (z : ℕ). listed link to z t ≡ true) (eqb-true k 0 x) (w .unseen t (r .unseen s t h o) o)) (listed-end link to t))
+          (split (inside t))
+
+      none-left : Onto A (step head link to) (So inside) s → Dec (0 < k) → k ≡ 0
+      none-left o (no h) = omega arith
+      none-left o (yes h) =
+          let t = getD to (k - 1) 0 in
+          let c : k ≤ l .count = omega (arith, w .low, r .low s, l .lists .heads s) in
+          let here : listed link to k t ≡ true = listed-step link to (l .count) (l .lists .edges .links) t k h c ∙ or-left (eqb t t) _ (eq-eqb t t refl) in
+          clash (o t (r .within s t (w .within t here))) (w .stop h)
+
   -- ---- whether a place is ready, test by test
 
   module _ (all : Bool) (p inside : ℕ → Bool) (s : ℕ) where
@@ -88,21 +106,9 @@ module _ (head link to : List ℕ) where
     ready-some e f a = (λ _. record { out = e; pass = f; onto = λ x. clash x a }, λ _. refl)
 
     pub ready-all : (rest : List ℕ) (k : ℕ) → inside s ≡ false → p s ≡ true → all ≡ true → Linked head link to → Rest head link to rest inside → Skipped link to inside (getD rest s 0) k → (eqb k 0 ≡ true) ↔ Is
-    ready-all rest k e f a l r w = (λ x. record { out = e; pass = f; onto = λ _ t h. every x t h }, λ j. eq-eqb k 0 (none-left j (decLt 0 k)))
-      where
-        every : eqb k 0 ≡ true → (t : ℕ) → step head link to s t ≡ true → inside t ≡ true
-        every x t h =
-            ⊎-elim (λ y. y)
-            (λ o. clash (subst (λ (z : ℕ). listed link to z t ≡ true) (eqb-true k 0 x) (w .unseen t (r .unseen s t h o) o)) (listed-end link to t))
-            (split (inside t))
-
-        none-left : Is → Dec (0 < k) → k ≡ 0
-        none-left j (no h) = omega arith
-        none-left j (yes h) =
-            let t = getD to (k - 1) 0 in
-            let c : k ≤ l .count = omega (arith, w .low, r .low s, l .lists .heads s) in
-            let here : listed link to k t ≡ true = listed-step link to (l .count) (l .lists .edges .links) t k h c ∙ or-left (eqb t t) _ (eq-eqb t t refl) in
-            clash (j .onto a t (r .within s t (w .within t here))) (w .stop h)
+    ready-all rest k e f a l r w =
+        let o = skipped-onto rest inside s k l r w in
+        (λ x. record { out = e; pass = f; onto = λ _. o .0 x }, λ j. o .1 (j .onto a))
 
 -- a place with a step into the set joins where it is ready, and is ready where it joins
 module _ (all : Bool) (step : ℕ → ℕ → Bool) (p inside : ℕ → Bool) (s : ℕ) where

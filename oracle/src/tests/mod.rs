@@ -4,6 +4,7 @@ mod constants;
 mod cse;
 mod division;
 mod document;
+mod forcing;
 mod generated;
 mod kept;
 mod mark_lines;

@@ -1,7 +1,8 @@
 //! The tuned calls against the plain ones.
 
 use crate::condition::tabulate;
-use crate::generate::{self, Random};
+use crate::forcing::{force, Arm, UNFORCED};
+use crate::generate::{self, Random, WrongDriver};
 use crate::machine::run;
 use crate::marks::{self, judge};
 use crate::pricing;
@@ -129,4 +130,49 @@ fn tuned_reports_are_the_plain_ones() {
         refused += usize::from(answer.is_err());
     }
     assert!((1_000..5_000).contains(&refused), "{refused}");
+}
+
+#[test]
+fn tuned_games_are_the_plain_ones() {
+    let random = &mut Random::new(102);
+    let (mut refused, mut lists) = (0, 0);
+    for _ in 0..20_000 {
+        let size = generate::size(random);
+        let program = match random.below(3) {
+            0 => generate::program(random, size),
+            _ => generate::game(random, size),
+        };
+        let text = program_text(random, &program);
+        let his = generate::driver(random, &program);
+        let driver = match random.below(20) {
+            0 | 1 => {
+                let wrong = random.pick(&WrongDriver::ALL);
+                generate::wrong_driver(random, wrong, &his)
+            }
+            2 => generate::damage(random, &generate::driver_text(&his)),
+            _ => generate::driver_text(&his),
+        };
+        let condition = generate::goal(random, &program);
+        let condition =
+            if random.chance(10) { generate::damage(random, &condition) } else { condition };
+        let room = random.pick(&[256, 256, 256, 257, 255]);
+        let (mut one, mut other) = (vec![7; room], vec![7; room]);
+        let (mut number, mut arm) = ([7; MOST_LINES], [8; MOST_LINES]);
+        let answer = tuned::force(&text, &driver, &condition, &mut one, &mut number, &mut arm);
+        let (mut wanted_number, mut wanted_arm) = ([7; MOST_LINES], [8; MOST_LINES]);
+        let wanted = force(&text, &driver, &condition, &mut other).map(|forced| {
+            for (at, number) in forced.number.iter().enumerate() {
+                wanted_number[at] = number.unwrap_or(UNFORCED);
+                wanted_arm[at] = Arm::number(forced.arm[at]);
+            }
+            (forced.parts, forced.satisfied, forced.first)
+        });
+        let shown = || format!("{program}{} {}", driver.escape_ascii(), condition.escape_ascii());
+        assert_eq!(answer, wanted, "{}", shown());
+        assert_eq!(one, other, "{}", shown());
+        assert_eq!((number, arm), (wanted_number, wanted_arm), "{}", shown());
+        refused += usize::from(answer.is_err());
+        lists += usize::from(answer == Err(22));
+    }
+    assert!((3_000..12_000).contains(&refused) && lists > 500, "{refused} {lists}");
 }

@@ -2,12 +2,14 @@
 //! yardstick of the benchmark; tests hold them to the plain ones.
 
 mod flow;
+mod force;
 mod judge;
 mod read;
 mod review;
 mod run;
 mod tabulate;
 
+pub use force::force;
 pub use judge::{judge, judge_by_labels, report};
 pub use review::review;
 pub use run::run;

@@ -326,9 +326,24 @@ pub fn tabulate(
     if table.len() < TABLE_WORDS {
         return Err(1);
     }
-    let program = Program::read(program)?;
+    tabulate_program(&Program::read(program)?, condition, table)
+}
+
+/// The row of the whole condition in a table of so many parts.
+pub fn whole(table: &[u64], parts: u32) -> Row {
+    let last = 4 * (parts as usize - 1);
+    [table[last], table[last + 1], table[last + 2], table[last + 3]]
+}
+
+/// The same of a program that is read, into a table that is large enough.
+#[inline(always)]
+pub fn tabulate_program(
+    program: &Program,
+    condition: &[u8],
+    table: &mut [u64],
+) -> Result<(u32, u32, u32), u8> {
     let list = List::read(condition)?;
-    let found = Found::new(&program);
+    let found = Found::new(program);
     let mut done = [NONE; MOST_PARTS];
     for k in 0..list.count {
         let row = found.row(&list.parts[k], &done);

@@ -1,15 +1,10 @@
 -- `tabulate` meets its contract. Assumes nothing.
 use mathlib.Core.Path.{refl}
 use mathlib.Core.Logic.{inl, inr}
-use native.Mathlib.Omega.{arith}
 use borrow.Author.Needs.{needs}
 use Rattle.program.specs.Program.{Taken}
 use Rattle.program.specs.Reading.{statements, Held}
 use Rattle.table.specs.Fill.{SomeHeld}
-use Rattle.table.specs.Known.{Known}
-use Rattle.table.proofs.Whole.{held-some, held-few}
-use Rattle.table.proofs.By.{known-in, table-by}
-use Rattle.calls.proofs.Known.{known-program}
 use Rattle.tabulate.proofs.Tabulates.{tabulated}
 use Rattle.tabulate.proofs.tabulate.Statement.{statement}
 use Rattle.tabulate.proofs.tabulate.Tie as tie
@@ -30,42 +25,8 @@ program-taken c = rw (c .enum-told .given .1) at (c .before .before .read .ensur
 condition-held : (c : tie.After-told2) → SomeHeld (c .before .before .before .before .before .before .before .before .before .before .before .args .condition .now) (c .told2 .given .0 .0) (c .before .before .read2 .result .words)
 condition-held c = let h = rw (c .told2 .given .1) at (c .before .before .read2 .ensures) in record { c = h .0; held = record { taken = h .1; held = h .2 } }
 
-find-requires : tie.Need-find-requires
-find-requires c κs =
-    let p = program-taken (c .before .before .before .before .before .before .before .before .before .before) in
-    (p .1, (p .0 .program, (c .before .before .before .blank .ensures, c .before .before .blank-codes .ensures)))
-
-of-requires : tie.Need-of-requires
-of-requires c κs = let p = program-taken (c .before .before .before .before .before .before .before .before .before .before .before .before .before .before .before) in (p .1, (p .0 .program, c .before .blank2 .ensures .size))
-
--- what is known of the program once its facts are found and its graph is drawn
-known :
-    (c : tie.After-flow2)
-    → let read = c .before .before .before .before .before .before .before .before .before .before .before .before .before .before .before .before .before .before .before .read in
-    let find = c .before .before .before .before .before .before .find in
-    Known (statements (read .result .program)) (read .result .program .count) (find .last .1 .0) (find .last .1 .1 .0) (c .before .of .last .1 .0)
-known c =
-    let p = program-taken (c .before .before .before .before .before .before .before .before .before .before .before .before .before .before .before .before .before) in
-    let of = c .before .of in
-    known-program {flow = of .last .1 .0} (p .0) (p .1) (c .before .before .before .before .before .before .find .ensures) (of .ensures) (omega (arith, of .kept, c .before .before .before .blank2 .ensures .size))
-
 fill-requires : tie.Need-fill-requires
-fill-requires c κs =
-    let h = condition-held (c .before .before .before .before .before .before .before .before .before .before .before .before .before .before .before .before .before) in
-    let few = held-few (h .held) in
-    (record { P = _; known = known-in (known (c .before .before .before .before)) }, (h, omega arith))
-
-sub-last : tie.Need-sub-last
-sub-last c = omega (arith, held-some (condition-held (c .before .before .before .before .before .before .before .before .before .before .before .before .before .before .before .before .before .before .before .before) .held))
-
-summary-of-requires : tie.Need-summary-of-requires
-summary-of-requires c κs =
-    let k = c .before .before .before .before .before .before .before .before .before .before .before .before .before .before .before .before .before .before .before .before .before in
-    let h = condition-held k in
-    let some = held-some (h .held) in
-    let few = held-few (h .held) in
-    let same = c .before .before .before .fill .ensures _ (h .c) (known-in (known (c .before .before .before .before .before .before .before .before))) (h .held) .same in
-    omega (arith, k .before .before .before .before .before .before .before .if1 .left)
+fill-requires c κs = let p = program-taken (c .before .before .before .before .before .before .before .before .before) in ((p .1, (_, p .0)), (condition-held (c .before .before .before .before .before), (c .before .before .blank .ensures .size, c .before .before .before .before .before .before .before .before .before .before .before .before .if1 .left)))
 
 returns-3 : tie.Need-returns-3
 returns-3 c =
@@ -76,11 +37,9 @@ returns-3 c =
 
 returns-4 : tie.Need-returns-4
 returns-4 c =
-    let k = c .before .before .before .before .before .before .before .before .before .before .before .before .before .before .before .before .before .before .before .before .before .before in
-    let h = condition-held k in
-    let x = known (c .before .before .before .before .before .before .before .before .before) in
-    let filled = table-by x (h .held) (c .before .before .before .before .fill .ensures _ (h .c) (known-in x) (h .held)) in
-    tabulated (h .held) (program-taken (k .before .before .before .before) .0) (k .before .before .before .before .before .before .before .if1 .left) filled (c .summary-of .ensures)
+    let h = condition-held (c .before .before .before .before .before .before .before .before .before) in
+    let f = c .before .before .before .fill .ensures in
+    tabulated (h .held) (program-taken (c .before .before .before .before .before .before .before .before .before .before .before .before .before) .0) (c .before .before .before .before .before .before .before .before .before .before .before .before .before .before .before .before .if1 .left) (f .table (h .c) (h .held)) (f .counts)
 
 pub tabulate-spec : {M : Type 1} → statement M
 tabulate-spec =
@@ -96,21 +55,9 @@ tabulate-spec =
     (λ c. search needs)
     (λ c κs. search needs)
     (λ c. search needs)
-    (λ c. search needs)
     (λ c κs. search needs)
-    (λ c κs. search needs)
-    (λ c. search needs)
-    (λ c. search needs)
-    find-requires
-    (λ c κs. search needs)
-    (λ c. search needs)
-    of-requires
-    (λ c. search needs)
-    (λ c. search needs)
     (λ c. search needs)
     fill-requires
-    sub-last
-    summary-of-requires
     returns-3
     (λ c. search needs)
     returns-4)

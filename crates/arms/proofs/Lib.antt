@@ -1,0 +1,4 @@
+pub mod Strategies
+pub mod Filling
+pub mod Owned
+pub mod Forced
