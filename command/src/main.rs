@@ -81,9 +81,7 @@ fn wrong(arguments: &Arguments) -> Option<clap::Error> {
         | Call::Force(_)
         | Call::Run(_)
         | Call::Lines(_)
-        | Call::List(_) => {
-            return None
-        }
+        | Call::List(_) => return None,
     };
     let mut command = Arguments::command();
     command.build();

@@ -2250,9 +2250,10 @@ fn list_change(before: &Statement, after: &Statement) -> &'static str {
             (false, false) => "replaced in write",
             _ => "replaced in write, one kept",
         },
-        (Statement::Assign(_, Expression::Pair(..)), Statement::Assign(_, Expression::Single(_))) => {
-            "read again"
-        }
+        (
+            Statement::Assign(_, Expression::Pair(..)),
+            Statement::Assign(_, Expression::Single(_)),
+        ) => "read again",
         _ => "replaced in an assignment",
     }
 }
