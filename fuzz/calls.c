@@ -31,7 +31,10 @@
    - the rewritten program is taken, and both programs' runs agree, in all nine values where they end,
      in statement and steps where they fault, and before each step in the values of all variables x for
      which `E[!def(x) U use(x)]` is true there in the given program, by a review of all 32;
-   - the lines of a list that is taken, one after another, are the list.
+   - the lines of a list that is taken, one after another, are the list;
+   - a list of readers and writers has the rows of `def` and `use`, and its counts are of its words;
+   - brought up to date after the marks, the list of the given program is that of the new text; in any
+     other list the bits of lines that differ are as there, and all others are kept.
    `fuzz/run` builds it and runs it; `host/tests/fuzz.rs` runs it on the seeds. */
 #define _DEFAULT_SOURCE
 #include "rewrites.h"
@@ -54,6 +57,7 @@
 #define REVIEW_WORDS 512
 #define REVIEW_LINES 32
 #define MOST_TABLES 128
+#define LIST_WORDS 256
 #define MOST_PARTS 64
 #define LONGEST 1024
 #define VERDICT_BYTES 256
@@ -1092,8 +1096,127 @@ static void check_live(uint64_t live[VARIABLES][4], const struct run *given, con
     }
 }
 
+/* Lists of readers and writers */
+
+struct listing {
+    uint32_t defined[VARIABLES], used[VARIABLES];
+    uint64_t words[LIST_WORDS];
+};
+
+/* The places of both counts, with a word on both sides of each. */
+enum { DEFINED = 1, USED = VARIABLES + 2, COUNT_PLACES = 2 * VARIABLES + 3 };
+
+/* Lends the words of a list, and takes over what a call leaves; without marks the list is made. A list
+   with less room than it should have loses its last words. */
+static uint8_t list(struct text program, const struct text *marks, size_t room,
+                    struct listing *listing) {
+    uint32_t places[COUNT_PLACES];
+    uint64_t *words = (uint64_t *)(void *)(tables.end - room * sizeof *words);
+    size_t lent = room < LIST_WORDS ? room : LIST_WORDS;
+    uint8_t number;
+
+    unset(places, COUNT_PLACES);
+    memcpy(words, listing->words, lent * sizeof *words);
+    lend(&tables, room * sizeof *words);
+    if (marks == NULL)
+        number = rewrites_list(program.bytes, program.length, words, room, places + DEFINED,
+                               places + USED);
+    else
+        number = rewrites_relist(program.bytes, program.length, marks->bytes, marks->length, words,
+                                 room, places + DEFINED, places + USED);
+    for (size_t k = 0; k < COUNT_PLACES; k++)
+        REQUIRE((number == 0 && k % (VARIABLES + 1) != 0) || places[k] == UNSET);
+    if (number == 0) {
+        REQUIRE(room >= LIST_WORDS);
+        set(&tables, (uint8_t *)words, LIST_WORDS * sizeof *words);
+        memcpy(listing->words, words, sizeof listing->words);
+        memcpy(listing->defined, places + DEFINED, sizeof listing->defined);
+        memcpy(listing->used, places + USED, sizeof listing->used);
+    }
+    require_kept(&tables);
+    return number;
+}
+
+static uint32_t ones(const uint64_t *row) {
+    uint32_t count = 0;
+    for (size_t n = 1; n <= 256; n++) count += (uint32_t)holds(row, n);
+    return count;
+}
+
+static void check_counts(const struct listing *listing) {
+    for (size_t v = 0; v < VARIABLES; v++) {
+        REQUIRE(listing->defined[v] == ones(listing->words + 8 * v));
+        REQUIRE(listing->used[v] == ones(listing->words + 8 * v + 4));
+    }
+}
+
+/* The list of a program, or its refusal. The rows of one variable are those of its conditions. */
+static void check_list(struct text program, uint8_t refused, unsigned variable) {
+    static const char *const atoms[2] = {"def", "use"};
+    static struct listing made, other;
+    static struct table answer;
+    char condition[32];
+
+    for (size_t k = 0; k < LIST_WORDS; k++) made.words[k] = other.words[k] = 0x5bd1e995u * (k + 1);
+    REQUIRE(list(program, NULL, LIST_WORDS, &made) == refused);
+    REQUIRE(list(program, NULL, LIST_WORDS - 1, &other) == 1);
+    met(OF_CALLS, 1600 + refused);
+    if (refused != 0) return;
+    check_counts(&made);
+    for (size_t k = 0; k < 2; k++) {
+        snprintf(condition, sizeof condition, "%s(i%u)", atoms[k], variable);
+        REQUIRE(tabulate(program, put(&others, condition, strlen(condition)), TABLE_WORDS, &answer) ==
+                0);
+        REQUIRE(memcmp(answer.words, made.words + 8 * variable + 4 * k, 4 * sizeof *made.words) == 0);
+    }
+    memset(other.words, 0xff, sizeof other.words);
+    REQUIRE(list(program, NULL, LIST_WORDS + 44, &other) == 0);
+    REQUIRE(memcmp(&made, &other, sizeof made) == 0);
+}
+
+/* Whether a line, counted from 1, differs in two texts that have it. */
+static int differs(struct text one, struct text other, size_t n) {
+    char lines[2][64];
+
+    copy_line(one, n, lines[0]);
+    copy_line(other, n, lines[1]);
+    return strcmp(lines[0], lines[1]) != 0;
+}
+
+/* Lists after a round of marks that is taken; the new text stands beside the given one. */
+static void check_rounds(struct text program, struct text marks, struct text rewritten,
+                         uint32_t sum) {
+    static struct listing given, afresh, any;
+    static uint64_t before[LIST_WORDS];
+    size_t lines = lines_of(program), changed = 0;
+
+    REQUIRE(list(program, NULL, LIST_WORDS, &given) == 0);
+    REQUIRE(list(program, &marks, LIST_WORDS, &given) == 0);
+    memset(afresh.words, 0xff, sizeof afresh.words);
+    REQUIRE(list(rewritten, NULL, LIST_WORDS, &afresh) == 0);
+    REQUIRE(memcmp(&given, &afresh, sizeof given) == 0);
+
+    for (size_t k = 0; k < LIST_WORDS; k++) {
+        uint64_t bits = ((uint64_t)sum + k) * 0x9e3779b97f4a7c15u;
+        any.words[k] = before[k] = sum % 4 == 0 ? 0 : sum % 4 == 1 ? UINT64_MAX : bits;
+    }
+    REQUIRE(list(program, &marks, LIST_WORDS + sum % 2, &any) == 0);
+    check_counts(&any);
+    for (size_t n = 1; n <= 256; n++) {
+        int is_changed = n <= lines && differs(program, rewritten, n);
+
+        changed += (size_t)is_changed;
+        for (size_t k = 0; k < LIST_WORDS; k += 4)
+            REQUIRE(holds(any.words + k, n) ==
+                    holds((is_changed ? afresh.words : before) + k, n));
+    }
+    met(OF_CALLS, 1620 + (unsigned)changed);
+}
+
 static void check_marks(struct text program, struct text marks, uint8_t refused,
-                        const uint32_t values[VARIABLES], uint32_t input, uint32_t budget) {
+                        const uint32_t values[VARIABLES], uint32_t input, uint32_t budget,
+                        uint32_t sum) {
+    static struct listing listing;
     static struct judgement answer, other;
     struct run given = {0}, made = {0};
     struct text rewritten;
@@ -1104,6 +1227,8 @@ static void check_marks(struct text program, struct text marks, uint8_t refused,
     REQUIRE(judge(program, marks, VERDICT_BYTES, TEXT_BYTES - 1, &other) == 1);
     REQUIRE(judge(program, marks, VERDICT_BYTES, 8192, &other) == 1);
     met(OF_CALLS, 32 + number);
+    REQUIRE(list(program, &marks, LIST_WORDS - 1, &listing) == 1);
+    REQUIRE(list(program, &marks, LIST_WORDS, &listing) == number);
     if (refused != 0) {
         REQUIRE(number == refused);
         check_report(program, marks, number, program);
@@ -1126,6 +1251,7 @@ static void check_marks(struct text program, struct text marks, uint8_t refused,
     REQUIRE(lines_of(rewritten) == lines_of(program));
     if (answer.accepted == 0) REQUIRE(memcmp(answer.text, program.bytes, program.length) == 0);
     find_live(program, live);
+    check_rounds(program, marks, rewritten, sum);
     for (uint32_t b = 0; b <= budget; b++) {
         REQUIRE(run(program, values, input, b, &given) == 0);
         REQUIRE(run(rewritten, values, input, b, &made) == 0);
@@ -1188,6 +1314,7 @@ int LLVMFuzzerTestOneInput(const uint8_t *data, size_t size) {
         check_runs(program, values, input, budget);
         check_use_at_write(program, sum % VARIABLES);
     }
+    check_list(program, refused, sum % VARIABLES);
     condition = put(&conditions, condition.bytes, condition.length);
     check_condition(program, condition, refused);
     check_review(program, condition, refused);
@@ -1201,9 +1328,9 @@ int LLVMFuzzerTestOneInput(const uint8_t *data, size_t size) {
     require_kept(&conditions);
     marks = put(&conditions, marks.bytes, marks.length);
     if (refused != 0) {
-        check_marks(put(&programs, P, strlen(P)), marks, 0, values, input, budget);
+        check_marks(put(&programs, P, strlen(P)), marks, 0, values, input, budget, sum);
     } else {
-        check_marks(program, marks, refused, values, input, budget);
+        check_marks(program, marks, refused, values, input, budget, sum);
     }
     require_kept(&programs);
     require_kept(&conditions);

@@ -216,6 +216,44 @@ uint8_t rewrites_report(const uint8_t *program, size_t program_len, const uint8_
 uint8_t rewrites_mark_line(const uint8_t *marks, size_t marks_len, uint32_t line, size_t *begin,
                            size_t *end);
 
+/* Makes the list of a program's readers and writers: for each variable the statements that define it,
+   `read X` or `X := E`, and those that use it, as `use(X)` holds with rewrites_tabulate; i24 to i31,
+   which the unit keeps, are used at `write` too. Takes at most 64 KiB of stack.
+
+   Returns 0, and sets
+   list       words 8v to 8v+3 to the statements that define variable v, words 8v+4 to 8v+7 to those
+              that use it: bit b of word w of those four is statement 64w+b+1, and bits beyond the
+              program's statements are 0. So all of words 0 to 255 are set. All further words are kept.
+   defined    entry v: how many ones the first set of variable v has.
+   used       entry v: how many its second has.
+
+   Returns the number of a refusal, and keeps all:
+    1: the list has under 256 words.
+    2 to 5: the program, as with rewrites_run. */
+uint8_t rewrites_list(const uint8_t *program, size_t program_len, uint64_t *list, size_t list_len,
+                      uint32_t defined[32], uint32_t used[32]);
+
+/* Brings a list of readers and writers up to date after a round of marks. The marks are judged on the
+   program as with rewrites_judge. For each statement whose text the accepted ones change, its bit in
+   each of the 64 sets is written as in the list of the new program, set or cleared; every other bit is
+   kept. So a list that was the given program's is then the new program's; one that was wrong at a
+   statement that stays as it was is wrong there still. Takes at most 128 KiB of stack.
+
+   Returns 0, and sets
+   list       the bits of changed statements. All others, and all words from 256 on, are kept.
+   defined, used
+              as with rewrites_list, counted in words 0 to 255 as they are then: wrong bits, and bits
+              beyond the program's statements, count.
+
+   Returns the number of a refusal, and keeps all:
+    1: the list has under 256 words.
+    2 to 5: the program, as with rewrites_run.
+    9: some line of the marks is misspelled, or the last is without its byte 10.
+   10: the marks have over 256 lines. */
+uint8_t rewrites_relist(const uint8_t *program, size_t program_len, const uint8_t *marks,
+                        size_t marks_len, uint64_t *list, size_t list_len, uint32_t defined[32],
+                        uint32_t used[32]);
+
 #ifdef __cplusplus
 }
 #endif

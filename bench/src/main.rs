@@ -7,7 +7,7 @@ mod time;
 use inputs::{atoms_condition, binary_condition, text, unary_condition, OPERATORS};
 use inputs::{cse_and_rm_marks_for, cse_marks_for, different_marks_for, marks_for};
 use oracle::tuned;
-use rewrites::{force, judge, report, review, run, tabulate, MOST_STEPS};
+use rewrites::{force, judge, list, relist, report, review, run, tabulate, LIST_WORDS, MOST_STEPS};
 use rewrites::{REVIEW_WORDS, STATEMENTS, TABLE_WORDS, TEXT_BYTES, UNFORCED, VERDICT_BYTES};
 use std::fs;
 use time::medians;
@@ -511,6 +511,111 @@ fn print_reports(worst: &mut Worst) {
     }
 }
 
+// Lists of readers and writers
+
+/// The times of a list, ours and tuned, and of reading the program alone, ours and tuned.
+fn time_list(program: &[u8]) -> [f64; 4] {
+    let (mut words, mut words_2) = ([0; LIST_WORDS], [0; LIST_WORDS]);
+    let values = [0; 32];
+    let times = medians(
+        TIMES,
+        [
+            &mut || list(program, &mut words).is_ok(),
+            &mut || tuned::list(program, &mut words_2).is_ok(),
+            &mut || run(program, &values, 7, 0).is_ok(),
+            &mut || tuned::run(program, &values, 7, 0).is_ok(),
+        ],
+    );
+    assert!(words == words_2);
+    times
+}
+
+/// The times of a list brought up to date, ours and tuned, and of judging the same marks.
+fn time_relist(program: &[u8], marks: &[u8]) -> [f64; 3] {
+    let mut words = [0; LIST_WORDS];
+    list(program, &mut words).expect("the program is taken");
+    let mut words_2 = words;
+    let (mut verdicts, mut new) = ([0; VERDICT_BYTES], [0; TEXT_BYTES]);
+    let times = medians(
+        TIMES,
+        [
+            &mut || relist(program, marks, &mut words).is_ok(),
+            &mut || tuned::relist(program, marks, &mut words_2).is_ok(),
+            &mut || judge(program, marks, &mut verdicts, &mut new).is_ok(),
+        ],
+    );
+    let bytes = judge(program, marks, &mut verdicts, &mut new).expect("the list is taken").bytes;
+    let mut afresh = [0; LIST_WORDS];
+    list(&new[..bytes as usize], &mut afresh).expect("new text is taken");
+    assert!(words == words_2 && words == afresh);
+    times
+}
+
+fn print_lists(worst: &mut Worst) {
+    println!(
+        "\nLists of readers and writers, in microseconds; then reading alone (run under budget 0), which is a part of them"
+    );
+    println!(
+        "{:<40} {:>10} {:>10} {:>7} {:>10} {:>10} {:>7}",
+        "", "ours", "tuned", "ratio", "reading", "tuned", "ratio"
+    );
+    for flow in &FLOWS {
+        for size in SIZES {
+            let name = format!("{}, {} statements", flow.name, size);
+            let [ours, tuned, reading, tuned_reading] = time_list(&(flow.program)(size));
+            println!(
+                "{:<40} {:>10.2} {:>10.2} {:>7.2} {:>10.2} {:>10.2} {:>7.2}",
+                name,
+                ours * 1e6,
+                tuned * 1e6,
+                ours / tuned,
+                reading * 1e6,
+                tuned_reading * 1e6,
+                reading / tuned_reading
+            );
+            worst.meet(flow.is_ordinary, ours / tuned, format!("list, {}", name));
+        }
+    }
+}
+
+fn print_relists(worst: &mut Worst) {
+    println!(
+        "\nLists brought up to date after a round of marks, in microseconds; beside judging them. No marks, a mark for\n\
+         each statement, and such that no two have the same condition"
+    );
+    println!(
+        "{:<54} {:>10} {:>10} {:>7} {:>10} {:>7}",
+        "", "ours", "tuned", "ratio", "judge", "ratio"
+    );
+    let lists: [(&str, List); 3] =
+        [("no ", |_| Vec::new()), ("", marks_for), ("different ", different_marks_for)];
+    let mut largest = (0.0, String::new());
+    for flow in &FLOWS {
+        for (kind, marks) in lists {
+            for size in SIZES {
+                let program = (flow.program)(size);
+                let name = format!("{}, {}marks, {} statements", flow.name, kind, size);
+                let [ours, tuned, judging] = time_relist(&program, &marks(&program));
+                println!(
+                    "{:<54} {:>10.2} {:>10.2} {:>7.2} {:>10.2} {:>7.2}",
+                    name,
+                    ours * 1e6,
+                    tuned * 1e6,
+                    ours / tuned,
+                    judging * 1e6,
+                    ours / judging
+                );
+                if ours / judging > largest.0 {
+                    largest = (ours / judging, name.clone());
+                }
+                let is_ordinary = flow.is_ordinary && kind != "different ";
+                worst.meet(is_ordinary, ours / tuned, format!("relist, {}", name));
+            }
+        }
+    }
+    println!("largest ratio to judging: {:.2} ({})", largest.0, largest.1);
+}
+
 fn main() {
     let mut worst = Worst::default();
     println!("machine: {}", machine());
@@ -524,6 +629,8 @@ fn main() {
     print_games(&mut worst);
     print_judging(&mut worst);
     print_reports(&mut worst);
+    print_lists(&mut worst);
+    print_relists(&mut worst);
     println!("\nlargest ratio, ordinary inputs:    {:.2} ({})", worst.ordinary.0, worst.ordinary.1);
     println!(
         "largest ratio, adversarial inputs: {:.2} ({})",

@@ -10,6 +10,7 @@ mod files;
 mod folder;
 mod force;
 mod lines;
+mod list;
 mod marks;
 mod output;
 mod parts;
@@ -37,8 +38,8 @@ Exit status:
   3  output that wasn't written
 Of many folders the worst is told.";
 
-/// Shift programs: judges marks, tabulates and reviews conditions, runs, finds what a driver can force,
-/// and the lines of marks
+/// Shift programs: judges marks, tabulates and reviews conditions, runs, finds what a driver can force and
+/// the lines of marks, and lists readers and writers
 #[derive(Parser)]
 #[command(name = "rewrites", version, after_help = STATUSES)]
 struct Arguments {
@@ -66,15 +67,21 @@ enum Call {
     /// Show where in a list the line of each mark begins and ends
     #[command(after_help = STATUSES)]
     Lines(lines::Arguments),
+    /// Show for each variable the statements that define it and those that use it
+    #[command(after_help = STATUSES)]
+    List(list::Arguments),
 }
 
 /// What is wrong with the arguments of a call taken together.
 fn wrong(arguments: &Arguments) -> Option<clap::Error> {
     let (name, words) = match &arguments.call {
         Call::Check(check) => ("check", check.wrong()?),
-        Call::Tabulate(_) | Call::Review(_) | Call::Force(_) | Call::Run(_) | Call::Lines(_) => {
-            return None
-        }
+        Call::Tabulate(_)
+        | Call::Review(_)
+        | Call::Force(_)
+        | Call::Run(_)
+        | Call::Lines(_)
+        | Call::List(_) => return None,
     };
     let mut command = Arguments::command();
     command.build();
@@ -107,6 +114,7 @@ fn answered(output: &mut Output) -> Result<Status, Unwritten> {
         Call::Force(call) => call.run(output),
         Call::Run(call) => call.run(output),
         Call::Lines(call) => call.run(output),
+        Call::List(call) => call.run(output),
     }
 }
 

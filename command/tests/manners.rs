@@ -11,7 +11,7 @@ use std::os::unix::process::CommandExt;
 use std::path::{Path, PathBuf};
 use std::process::{Command, Stdio};
 
-const CALLS: [&[&str]; 7] = [
+const CALLS: [&[&str]; 8] = [
     &["check", "."],
     &["check", "--json", "."],
     &["check", "--text", "."],
@@ -19,6 +19,7 @@ const CALLS: [&[&str]; 7] = [
     &["review", "."],
     &["run", "."],
     &["lines", "."],
+    &["list", "."],
 ];
 
 #[test]
@@ -30,6 +31,7 @@ fn help_and_version() {
         &["review", "-h"],
         &["check", "--help"],
         &["lines", "-h"],
+        &["list", "-h"],
     ] {
         let output = run(words);
         assert_eq!((status(&output), said(&output).as_str()), (0, ""), "{words:?}");
@@ -72,6 +74,10 @@ fn usage() {
         &["lines"],
         &["lines", ".", "."],
         &["lines", ".", "--text"],
+        &["list"],
+        &["list", ".", "."],
+        &["list", ".", "--text"],
+        &["relist", "."],
     ] {
         let output = run_in(&example("p"), words);
         assert_eq!((status(&output), printed(&output).as_str()), (2, ""), "{words:?}");
@@ -153,6 +159,7 @@ fn readers(file: &str) -> Vec<&'static [&'static str]> {
         "tabulate" => file == "given" || file == "condition",
         "review" => file == "given" || file == "conditions",
         "lines" => file == "marks",
+        "list" => file == "given",
         _ => file == "given" || file == "start",
     };
     CALLS.iter().filter(reads).copied().collect()

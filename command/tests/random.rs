@@ -22,14 +22,14 @@ use std::path::Path;
 const CASES: u64 = 3_000;
 
 #[rustfmt::skip]
-const WORDS: [&str; 35] = [
-    "check", "tabulate", "review", "force", "run", "lines", "help", ".", "a", "nowhere", "given", "--json", "--text", "--explain",
+const WORDS: [&str; 36] = [
+    "check", "tabulate", "review", "force", "run", "lines", "list", "help", ".", "a", "nowhere", "given", "--json", "--text", "--explain",
     "-o", "new", "--output=new", "-onew", "--condition", "E[", "--driver", "i0 i1", "--input", "-1", "2147483648", "--budget",
     "1000001", "--set", "--set=i32=1", "--", "-", "--help", "-V", "-x", "",
 ];
 
 /// The options of each call, some of them such that they are refused.
-const OPTIONS: [(&str, &[&[&str]]); 6] = [
+const OPTIONS: [(&str, &[&[&str]]); 7] = [
     (
         "check",
         &[&["--json"], &["--explain"], &["--text"], &["."], &["a"], &["nowhere"], &["-o", "new"]],
@@ -67,6 +67,7 @@ const OPTIONS: [(&str, &[&[&str]]); 6] = [
         ],
     ),
     ("lines", &[&["--json"]]),
+    ("list", &[&["--json"]]),
 ];
 
 /// The words of a call, mostly such that it is made, at times damaged or any.

@@ -25,6 +25,8 @@ SPENT = START | {"statement", "ticks", "left"}
 FAULTED = START | {"statement", "steps", "ticks"}
 LINES = {"marks", "bytes", "lines"}
 LINE = {"line", "begin", "end", "mark"}
+LIST = {"statements", "variables"}
+VARIABLE = {"variable", "defined", "defining", "used", "using"}
 
 # The totals of the folders that were checked since the last total.
 summed = dict.fromkeys(TICKS, 0)
@@ -158,6 +160,25 @@ def lines(thing):
     return text + "marks {marks} bytes {bytes}\n".format(**thing)
 
 
+def counted(count, statements, most):
+    assert count == len(statements)
+    assert all(1 <= number <= most for number in statements)
+    assert statements == sorted(set(statements))
+    return " ".join(["%d%s" % (count, ":" if statements else "")] + list(map(str, statements)))
+
+
+def listed(thing):
+    has(thing, REPORT | LIST)
+    text = ""
+    for row in thing["variables"]:
+        has(row, VARIABLE)
+        assert row["defined"] + row["used"] > 0
+        defined = counted(row["defined"], row["defining"], thing["statements"])
+        used = counted(row["used"], row["using"], thing["statements"])
+        text += "%s defined %s used %s\n" % (row["variable"], defined, used)
+    return text
+
+
 def faults(thing):
     """The refusal, `refused start`, or nothing where a file wasn't read."""
     text = ""
@@ -182,12 +203,13 @@ def told(thing):
         assert thing["status"] != 0
         return refused
     assert refused == ""
-    return {"check": check, "tabulate": tabulate, "review": review, "force": force, "run": run, "lines": lines}[thing["call"]](thing)
+    tells = {"check": check, "tabulate": tabulate, "review": review, "force": force, "run": run, "lines": lines, "list": listed}
+    return tells[thing["call"]](thing)
 
 
 described = pathlib.Path(__file__).parents[2].joinpath("docs/REFERENCE.md").read_text()
 for names in (
-    VERDICTS, FAULT, REPORT, TOTAL, CHECK, PRICES, TICKS, MARK, TABULATE, ROW, REVIEW, CONDITION, FORCE, PLACE, ENDED, SPENT, FAULTED, LINES, LINE
+    VERDICTS, FAULT, REPORT, TOTAL, CHECK, PRICES, TICKS, MARK, TABULATE, ROW, REVIEW, CONDITION, FORCE, PLACE, ENDED, SPENT, FAULTED, LINES, LINE, LIST, VARIABLE
 ):
     for name in names:
         assert "`%s`" % name in described, name

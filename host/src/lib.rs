@@ -111,6 +111,24 @@
 //! ```
 //!
 //! [`mark_line`] tells where a mark's line lies in the list, to show its verdict beside it.
+//!
+//! A list of readers and writers has, for each variable, the statements that define it and those that
+//! use it. After a round of marks it is brought up to date.
+//!
+//! ```
+//! use rewrites::{list, relist, LIST_WORDS};
+//!
+//! let program = b"read i0\ni1 := i0\nwrite i1\n";
+//! let mut words = [0; LIST_WORDS];
+//! let answer = list(program, &mut words).unwrap();
+//!
+//! // i1 is defined by statement 2 and used by statement 3.
+//! assert_eq!((answer.defined[1], answer.used[1]), (1, 1));
+//!
+//! // `write i0` uses i0 in its place.
+//! let answer = relist(program, b"3: mark(rpl, i1, i0)\n", &mut words).unwrap();
+//! assert_eq!((answer.used[1], answer.used[0]), (0, 2));
+//! ```
 
 #![warn(missing_docs)]
 
@@ -149,6 +167,9 @@ pub const REVIEW_LINES: usize = 32;
 
 /// What stands in [`Forced::number`] where the driver can't force the condition.
 pub const UNFORCED: u32 = u32::MAX;
+
+/// The words that a list of readers and writers must have: two sets of [`PART_WORDS`] for each variable.
+pub const LIST_WORDS: usize = 256;
 
 /// The bytes that there must be for verdicts: one for each of the most marks.
 pub const VERDICT_BYTES: usize = 256;
@@ -306,6 +327,15 @@ pub struct Report {
     pub rewritten: u32,
     /// The sum before less the sum after.
     pub saved: i32,
+}
+
+/// What a list of readers and writers has, counted as the call leaves it.
+#[derive(Clone, Copy, Debug, PartialEq, Eq)]
+pub struct Listing {
+    /// How many ones each variable's set of defining statements has.
+    pub defined: [u32; VARIABLES],
+    /// How many its set of using statements has.
+    pub used: [u32; VARIABLES],
 }
 
 /// What a mark on statement n of a program of N statements gets. Where it isn't accepted, it gets
@@ -998,4 +1028,115 @@ pub fn mark_line(marks: &[u8], line: u32) -> Result<Range<usize>, Refusal> {
         return Err(Refusal::returned(number));
     }
     Ok(begin..end)
+}
+
+/// Makes the list of a program's readers and writers: for each variable the statements that define it,
+/// `read X` or `X := E`, and those that use it.
+///
+/// Words 8v to 8v+3 of the list are the statements that define variable v, words 8v+4 to 8v+7 those that
+/// use it, as the rows of `def` and `use` are in [`tabulate`]: bit b of word w of those four is statement
+/// 64w+b+1, and bits beyond the program's statements are 0. `i24` to `i31`, which the unit keeps from one
+/// pass to the next, are used at `write` too. Words from [`LIST_WORDS`] on are kept.
+///
+/// Takes at most 64 KiB of stack.
+///
+/// # Errors
+///
+/// [`Refusal::Buffer`] for a list of under [`LIST_WORDS`] words, whatever the text holds; else, for the
+/// program, [`Refusal::Misspelled`], [`Refusal::LineCount`], [`Refusal::Placement`] or
+/// [`Refusal::Target`]. The list is then kept.
+///
+/// ```
+/// use rewrites::{list, Refusal, LIST_WORDS, PART_WORDS};
+///
+/// // i0 is defined by statements 1 and 2, and used by 2, twice, and by 3.
+/// let program = b"read i0\ni0 := i0 + i0\nwrite i0\n";
+/// let mut words = [0; LIST_WORDS];
+/// let answer = list(program, &mut words)?;
+/// assert_eq!((words[0], words[PART_WORDS]), (0b011, 0b110));
+/// assert_eq!((answer.defined[0], answer.used[0]), (2, 2));
+///
+/// // The unit keeps i24.
+/// assert_eq!((answer.defined[24], answer.used[24]), (0, 1));
+///
+/// assert_eq!(list(program, &mut words[..255]), Err(Refusal::Buffer));
+/// # Ok::<(), Refusal>(())
+/// ```
+pub fn list(program: &[u8], list: &mut [u64]) -> Result<Listing, Refusal> {
+    let mut listing = Listing { defined: [0; VARIABLES], used: [0; VARIABLES] };
+    // SAFETY: the pointers come from references, so none is null, and those that are written
+    // through are the only ones to their places.
+    let number = unsafe {
+        raw::rewrites_list(
+            program.as_ptr(),
+            program.len(),
+            list.as_mut_ptr(),
+            list.len(),
+            &mut listing.defined,
+            &mut listing.used,
+        )
+    };
+    if number != 0 {
+        return Err(Refusal::returned(number));
+    }
+    Ok(listing)
+}
+
+/// Brings a list of readers and writers up to date after a round of marks.
+///
+/// The marks are judged on the program as [`judge`] does. For each statement whose text the accepted ones
+/// change, its bit in each of the 64 sets is written as in the list of the new program, set or cleared.
+/// Every other bit, and every word from [`LIST_WORDS`] on, is kept. So a list that was the given program's
+/// is then the new program's, word for word; one that was wrong at a statement that stays as it was is
+/// wrong there still. The counts are those of the words as they are then.
+///
+/// Takes at most 128 KiB of stack.
+///
+/// # Errors
+///
+/// [`Refusal::Buffer`] for a list of under [`LIST_WORDS`] words, whatever the texts hold; else, for the
+/// program, [`Refusal::Misspelled`], [`Refusal::LineCount`], [`Refusal::Placement`] or
+/// [`Refusal::Target`]; else, for the marks, [`Refusal::MarkMisspelled`] or [`Refusal::MarkCount`]. The
+/// list is then kept.
+///
+/// ```
+/// use rewrites::{judge, list, relist, Refusal, LIST_WORDS, TEXT_BYTES, VERDICT_BYTES};
+///
+/// let program = b"read i0\ni1 := i0\ni2 := i1\nwrite i2\n";
+/// let marks = b"3: mark(rpl, i1, i0)\n";
+/// let mut words = [0; LIST_WORDS];
+/// list(program, &mut words)?;
+/// let answer = relist(program, marks, &mut words)?;
+///
+/// // Statement 3 uses i0 now, so nothing uses i1.
+/// assert_eq!((answer.used[0], answer.used[1]), (2, 0));
+///
+/// // The list made afresh is the same.
+/// let mut text = [0; TEXT_BYTES];
+/// let judged = judge(program, marks, &mut [0; VERDICT_BYTES], &mut text)?;
+/// let mut afresh = [0; LIST_WORDS];
+/// assert_eq!(list(&text[..judged.bytes as usize], &mut afresh), Ok(answer));
+/// assert_eq!(words, afresh);
+/// # Ok::<(), Refusal>(())
+/// ```
+pub fn relist(program: &[u8], marks: &[u8], list: &mut [u64]) -> Result<Listing, Refusal> {
+    let mut listing = Listing { defined: [0; VARIABLES], used: [0; VARIABLES] };
+    // SAFETY: the pointers come from references, so none is null, and those that are written
+    // through are the only ones to their places.
+    let number = unsafe {
+        raw::rewrites_relist(
+            program.as_ptr(),
+            program.len(),
+            marks.as_ptr(),
+            marks.len(),
+            list.as_mut_ptr(),
+            list.len(),
+            &mut listing.defined,
+            &mut listing.used,
+        )
+    };
+    if number != 0 {
+        return Err(Refusal::returned(number));
+    }
+    Ok(listing)
 }

@@ -142,4 +142,38 @@ extern "C" {
         begin: *mut usize,
         end: *mut usize,
     ) -> u8;
+
+    /// See [`crate::list`] and the header.
+    ///
+    /// # Safety
+    ///
+    /// `program` points to `program_len` bytes and `list` to `list_len` words; each of them may be null
+    /// where its length is 0. No other pointer is null. Places that the call writes overlap no other
+    /// place lent to it.
+    pub fn rewrites_list(
+        program: *const u8,
+        program_len: usize,
+        list: *mut u64,
+        list_len: usize,
+        defined: *mut [u32; VARIABLES],
+        used: *mut [u32; VARIABLES],
+    ) -> u8;
+
+    /// See [`crate::relist`] and the header.
+    ///
+    /// # Safety
+    ///
+    /// `program` points to `program_len` bytes, `marks` to `marks_len` bytes and `list` to `list_len`
+    /// words; each of them may be null where its length is 0. No other pointer is null. Places that the
+    /// call writes overlap no other place lent to it.
+    pub fn rewrites_relist(
+        program: *const u8,
+        program_len: usize,
+        marks: *const u8,
+        marks_len: usize,
+        list: *mut u64,
+        list_len: usize,
+        defined: *mut [u32; VARIABLES],
+        used: *mut [u32; VARIABLES],
+    ) -> u8;
 }

@@ -15,6 +15,7 @@ use lent::{Lent, Text};
 use oracle::condition::{self, Atom, Condition, Demand, Direction, Part, Quantifier};
 use oracle::forcing::{self, player, Arm, Forced, Player};
 use oracle::generate::{self, Damage, Random, WrongDriver, WrongReuse, WrongSign};
+use oracle::listing::{self, Counts, Set};
 use oracle::liveness::{differing, Liveness};
 use oracle::machine::{self, kept_of, Outcome, Run, State, Values};
 use oracle::marks::{self, Judge, Kind, Mark};
@@ -22,7 +23,7 @@ use oracle::pricing::{self, kind, KIND_NAMES};
 use oracle::program::{is_kept, Expression, Operand, Operator, Program, Statement, LARGEST, LEAST};
 use oracle::review::{self, Reviewed, MOST_TABLES};
 use rewrites::{raw, FIRST_KEPT, KEPT, MOST_STEPS, VARIABLES};
-use rewrites::{REVIEW_LINES, REVIEW_WORDS, STATEMENTS, TABLE_WORDS, TEXT_BYTES};
+use rewrites::{LIST_WORDS, REVIEW_LINES, REVIEW_WORDS, STATEMENTS, TABLE_WORDS, TEXT_BYTES};
 use rewrites::{UNFORCED, VERDICT_BYTES};
 use std::ops::Range;
 
@@ -2094,6 +2095,349 @@ fn lines_of_marks_are_as_by_the_oracle() {
     damages.report();
     signs.met.report();
     reuses.report();
+}
+
+// Lists of readers and writers
+
+/// The places of both counts, with kept words around them.
+const DEFINED: usize = 1;
+const USED: usize = DEFINED + VARIABLES + 1;
+const COUNT_PLACES: usize = USED + VARIABLES + 1;
+
+/// A list and the places of its counts, before a call or after it.
+#[derive(Clone)]
+struct LentList {
+    words: Lent<u64>,
+    places: Lent<u32>,
+}
+
+impl LentList {
+    fn new(random: &mut Random, words: &[u64]) -> LentList {
+        let mut list = LentList {
+            words: Lent::new(random, words.len(), |bits| bits),
+            places: Lent::new(random, COUNT_PLACES, |bits| bits as u32),
+        };
+        list.words.part().copy_from_slice(words);
+        list
+    }
+
+    /// Puts counts where a call does.
+    fn put(&mut self, counts: &Counts) {
+        let places = self.places.part();
+        places[DEFINED..DEFINED + VARIABLES].copy_from_slice(&counts.defined);
+        places[USED..USED + VARIABLES].copy_from_slice(&counts.used);
+    }
+
+    fn assert_same(&self, expected: &LentList, shown: impl Fn() -> String) {
+        self.words.assert_same(&expected.words, "list", &shown);
+        self.places.assert_same(&expected.places, "counts", &shown);
+    }
+}
+
+/// What a call leaves in a list, and its counts.
+struct Listed {
+    words: Vec<u64>,
+    counts: Counts,
+}
+
+/// Holds a list that is made, in words that hold others, to the oracle's, and tells the answer.
+fn list_agrees(random: &mut Random, case: &str, text: &[u8], words: &[u64]) -> Result<Listed, u8> {
+    let mut program = Text::new(random, text);
+    let mut lent = LentList::new(random, words);
+    let mut expected = lent.clone();
+    let wanted = listing::list(text, expected.words.part());
+    if let Ok(counts) = &wanted {
+        expected.put(counts);
+    }
+    let shown = || format!("case {case}: {} words, program {}", words.len(), escaped(text));
+    let (program_part, first) = (program.part(), lent.words.part().as_mut_ptr());
+    let places = lent.places.part().as_mut_ptr();
+    // SAFETY: the pointers come from references, and no two of the written places overlap.
+    let number = unsafe {
+        raw::rewrites_list(
+            program_part.as_ptr(),
+            program_part.len(),
+            first,
+            words.len(),
+            places.add(DEFINED).cast(),
+            places.add(USED).cast(),
+        )
+    };
+    assert_eq!(number, wanted.as_ref().err().copied().unwrap_or(0), "number of {}", shown());
+    lent.assert_same(&expected, shown);
+    program.assert_kept("program", shown);
+    wanted.map(|counts| Listed { words: lent.words.part().to_vec(), counts })
+}
+
+/// The same of a list that is brought up to date.
+fn relist_agrees(
+    random: &mut Random,
+    case: &str,
+    text: &[u8],
+    list: &[u8],
+    words: &[u64],
+) -> Result<Listed, u8> {
+    let (mut program, mut asked) = (Text::new(random, text), Text::new(random, list));
+    let mut lent = LentList::new(random, words);
+    let mut expected = lent.clone();
+    let wanted = listing::relist(text, list, expected.words.part());
+    if let Ok(counts) = &wanted {
+        expected.put(counts);
+    }
+    let shown = || {
+        let (text, list) = (escaped(text), escaped(list));
+        format!("case {case}: {} words, program {text} marks {list}", words.len())
+    };
+    let (program_part, asked_part) = (program.part(), asked.part());
+    let (first, places) = (lent.words.part().as_mut_ptr(), lent.places.part().as_mut_ptr());
+    // SAFETY: the pointers come from references, and no two of the written places overlap.
+    let number = unsafe {
+        raw::rewrites_relist(
+            program_part.as_ptr(),
+            program_part.len(),
+            asked_part.as_ptr(),
+            asked_part.len(),
+            first,
+            words.len(),
+            places.add(DEFINED).cast(),
+            places.add(USED).cast(),
+        )
+    };
+    assert_eq!(number, wanted.as_ref().err().copied().unwrap_or(0), "number of {}", shown());
+    lent.assert_same(&expected, shown);
+    program.assert_kept("program", shown);
+    asked.assert_kept("marks", shown);
+    wanted.map(|counts| Listed { words: lent.words.part().to_vec(), counts })
+}
+
+#[rustfmt::skip]
+const LIST_KINDS: [&str; 6] =
+    ["right", "wrong in a bit", "wrong in some bits", "zeros", "ones", "random"];
+
+/// Words for a list to be brought up to date, of this kind; right ones are those of the program's list.
+fn list_of_kind(random: &mut Random, kind: &str, text: &[u8], room: usize) -> Vec<u64> {
+    let mut words: Vec<u64> = (0..room).map(|_| random.bits()).collect();
+    match kind {
+        "zeros" => words.fill(0),
+        "ones" => words.fill(u64::MAX),
+        "random" => {}
+        _ => {
+            // Where the program or the room is refused the words stay random.
+            let made = listing::list(text, &mut words);
+            let wrong = match kind {
+                "wrong in a bit" => 1,
+                "wrong in some bits" => random.between(2, 200),
+                _ => 0,
+            };
+            for _ in 0..if made.is_ok() { wrong } else { 0 } {
+                words[random.below(LIST_WORDS)] ^= 1 << random.below(64);
+            }
+        }
+    }
+    words
+}
+
+/// What a mark that is accepted does to its statement's bits.
+fn list_change(before: &Statement, after: &Statement) -> &'static str {
+    match (before, after) {
+        _ if before == after => "accepted, no text changed",
+        (_, Statement::Skip) if before.defined().map_or(false, |x| before.uses(x)) => {
+            "dropped, used and defined alike"
+        }
+        (_, Statement::Skip) => "dropped",
+        (Statement::Branch { .. }, _) => "replaced in if",
+        (Statement::Write(x), Statement::Write(y)) => match (is_kept(*x), is_kept(*y)) {
+            (false, false) => "replaced in write",
+            _ => "replaced in write, one kept",
+        },
+        (
+            Statement::Assign(_, Expression::Pair(..)),
+            Statement::Assign(_, Expression::Single(_)),
+        ) => "read again",
+        _ => "replaced in an assignment",
+    }
+}
+
+#[rustfmt::skip]
+const LIST_CHANGES: [&str; 8] = [
+    "accepted, no text changed", "dropped", "dropped, used and defined alike", "replaced in if",
+    "replaced in write", "replaced in write, one kept", "replaced in an assignment", "read again",
+];
+
+#[rustfmt::skip]
+const WRITTEN_BITS: [&str; 5] = [
+    "set", "cleared", "kept where wrong", "kept beyond N", "right and written",
+];
+
+/// Counts what became of bits: those of changed statements are as in the list made afresh, and all others as
+/// they were.
+fn bits_met(
+    program: &Program,
+    new: &Program,
+    before: &[u64],
+    after: &Listed,
+    met: &mut Tally<&'static str>,
+) {
+    let mut afresh = [0; LIST_WORDS];
+    listing::list(&new.text(), &mut afresh).expect("new text is taken");
+    for at in 0..256 {
+        let is_changed = program.statements().get(at) != new.statements().get(at);
+        for x in 0..VARIABLES as u8 {
+            for set in [Set::Defining, Set::Using] {
+                let [old, left, made] =
+                    [before, &after.words, &afresh].map(|words| listing::has(words, x, set, at));
+                assert_eq!(left, if is_changed { made } else { old });
+                met.met(match (is_changed, old, made) {
+                    (true, false, true) => "set",
+                    (true, true, false) => "cleared",
+                    (true, ..) => "right and written",
+                    (false, old, _) if at >= new.statements().len() && old => "kept beyond N",
+                    (false, old, made) if old != made => "kept where wrong",
+                    _ => "",
+                });
+            }
+        }
+    }
+}
+
+#[test]
+fn lists_are_as_by_the_oracle() {
+    let mut refusals = Tally::new("refusals of list", [1, 2, 3, 4, 5]);
+    let mut sizes = Tally::new("sizes of programs listed", 2..=256);
+    let mut kinds = Tally::new("statements of programs listed", STATEMENT_KINDS);
+    let mut list_rooms = rooms("words of lists", LIST_WORDS);
+    let mut damages = damages("damages of programs listed");
+    let mut signs = Signs::new("wrong signs of programs listed", 2);
+    let mut defined = Tally::new("variables that are defined", 0..VARIABLES);
+    let mut used = Tally::new("variables that are used", 0..VARIABLES);
+    for (case, mut random) in cases("list") {
+        let random = &mut random;
+        let program = program(random, case);
+        let mut text = program.text();
+        let (mut room_of, mut sign) = (LIST_WORDS, None);
+        if !is_whole(case) {
+            match random.below(20) {
+                0 => text = generate::statement_soup(random),
+                1..=4 => damaged(random, &mut text, &mut damages),
+                5 => sign = wrongly_signed(random, &mut text),
+                _ => {}
+            }
+            if random.chance(25) {
+                room_of = room(random, LIST_WORDS);
+            }
+        }
+        list_rooms.met(room_of);
+        let words = list_of_kind(random, "random", &text, room_of);
+        let answer = list_agrees(random, &case.to_string(), &text, &words);
+        signs.met(sign, answer.as_ref().err().copied().unwrap_or(0));
+        match answer {
+            Err(number) => refusals.met(number),
+            Ok(Listed { counts, .. }) => {
+                let program = Program::read(&text).expect("a program that is listed is taken");
+                sizes.met(program.count());
+                program.statements().iter().for_each(|s| kinds.met(statement_kind(s)));
+                for v in 0..VARIABLES {
+                    defined.add(v, u64::from(counts.defined[v]));
+                    used.add(v, u64::from(counts.used[v]));
+                }
+            }
+        }
+    }
+    refusals.report();
+    sizes.report();
+    kinds.report();
+    list_rooms.report();
+    damages.report();
+    signs.met.report();
+    defined.report();
+    used.report();
+}
+
+#[test]
+fn lists_brought_up_to_date_are_as_by_the_oracle() {
+    let mut refusals = Tally::new("refusals of relist", [1, 2, 3, 4, 5, 9, 10]);
+    let mut sizes = Tally::new("sizes of programs relisted", 2..=256);
+    let mut counts = Tally::new("marks of a round", 0..=256);
+    let mut kinds = Tally::new("lists before a round", LIST_KINDS);
+    let mut changes = Tally::new("marks accepted in a round", LIST_CHANGES);
+    let mut bits = Tally::new("bits of a list", WRITTEN_BITS);
+    let mut rounds = Tally::new("right lists", ["made afresh", "with changes made afresh"]);
+    let mut list_rooms = rooms("words of lists brought up to date", LIST_WORDS);
+    let mut of_programs = damages("damages of programs relisted");
+    let mut of_lists = damages("damages of marks of a round");
+    for (case, mut random) in cases("relist") {
+        let random = &mut random;
+        let program = program(random, case);
+        let mut text = program.text();
+        let count = in_turn(case, EACH_COUNT, 0..=256).unwrap_or(match random.below(30) {
+            0 => random.between(250, 258),
+            _ => random.below(program.count() as usize + 4).min(40),
+        });
+        let mut list = marks::text(&generate::marks(random, &program, count));
+        let mut room_of = LIST_WORDS;
+        if !is_whole(case) {
+            match random.below(40) {
+                0..=3 => damaged(random, &mut text, &mut of_programs),
+                4 => text = generate::statement_soup(random),
+                _ => {}
+            }
+            match random.below(20) {
+                0..=2 => damaged(random, &mut list, &mut of_lists),
+                3 => list = generate::mark_soup(random),
+                _ => {}
+            }
+            if random.chance(15) {
+                room_of = room(random, LIST_WORDS);
+            }
+        }
+        list_rooms.met(room_of);
+        let kind = random.pick(&LIST_KINDS);
+        let words = list_of_kind(random, kind, &text, room_of);
+        let case_name = case.to_string();
+        let after = match relist_agrees(random, &case_name, &text, &list, &words) {
+            Ok(after) => after,
+            Err(number) => {
+                refusals.met(number);
+                continue;
+            }
+        };
+        let program = Program::read(&text).expect("a program that is judged is taken");
+        let list = marks::read(&list).expect("its marks are taken");
+        sizes.met(program.count());
+        counts.met(list.len());
+        kinds.met(kind);
+        let verdicts = Judge::new(&program).verdicts(&list);
+        let new = marks::rewritten(&program, &list, &verdicts);
+        for (mark, _) in list.iter().zip(&verdicts).filter(|(_, &verdict)| verdict == 0) {
+            let of = |program: &Program| *program.statement(mark.number).expect("it has it");
+            changes.met(list_change(&of(&program), &of(&new)));
+        }
+        if case % 16 < 2 {
+            bits_met(&program, &new, &words, &after, &mut bits);
+        }
+        if kind == "right" {
+            // What was the given program's list is the new program's.
+            let blank = vec![random.bits(); room_of];
+            let afresh = list_agrees(random, &case_name, &new.text(), &blank);
+            let afresh = afresh.expect("new text is taken");
+            assert_eq!(after.counts, afresh.counts, "case {case}");
+            assert_eq!(after.words[..LIST_WORDS], afresh.words[..LIST_WORDS], "case {case}");
+            rounds.met("made afresh");
+            if new != program {
+                rounds.met("with changes made afresh");
+            }
+        }
+    }
+    refusals.report();
+    sizes.report();
+    counts.report();
+    kinds.report();
+    changes.report();
+    bits.report();
+    rounds.report();
+    list_rooms.report();
+    of_programs.report();
+    of_lists.report();
 }
 
 // Whole ranges of cases

@@ -534,9 +534,87 @@ static int mark_line_answers(void) {
     return 0;
 }
 
+/* The places of both counts, with a word on both sides of each. */
+enum { DEFINED = 1, USED = 34, COUNT_PLACES = 67 };
+
+/* The list of P, made and brought up to date. */
+static int list_answers(void) {
+    uint8_t (*const list)(const uint8_t *, size_t, uint64_t *, size_t, uint32_t *, uint32_t *) =
+        rewrites_list;
+    uint8_t (*const relist)(const uint8_t *, size_t, const uint8_t *, size_t, uint64_t *, size_t,
+                            uint32_t *, uint32_t *) = rewrites_relist;
+    static const char marks[] =
+        "4: mark(rpl, i2, 7)\n3: mark(rm, i2, 7)\n4: mark(rpl, i1, i0)\n"
+        "6: mark(rm, i0, 1)\n9: mark(rm, i2, 7)\n";
+    static const uint64_t first[8] = {33, 114, 2, 8, 4, 8, 8, 128}; /* each fourth word */
+    static uint8_t many[257 * 19];
+    const uint8_t *p = (const uint8_t *)P, *m = (const uint8_t *)marks;
+    const size_t length = strlen(P), size = strlen(marks);
+    uint64_t memory[4 + 300 + 4], *const words = memory + 4;
+    uint32_t places[COUNT_PLACES], *const d = places + DEFINED, *const u = places + USED;
+    size_t k;
+
+    for (k = 0; k < 257; k++) memcpy(many + 19 * k, "2: mark(rm, i0, 1)\n", 19);
+    for (k = 0; k < 308; k++) memory[k] = 13 + k;
+    for (k = 0; k < COUNT_PLACES; k++) places[k] = 0xa5c30000 + (uint32_t)k;
+    CHECK(list(p, length, words, 255, d, u) == 1);
+    CHECK(list(p, length - 1, words, 255, d, u) == 1);
+    CHECK(list(p, length - 1, words, 256, d, u) == 2);
+    CHECK(list(p, 0, words, 256, d, u) == 3);
+    CHECK(list(p, length, NULL, 0, d, u) == 1);
+    CHECK(list(NULL, 0, NULL, 0, d, u) == 1);
+    CHECK(list(NULL, 0, words, 256, d, u) == 3);
+    CHECK(relist(p, length, m, size, words, 255, d, u) == 1);
+    CHECK(relist(p, length - 1, m, 1, words, 255, d, u) == 1);
+    CHECK(relist(p, length - 1, m, 1, words, 256, d, u) == 2);
+    CHECK(relist(p, length, m, size - 1, words, 256, d, u) == 9);
+    CHECK(relist(p, length, many, sizeof many, words, 256, d, u) == 10);
+    CHECK(relist(p, length, m, size, NULL, 0, d, u) == 1);
+    CHECK(relist(NULL, 0, NULL, 0, NULL, 0, d, u) == 1);
+    CHECK(relist(NULL, 0, NULL, 0, words, 256, d, u) == 3);
+    for (k = 0; k < 308; k++) CHECK(memory[k] == 13 + k);
+    for (k = 0; k < COUNT_PLACES; k++) CHECK(places[k] == 0xa5c30000 + k);
+
+    CHECK(list(p, length, words, 300, d, u) == 0);
+    for (k = 0; k < 256; k++) {
+        const uint64_t kept = k >= 196 && k % 8 == 4 ? 128 : 0;
+        CHECK(words[k] == (k < 32 && k % 4 == 0 ? first[k / 4] : kept));
+    }
+    for (k = 0; k < 32; k++) {
+        CHECK(d[k] == (k == 0 ? 2 : k <= 3));
+        CHECK(u[k] == (k == 0 ? 4 : k <= 3 || k >= 24));
+    }
+
+    /* Statement 4 becomes `i3 := i1 + 7`, and loses its use of i2. */
+    CHECK(relist(p, length, m, size, words, 300, d, u) == 0);
+    for (k = 0; k < 8; k++) CHECK(words[4 * k] == (k == 5 ? 0 : first[k]));
+    CHECK(d[2] == 1 && u[2] == 0 && u[0] == 4 && u[1] == 1);
+
+    /* On zeros its other bits are set, and on ones its others cleared. */
+    for (k = 0; k < 256; k++) words[k] = 0;
+    CHECK(relist(p, length, m, size, words, 300, d, u) == 0);
+    for (k = 0; k < 256; k++) CHECK(words[k] == (k == 12 || k == 24 ? 8 : 0));
+    for (k = 0; k < 32; k++) CHECK(d[k] == (k == 3) && u[k] == (k == 1));
+    for (k = 0; k < 256; k++) words[k] = UINT64_MAX;
+    CHECK(relist(p, length, m, size, words, 300, d, u) == 0);
+    for (k = 0; k < 256; k++)
+        CHECK(words[k] == (k % 4 == 0 && k != 12 && k != 24 ? UINT64_MAX - 8 : UINT64_MAX));
+    for (k = 0; k < 32; k++) {
+        CHECK(d[k] == (k == 3 ? 256 : 255));
+        CHECK(u[k] == (k == 1 ? 256 : 255));
+    }
+
+    /* No marks change no bit. */
+    CHECK(relist(p, length, NULL, 0, words, 256, d, u) == 0);
+    CHECK(words[0] == UINT64_MAX - 8 && d[3] == 256 && u[1] == 256);
+    for (k = 0; k < 308; k++) CHECK((k >= 4 && k < 4 + 256) || memory[k] == 13 + k);
+    for (k = 0; k < COUNT_PLACES; k += 33) CHECK(places[k] == 0xa5c30000 + k);
+    return 0;
+}
+
 int main(void) {
     return run_answers() || kept_answers() || division_answers() || report_answers() || cse_answers() ||
            tabulate_answers() || force_answers() || review_answers() || full_review_answers() ||
            judge_answers() ||
-           below_zero_answers() || mark_line_answers();
+           below_zero_answers() || mark_line_answers() || list_answers();
 }

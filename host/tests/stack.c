@@ -1,7 +1,7 @@
 /* Prints how many bytes of stack the deepest calls take. Each runs in a thread whose stack was filled
    with a pattern before; what the thread alone overwrites is not counted. Exits with 0 where `run`,
-   `judge`, `tabulate`, `review`, `mark_line`, `report` and `force` take no more than the bytes given as
-   arguments. */
+   `judge`, `tabulate`, `review`, `mark_line`, `report`, `force`, `list` and `relist` take no more than
+   the bytes given as arguments. */
 #define _POSIX_C_SOURCE 200112L
 #include "rewrites.h"
 
@@ -76,6 +76,20 @@ static void *mark_line(void *unused) {
     return unused;
 }
 
+static void *list(void *unused) {
+    static uint64_t words[256];
+    static uint32_t defined[32], used[32];
+    number = rewrites_list(program, program_len, words, 256, defined, used);
+    return unused;
+}
+
+static void *relist(void *unused) {
+    static uint64_t words[256];
+    static uint32_t defined[32], used[32];
+    number = rewrites_relist(program, program_len, marks, marks_len, words, 256, defined, used);
+    return unused;
+}
+
 /* The bytes of its stack that a thread overwrites. */
 static size_t overwritten(void *(*body)(void *)) {
     pthread_attr_t attributes;
@@ -137,11 +151,11 @@ int main(int count, char **arguments) {
         {"EX ", "true", "", 340, 8}, {"!", "true", "", 1020, 8},  {"E[", "", "", 512, 7},
         {"(", "true", "", 1020, 7},  {"(", "", "", 1024, 7},
     };
-    size_t most[7] = {ROOM, ROOM, ROOM, ROOM, ROOM, ROOM, ROOM};
+    size_t most[9] = {ROOM, ROOM, ROOM, ROOM, ROOM, ROOM, ROOM, ROOM, ROOM};
     size_t alone = overwritten(nothing), bytes, k;
     int fails = 0, line;
 
-    for (k = 0; k < 7 && k + 1 < (size_t)count; k++) most[k] = strtoul(arguments[k + 1], NULL, 10);
+    for (k = 0; k < 9 && k + 1 < (size_t)count; k++) most[k] = strtoul(arguments[k + 1], NULL, 10);
 
     put_sums();
     bytes = overwritten(judge) - alone;
@@ -176,6 +190,12 @@ int main(int count, char **arguments) {
     bytes = overwritten(mark_line) - alone;
     printf("%7lu bytes of stack: mark_line, the last of 256 marks\n", (unsigned long)bytes);
     fails += number != 0 || bytes > most[4];
+    bytes = overwritten(list) - alone;
+    printf("%7lu bytes of stack: list\n", (unsigned long)bytes);
+    fails += number != 0 || bytes > most[7];
+    bytes = overwritten(relist) - alone;
+    printf("%7lu bytes of stack: relist, 256 marks\n", (unsigned long)bytes);
+    fails += number != 0 || bytes > most[8];
     for (k = 0; k < sizeof cases / sizeof *cases; k++) {
         condition_len = 0;
         put(cases[k].open, cases[k].depth);

@@ -1,17 +1,18 @@
 -- The facts of a program, found statement by statement. Assumes nothing.
 use mathlib.Core.Path.{_≡_, refl, sym, ap, ap₂, _∙_, subst}
-use mathlib.Core.Bool.{Bool, true, false, _&&_, _||_, or-false, and-false}
+use mathlib.Core.Bool.{Bool, true, false, _&&_, _||_, or-false, and-true, and-false}
 use mathlib.Core.List.{List, []}
 use mathlib.Core.Logic.{_↔_, Iff·trans, _⊎_, inl, inr, ⊎-elim}
-use Prim.Native.Nat.{ℕ, zero, suc, _+_, _*_, _≤_, _<_}
-use native.Mathlib.Decide.{ℕ-discrete}
+use Prim.Native.Nat.{ℕ, zero, suc, _+_, _*_, _/_, _%_, _≤_, _<_}
+use native.Mathlib.Decide.{decLt, ℕ-discrete}
+use native.Mathlib.Nat.{mod-lt, zero-lt-suc}
 use native.Mathlib.Numerals.{add-one}
 use native.Mathlib.Omega.{arith}
-use lib.Dec.{eqb}
-use lib.ListN.{length, getD, set, length-set}
+use lib.Dec.{eqb, ltb}
+use lib.ListN.{length, getD, set, length-set, List·getD-eq-default}
 use lib.Seq.{getD-set-same, getD-set-other}
 use borrow.Author.Count.{below-more}
-use borrow.Author.Tests.{eq-eqb, ne-eqb, eqb-true}
+use borrow.Author.Tests.{eq-eqb, ne-eqb, eqb-true, lt-ltb, le-ltb}
 use Rattle.language.specs.Spelling.{variables, Valid}
 use Rattle.language.specs.Kept.{first-kept, kept-count, Kept as KeptVariable}
 use Rattle.language.specs.declared.Operand.{Operand}
@@ -24,15 +25,14 @@ use Rattle.program.specs.Program.{at, most, row-words, WellFormed}
 use Rattle.program.specs.Reading.{statements, Held}
 use Rattle.program.specs.declared.Program.{Program}
 use Rattle.program.proofs.Held.{held, at-held, held-valid, length-held}
-use Rattle.bits.specs.Row.{member, rowOf, Kept, Zeros, ZeroRows}
-use Rattle.bits.proofs.Rows.{zeros-member}
-use Rattle.bits.proofs.Tables.{row-length, row-zeros, row-kept, replaced, replaced-row, replaced-kept}
+use Rattle.bits.specs.Row.{bit, member, rowOf, Kept, Zeros}
+use Rattle.bits.proofs.Rows.{word-member, member-beyond, zeros-member}
+use Rattle.bits.proofs.Tables.{row-at, row-length, row-kept, replaced, replaced-row, replaced-kept}
 use Rattle.base.proofs.Bools.{split, clash, and-left, and-right, and-both, or-case, or-left, or-right}
 use Rattle.labelling.specs.Labels.{Labelled}
-use Rattle.labelling.proofs.Labels.{label-skip, label-join}
 use Rattle.truth.specs.Truth.{InOperand, In, Defines, Uses}
-use Rattle.codes.specs.Codes.{statementCode, code-words, codeWords}
-use Rattle.atoms.specs.Facts.{definedRow, usedRow, fact-rows, fact-words, placed, FactsBy, FactsBelow, Also, notedOperand, notedExpression, notedKept, noted, Marked}
+use Rattle.codes.specs.Codes.{statementCode, codeWords}
+use Rattle.atoms.specs.Facts.{definedRow, usedRow, fact-rows, fact-words, placed, FactsBy, FactsOf, Also, notedOperand, notedExpression, notedKept, noted, Placeless, Found, Marked}
 use Rattle.atoms.proofs.Rows.{label-same}
 
 -- ---- one place in some rows
@@ -120,7 +120,7 @@ used-iff y x = (λ e. let d : usedRow y ≡ usedRow x = eqb-true (usedRow y) (us
 none-iff : (r q : ℕ) → (r ≡ q → ⊥) → (eqb r q ≡ true) ↔ ⊥
 none-iff r q n = (λ e. n (eqb-true r q e), λ d. absurd d)
 
-noted-defined : (i : Statement) (x : ℕ) → (noted i (definedRow x) ≡ true) ↔ Defines i x
+pub noted-defined : (i : Statement) (x : ℕ) → (noted i (definedRow x) ≡ true) ↔ Defines i x
 noted-defined (Read y) x = defined-iff y x
 noted-defined (Write y) x = rw (kept-low kept-count x, or-false (eqb (usedRow y) (definedRow x))) (none-iff (usedRow y) (definedRow x) (omega arith))
 noted-defined (Assign y e) x = rw (expression-low e x, or-false (eqb (definedRow y) (definedRow x))) (defined-iff y x)
@@ -166,7 +166,7 @@ kept-used (suc n) x = kept-more n x (kept-used n x)
 plainly : {X Y : Type 0} {x : ℕ} → X ↔ Y → X ↔ (Y ⊎ (⊥ × KeptVariable x))
 plainly f = (λ e. inl (f .0 e), λ h. ⊎-elim (f .1) (λ k. absurd (k .0)) h)
 
-noted-used : (i : Statement) (x : ℕ) → (noted i (usedRow x) ≡ true) ↔ Uses i x
+pub noted-used : (i : Statement) (x : ℕ) → (noted i (usedRow x) ≡ true) ↔ Uses i x
 noted-used (Read y) x = plainly (none-iff (definedRow y) (usedRow x) (omega arith))
 noted-used (Write y) x =
     let p = eqb (usedRow y) (usedRow x) in
@@ -178,46 +178,105 @@ noted-used (Assign y e) x = plainly (rw (ne-eqb (definedRow y) (usedRow x) (omeg
 noted-used (Branch y n m) x = plainly (used-iff y x)
 noted-used Skip x = plainly (λ e. clash e refl, λ d. absurd d)
 
--- ---- statement by statement
+-- past the last statement nothing is noted
+noted-past : (P : List Statement) (j r : ℕ) → length P ≤ j → noted (at P j) r ≡ false
+noted-past P j r h = ap (λ (i : Statement). noted i r) (List·getD-eq-default P Skip h)
 
-pub facts-none : (P : List Statement) (rows : List ℕ) (codes : List (List ℕ)) → Zeros fact-words rows → ZeroRows most code-words codes → FactsBelow P 0 rows codes
-facts-none P rows codes b k = record {
-  many = b .size;
-  many-codes = k .many;
-  defined = λ x l. record { exact = λ s h. absurd (omega arith); beyond = λ s h. zeros-member (row-zeros row-words rows (definedRow x) b (row-room rows (definedRow x) (omega arith) (b .size))) s };
-  used = λ x l. record { exact = λ s h. absurd (omega arith); beyond = λ s h. zeros-member (row-zeros row-words rows (usedRow x) b (row-room rows (usedRow x) (omega arith) (b .size))) s };
-  coded = λ s h. absurd (omega arith);
+-- a row in which each place stands by its statement
+pub noted-set : (P : List Statement) (rows : List ℕ) → ((r j : ℕ) → r < fact-rows → placed rows r j ≡ noted (at P j) r)
+    → (r : ℕ) → r < fact-rows → (Has : Statement → Type 0) → ((i : Statement) → (noted i r ≡ true) ↔ Has i) → Labelled (length P) (placed rows r) (λ s. Has (at P s))
+noted-set P rows bits r l Has f = record {
+  exact = λ s h. subst (λ (b : Bool). (b ≡ true) ↔ Has (at P s)) (sym (bits r s l)) (f (at P s));
+  beyond = λ s h. bits r s l ∙ noted-past P s r h;
 }
 
-module _ (P : List Statement) (s : ℕ) (low : s < most) (i : Statement) (is : at P s ≡ i) (f g : List ℕ) (codes : List (List ℕ))
-    (below : FactsBelow P s f codes) (m : Marked f g (noted i) s) where
-  abbrev next : List (List ℕ)
-  next = set codes s (codeWords (statementCode i))
+-- ---- statement by statement
 
-  row-more : (r : ℕ) → r < fact-rows → (X : ℕ → Type 0) → (noted i r ≡ true) ↔ X s → Labelled s (placed f r) X → Labelled (s + 1) (placed g r) X
-  row-more r l X x lab = go (split (noted i r))
-    where
-      to : (b : Bool) → noted i r ≡ b → (j : ℕ) → placed g r j ≡ (placed f r j || (b && eqb s j))
-      to b e j = m .bits r j l ∙ ap (λ (t : Bool). placed f r j || (t && eqb s j)) e
+pub placeless : {rows : List ℕ} → Zeros fact-words rows → Placeless rows
+placeless z = record { many = z .size; none = zeros-member z }
 
-      go : (noted i r ≡ true) ⊎ (noted i r ≡ false) → Labelled (s + 1) (placed g r) X
-      go (inl e) = label-join X s (placed f r) lab (x .0 e) (placed g r) (to true e)
-      go (inr e) = label-same (s + 1) (placed f r) (placed g r) X (λ j. to false e j ∙ or-false _) (label-skip X s (placed f r) lab (noted i r) x e)
+placeless-row : (rows : List ℕ) → Placeless rows → (r j : ℕ) → r < fact-rows → placed rows r j ≡ false
+unfolding member
+placeless-row rows z r j l = go (decLt (j / 64) row-words)
+  where
+    go : Dec (j / 64 < row-words) → placed rows r j ≡ false
+    go (yes h) =
+        ap (λ (x : ℕ). bit x (j % 64)) (row-at row-words rows r (j / 64) h)
+        ∙ sym (word-member rows (row-words * r + j / 64) (j % 64) (mod-lt j (zero-lt-suc 63))) ∙ z .none _
+    go (no h) = member-beyond (rowOf row-words rows r) j (omega (arith, row-size rows r l (z .many)))
 
-  pub facts-more : FactsBelow P (s + 1) g next
-  facts-more = record {
+-- a test of the places below s, and of one more
+below-step : (f : ℕ → Bool) (s j : ℕ) → (ltb j (s + 1) && f j) ≡ ((ltb j s && f j) || (f s && eqb s j))
+below-step f s j = go (ℕ-discrete s j)
+  where
+    low : Dec (j < s) → (s ≡ j → ⊥) → ltb j (s + 1) ≡ ltb j s
+    low (yes h) d = lt-ltb j (s + 1) (omega arith) ∙ sym (lt-ltb j s h)
+    low (no h) d = le-ltb j (s + 1) (omega arith) ∙ sym (le-ltb j s (omega arith))
+
+    go : Dec (s ≡ j) → (ltb j (s + 1) && f j) ≡ ((ltb j s && f j) || (f s && eqb s j))
+    go (yes d) =
+        ap (λ (b : Bool). b && f j) (lt-ltb j (s + 1) (omega arith)) ∙ ap f (sym d) ∙ sym (and-true (f s))
+        ∙ ap₂ (λ (a b : Bool). (a && f j) || (f s && b)) (sym (le-ltb j s (omega arith))) (sym (eq-eqb s j d))
+    go (no d) =
+        ap (λ (b : Bool). b && f j) (low (decLt j s) d) ∙ sym (or-false (ltb j s && f j)) ∙ ap (λ (b : Bool). (ltb j s && f j) || b) (sym (and-false (f s)))
+        ∙ ap (λ (b : Bool). (ltb j s && f j) || (f s && b)) (sym (ne-eqb s j d))
+
+-- what is found of the first n statements
+pub record FoundBelow (P : List Statement) (n : ℕ) (rows : List ℕ) (room : ℕ) (codes : List (List ℕ)) : Type 0 where
+  pub many : length rows ≡ fact-words
+  pub many-codes : length codes ≡ room
+  pub bits : (r j : ℕ) → r < fact-rows → placed rows r j ≡ (ltb j n && noted (at P j) r)
+  pub coded : (s : ℕ) → s < n → s < room → getD codes s [] ≡ codeWords (statementCode (at P s))
+
+pub found-none : (P : List Statement) (rows : List ℕ) (codes : List (List ℕ)) → Placeless rows → FoundBelow P 0 rows (length codes) codes
+found-none P rows codes z = record {
+  many = z .many;
+  many-codes = refl;
+  bits = λ r j l. placeless-row rows z r j l ∙ sym (ap (λ (b : Bool). b && noted (at P j) r) (le-ltb j 0 (omega arith)));
+  coded = λ s h k. absurd (omega arith);
+}
+
+module _ (P : List Statement) (s : ℕ) (i : Statement) (is : at P s ≡ i) (f g : List ℕ) (room : ℕ) (codes : List (List ℕ))
+    (below : FoundBelow P s f room codes) (m : Marked f g (noted i) s) where
+  noted-more : (r j : ℕ) → r < fact-rows → placed g r j ≡ (ltb j (s + 1) && noted (at P j) r)
+  noted-more r j l =
+      m .bits r j l ∙ ap₂ (λ (a b : Bool). a || (b && eqb s j)) (below .bits r j l) (ap (λ (x : Statement). noted x r) (sym is))
+      ∙ sym (below-step (λ t. noted (at P t) r) s j)
+
+  pub found-coded : s < room → (words : List ℕ) → words ≡ codeWords (statementCode i) → FoundBelow P (s + 1) g room (set codes s words)
+  found-coded l words e = record {
     many = m .same ∙ below .many;
-    many-codes = length-set codes s (codeWords (statementCode i)) ∙ below .many-codes;
-    defined = λ x l. row-more (definedRow x) (omega arith) (λ t. Defines (at P t) x) (rw is (noted-defined i x)) (below .defined x l);
-    used = λ x l. row-more (usedRow x) (omega arith) (λ t. Uses (at P t) x) (rw is (noted-used i x)) (below .used x l);
-    coded = below-more (λ t. getD next t [] ≡ codeWords (statementCode (at P t))) s earlier here;
+    many-codes = length-set codes s words ∙ below .many-codes;
+    bits = noted-more;
+    coded = below-more (λ t. t < room → getD (set codes s words) t [] ≡ codeWords (statementCode (at P t))) s
+        (λ t h k. getD-set-other codes s t words [] (omega arith) ∙ below .coded t h k)
+        (λ k. getD-set-same codes s words [] (omega (arith, below .many-codes)) ∙ e ∙ ap (λ (x : Statement). codeWords (statementCode x)) (sym is));
   }
-    where
-      earlier : (t : ℕ) → t < s → getD next t [] ≡ codeWords (statementCode (at P t))
-      earlier t l = getD-set-other codes s t (codeWords (statementCode i)) [] (omega arith) ∙ below .coded t l
 
-      here : getD next s [] ≡ codeWords (statementCode (at P s))
-      here = rw is (getD-set-same codes s (codeWords (statementCode i)) [] (omega (arith, below .many-codes)))
+  pub found-uncoded : room ≤ s → FoundBelow P (s + 1) g room codes
+  found-uncoded l = record { many = m .same ∙ below .many; many-codes = below .many-codes; bits = noted-more; coded = λ t h k. below .coded t (omega arith) k }
+
+pub found-all : (P : List Statement) (s : ℕ) (rows : List ℕ) (room : ℕ) (codes : List (List ℕ)) → length P ≤ s → FoundBelow P s rows room codes → Found P rows room codes
+found-all P s rows room codes l below = record {
+  many = below .many;
+  many-codes = below .many-codes;
+  bits = λ r j h. below .bits r j h ∙ go r j (decLt j s);
+  coded = λ t h k. below .coded t (omega arith) k;
+}
+  where
+    go : (r j : ℕ) → Dec (j < s) → (ltb j s && noted (at P j) r) ≡ noted (at P j) r
+    go r j (yes h) = ap (λ (b : Bool). b && noted (at P j) r) (lt-ltb j s h)
+    go r j (no h) = ap (λ (b : Bool). b && noted (at P j) r) (le-ltb j s (omega arith)) ∙ sym (noted-past P j r (omega arith))
+
+-- where there is room for all codes, these are the facts
+pub found-facts : {P : List Statement} {rows : List ℕ} {room : ℕ} {codes : List (List ℕ)} → Found P rows room codes → room ≡ most → length P ≤ most → FactsOf P rows codes
+found-facts {P = P} {rows = rows} f e few = record {
+  many = f .many;
+  many-codes = f .many-codes ∙ e;
+  defined = λ x l. noted-set P rows (f .bits) (definedRow x) (omega arith) (λ i. Defines i x) (λ i. noted-defined i x);
+  used = λ x l. noted-set P rows (f .bits) (usedRow x) (omega arith) (λ i. Uses i x) (λ i. noted-used i x);
+  coded = λ s h. f .coded s h (omega arith);
+}
 
 -- ---- one use more
 
@@ -273,11 +332,3 @@ module _ (p : Program) (h : Held p) where
 
     pub place-valid : Valid (held (p .entries) s)
     place-valid = held-valid (p .entries) (p .count) s inside w
-
-    pub place-more : (f g : List ℕ) (codes : List (List ℕ)) → FactsBelow (statements p) s f codes → Marked f g (noted (held (p .entries) s)) s
-        → (words : List ℕ) → words ≡ codeWords (statementCode (held (p .entries) s)) → FactsBelow (statements p) (s + 1) g (set codes s words)
-    place-more f g codes below m words e =
-        rw e (facts-more (statements p) s (omega (arith, h .few)) (held (p .entries) s) (at-held (p .entries) (p .count) s inside) f g codes below m)
-
-  pub facts-all : (s : ℕ) (f : List ℕ) (codes : List (List ℕ)) → s ≤ p .count → p .count ≤ s → FactsBelow (statements p) s f codes → FactsBelow (statements p) (length (statements p)) f codes
-  facts-all s f codes a b below = let e : s ≡ length (statements p) = omega (arith, count-size) in rw e at below

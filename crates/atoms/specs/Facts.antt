@@ -97,6 +97,18 @@ noted (Assign y e) r = eqb (definedRow y) r || notedExpression e r
 noted (Branch y n m) r = eqb (usedRow y) r
 noted Skip r = false
 
+-- the rows of all variables, with no place in any
+pub record Placeless (rows : List ℕ) : Type 0 where
+  pub many : length rows ≡ fact-words
+  pub none : (j : ℕ) → member rows j ≡ false
+
+-- what is found of P: each place in the rows that its statement belongs to, and the codes of the statements, as many as there is room for
+pub record Found (P : List Statement) (rows : List ℕ) (room : ℕ) (codes : List (List ℕ)) : Type 0 where
+  pub many : length rows ≡ fact-words
+  pub many-codes : length codes ≡ room
+  pub bits : (r j : ℕ) → r < fact-rows → placed rows r j ≡ noted (at P j) r
+  pub coded : (s : ℕ) → s < length P → s < room → getD codes s [] ≡ codeWords (statementCode (at P s))
+
 -- place s is added to the rows of which `there` is true, and to no others
 pub record Marked (old new : List ℕ) (there : ℕ → Bool) (s : ℕ) : Type 0 where
   pub same : length new ≡ length old

@@ -16,7 +16,7 @@ ghost use Rattle.labelling.specs.Labels.{Labelled};
 ghost use Rattle.condition.specs.Condition.{ValidAtom};
 ghost use Rattle.truth.specs.Truth.{InOperand, In, Defines, HoldsBy};
 ghost use Rattle.codes.specs.Codes.{code-words};
-ghost use Rattle.atoms.specs.Facts.{rowNumber, usedRow, fact-rows, fact-words, placed, FactsOf, usedIn, FactsIn, Sized, notedOperand, notedExpression, notedKept, noted, Marked};
+ghost use Rattle.atoms.specs.Facts.{rowNumber, usedRow, fact-rows, fact-words, Placeless, Found, usedIn, FactsIn, Sized, notedOperand, notedExpression, notedKept, noted, Marked};
 use codes::CODE_WORDS;
 use condition::Atom;
 use language::Expression;
@@ -42,6 +42,13 @@ pub fn blank_codes() -> [[u64; CODE_WORDS]; MOST]
     ensures { λ r. ⌜ ZeroRows most code-words r ⌝ }
 {
     [[0; CODE_WORDS]; MOST]
+}
+
+// No room for codes.
+pub fn no_codes() -> [[u64; CODE_WORDS]; 0]
+    ensures { λ r. ⌜ length r ≡ 0 ⌝ }
+{
+    [[0; CODE_WORDS]; 0]
 }
 
 // The row of the places that define a variable, or of those that use it.
@@ -133,12 +140,12 @@ fn note(i: Statement, s: usize, rows: &mut [u64])
     }
 }
 
-// The facts of the program's statements.
+// The facts of the program's statements: the rows of the variables, and the codes of as many statements as there is room for.
 pub fn find(p: Program, rows: &mut [u64], codes: &mut [[u64; CODE_WORDS]])
     requires { ⌜ Held p ⌝ }
     requires { ⌜ WellFormed (statements p) ⌝ }
-    requires { ⌜ Zeros fact-words (now rows) × ZeroRows most code-words (now codes) ⌝ }
-    ensures { λ _. ⌜ FactsOf (statements p) (now (rows .exit)) (now (codes .exit)) ⌝ }
+    requires { ⌜ Placeless (now rows) ⌝ }
+    ensures { λ _. ⌜ Found (statements p) (now (rows .exit)) (length (now (codes .entry))) (now (codes .exit)) ⌝ }
 {
     let n = p.count;
     let mut s: usize = 0;
@@ -146,9 +153,13 @@ pub fn find(p: Program, rows: &mut [u64], codes: &mut [[u64; CODE_WORDS]])
         let e = p.entries[s];
         let i = e.statement;
         note(i, s, rows);
-        let words = codes::words_of(codes::statement_code(i));
-        codes[s] = words;
-        s += 1;
+        if s < codes.len() {
+            let words = codes::words_of(codes::statement_code(i));
+            codes[s] = words;
+            s += 1;
+        } else {
+            s += 1;
+        }
     }
 }
 

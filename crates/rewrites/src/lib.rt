@@ -6,7 +6,9 @@ ghost use Rattle.host_judge.specs.Places.{JudgeExported};
 ghost use Rattle.host_review.specs.Places.{ReviewExported};
 ghost use Rattle.host_mark_line.specs.Places.{MarkLineExported};
 ghost use Rattle.host_report.specs.Places.{ReportExported};
+ghost use Rattle.host_listing.specs.Exports.{ListExported, RelistExported};
 use language::KEPT;
+use listing::COUNTS;
 use machine::VALUES;
 use program::MOST;
 use sharing::MOST_LINES;
@@ -160,4 +162,29 @@ pub extern "C" fn rewrites_mark_line(
     ensures { λ r. ⌜ MarkLineExported (now (marks .entry)) line r (record { begin = now (begin .entry); end = now (end .entry) }) (record { begin = now (begin .exit); end = now (end .exit) }) ⌝ }
 {
     host_mark_line::export(marks, line, begin, end)
+}
+
+#[no_mangle]
+pub extern "C" fn rewrites_list(
+    program: &[u8],
+    list: &mut [u64],
+    defined: &mut [u32; COUNTS],
+    used: &mut [u32; COUNTS],
+) -> u8
+    ensures { λ r. ⌜ ListExported (now (program .entry)) (now (list .entry)) (now (list .exit)) r (record { defined = now (defined .entry); used = now (used .entry) }) (record { defined = now (defined .exit); used = now (used .exit) }) ⌝ }
+{
+    host_listing::list(program, list, defined, used)
+}
+
+#[no_mangle]
+pub extern "C" fn rewrites_relist(
+    program: &[u8],
+    marks: &[u8],
+    list: &mut [u64],
+    defined: &mut [u32; COUNTS],
+    used: &mut [u32; COUNTS],
+) -> u8
+    ensures { λ r. ⌜ RelistExported (now (program .entry)) (now (marks .entry)) (now (list .entry)) (now (list .exit)) r (record { defined = now (defined .entry); used = now (used .entry) }) (record { defined = now (defined .exit); used = now (used .exit) }) ⌝ }
+{
+    host_listing::relist(program, marks, list, defined, used)
 }

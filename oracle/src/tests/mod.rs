@@ -7,6 +7,7 @@ mod document;
 mod forcing;
 mod generated;
 mod kept;
+mod listing;
 mod mark_lines;
 mod naive;
 mod open_points;

@@ -288,16 +288,14 @@ impl Writer<'_> {
 /// Stands for the verdict of an `rm` until each `cse` is judged.
 const UNDECIDED: u8 = 255;
 
-/// Judges a list on a program, and makes the accepted marks; the number of marks and of accepted ones.
+/// Judges the marks of a list, and makes the accepted ones in the program; how many there are, and how many are accepted.
 #[inline(always)]
-fn rewrite(
+fn make_all(
     program: &mut Program,
-    marks: &[u8],
+    list: &List,
     verdicts: &mut [u8],
     is_true: impl Fn(&Judge, &Program, &Mark, u8) -> bool,
-) -> Result<(u32, u32), u8> {
-    let mut list = List::empty();
-    list.read(marks)?;
+) -> (u32, u32) {
     let mut judge = Judge { flow: Flow::new(program), rows: Rows::new(program) };
     let (mut named, mut accepted) = ([0; 4], 0);
     for (mark, verdict) in list.marks().iter().zip(verdicts.iter_mut()) {
@@ -341,7 +339,22 @@ fn rewrite(
             make(mark, &mut program.statements_mut()[mark.number as usize - 1]);
         }
     }
-    Ok((list.marks().len() as u32, accepted))
+    (list.marks().len() as u32, accepted)
+}
+
+/// Whether a mark's condition is true, by a search from its statement.
+#[inline(always)]
+fn is_true_by_search(judge: &Judge, program: &Program, mark: &Mark, at: u8) -> bool {
+    match mark.kind {
+        Kind::Remove(_) => judge.is_dead(mark.variable, at),
+        Kind::Replace(a) => judge.is_held(program, Copied(mark.variable, a), at),
+        Kind::Reuse(e) => judge.is_held(program, Computed(mark.variable, e), at),
+    }
+}
+
+/// Makes the accepted marks of a list in the program.
+pub fn rewrite(program: &mut Program, list: &List) {
+    make_all(program, list, &mut [0; VERDICT_BYTES], is_true_by_search);
 }
 
 #[inline(always)]
@@ -356,19 +369,12 @@ fn judge_with(
         return Err(1);
     }
     let mut program = Program::read(program)?;
-    let (count, accepted) = rewrite(&mut program, marks, verdicts, is_true)?;
+    let mut list = List::empty();
+    list.read(marks)?;
+    let (count, accepted) = make_all(&mut program, &list, verdicts, is_true);
     let mut writer = Writer { text, at: 0 };
     program.statements().iter().for_each(|statement| writer.statement(statement));
     Ok((count, accepted, writer.at as u32))
-}
-
-/// Whether a mark's condition is true at its statement, by a search from there.
-fn is_met(judge: &Judge, program: &Program, mark: &Mark, at: u8) -> bool {
-    match mark.kind {
-        Kind::Remove(_) => judge.is_dead(mark.variable, at),
-        Kind::Replace(a) => judge.is_held(program, Copied(mark.variable, a), at),
-        Kind::Reuse(e) => judge.is_held(program, Computed(mark.variable, e), at),
-    }
 }
 
 /// The call: fills verdicts and new text; the number of marks, of accepted ones and of bytes of new text, or the
@@ -379,7 +385,7 @@ pub fn judge(
     verdicts: &mut [u8],
     text: &mut [u8],
 ) -> Result<(u32, u32, u32), u8> {
-    judge_with(program, marks, verdicts, text, is_met)
+    judge_with(program, marks, verdicts, text, is_true_by_search)
 }
 
 /// Puts the price of each statement, and tells their sum.
@@ -404,7 +410,9 @@ pub fn report(
     let count = program.statements().len();
     let mut prices = [0; MOST_LINES];
     let given = put_prices(&program, &mut prices);
-    rewrite(&mut program, marks, &mut [0; VERDICT_BYTES], is_met)?;
+    let mut list = List::empty();
+    list.read(marks)?;
+    rewrite(&mut program, &list);
     before[..count].copy_from_slice(&prices[..count]);
     let rewritten = put_prices(&program, after);
     Ok((count as u32, given, rewritten, given as i32 - rewritten as i32))

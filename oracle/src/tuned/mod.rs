@@ -4,6 +4,7 @@
 mod flow;
 mod force;
 mod judge;
+mod listing;
 mod read;
 mod review;
 mod run;
@@ -11,6 +12,7 @@ mod tabulate;
 
 pub use force::force;
 pub use judge::{judge, judge_by_labels, report};
+pub use listing::{list, relist};
 pub use review::review;
 pub use run::run;
 pub use tabulate::tabulate;

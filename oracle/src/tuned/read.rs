@@ -173,6 +173,7 @@ impl<'a> Cursor<'a> {
 }
 
 /// A program that is taken.
+#[derive(Clone)]
 pub struct Program {
     statements: [Statement; MOST_LINES],
     count: usize,

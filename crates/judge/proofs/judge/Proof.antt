@@ -8,6 +8,7 @@ use Rattle.program.specs.Program.{Taken}
 use Rattle.program.specs.Reading.{statements, Held}
 use Rattle.marks.specs.Reading as marks
 use Rattle.marks.specs.declared.Mark.{Mark}
+use Rattle.atoms.proofs.Found.{placeless}
 use Rattle.calls.proofs.Known.{known-program}
 use Rattle.judge.proofs.Judges.{some-judged, text-short, finished}
 use borrow.Author.Needs.{needs}
@@ -38,7 +39,7 @@ returns-3 c =
 find-requires : tie.Need-find-requires
 find-requires c κs =
     let p = program-taken (c .before .before .before .before .before .before .before .before .before) in
-    (p .1, (p .0 .program, (c .before .before .before .blank .ensures, c .before .before .blank-codes .ensures)))
+    (p .1, (p .0 .program, placeless (c .before .before .before .blank .ensures)))
 
 of-requires : tie.Need-of-requires
 of-requires c κs = let p = program-taken (c .before .before .before .before .before .before .before .before .before .before .before .before .before .before) in (p .1, (p .0 .program, c .before .blank2 .ensures .size))
@@ -49,7 +50,7 @@ judge-requires c κs =
     let p = program-taken (k .before .before .before .before) in
     let m = marks-taken k in
     let of = c .before .before .before .before .before .of in
-    let known = known-program {flow = of .last .1 .0} (p .0) (p .1) (c .before .before .before .before .before .before .before .before .before .before .find .ensures) (of .ensures) in
+    let known = known-program {flow = of .last .1 .0} (p .0) (p .1) (c .before .before .before .before .before .before .before .before .before .before .find .ensures) (c .before .before .before .before .before .before .before .before .before .before .before .before .before .blank-codes .ensures .many) (of .ensures) in
     ((p .1, known (omega (arith, of .kept, c .before .before .before .before .before .before .before .blank2 .ensures .size))), (record { ms = m .0; taken = m .1 }, k .before .before .before .before .before .before .before .before .if1 .left))
 
 rewrite-requires : tie.Need-rewrite-requires

@@ -9,6 +9,7 @@ use Rattle.program.proofs.RoundTrip.{taken-unique}
 use Rattle.program.proofs.Unique.{taken-refused}
 use Rattle.table.specs.Known.{Known}
 use Rattle.table.proofs.By.{known-in}
+use Rattle.atoms.proofs.Found.{placeless}
 use Rattle.calls.proofs.Known.{known-program}
 use Rattle.liveness.specs.Liveness.{live-words}
 use Rattle.liveness.proofs.Rows.{all-live, of-text, of-none}
@@ -28,7 +29,7 @@ program-taken c = rw (c .enum-told .given .1) at (c .before .before .read .ensur
 find-requires : tie.Need-find-requires
 find-requires c κs =
     let p = program-taken (c .before .before .before .before .before) in
-    (p .1, (p .0 .program, (c .before .before .before .blank2 .ensures, c .before .before .blank-codes .ensures)))
+    (p .1, (p .0 .program, placeless (c .before .before .before .blank2 .ensures)))
 
 of-requires : tie.Need-of-requires
 of-requires c κs = let p = program-taken (c .before .before .before .before .before .before .before .before .before .before) in (p .1, (p .0 .program, c .before .blank3 .ensures .size))
@@ -42,7 +43,7 @@ known :
 known c =
     let p = program-taken (c .before .before .before .before .before .before .before .before .before .before .before .before) in
     let of = c .before .of in
-    known-program {flow = of .last .1 .0} (p .0) (p .1) (c .before .before .before .before .before .before .find .ensures) (of .ensures) (omega (arith, of .kept, c .before .before .before .blank3 .ensures .size))
+    known-program {flow = of .last .1 .0} (p .0) (p .1) (c .before .before .before .before .before .before .find .ensures) (c .before .before .before .before .before .before .before .before .before .blank-codes .ensures .many) (of .ensures) (omega (arith, of .kept, c .before .before .before .blank3 .ensures .size))
 
 fill-requires : tie.Need-fill-requires
 fill-requires c κs =

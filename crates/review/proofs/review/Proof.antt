@@ -1,5 +1,6 @@
 -- `review` meets its contract. Assumes nothing.
 use Rattle.review.proofs.Reviews.{few-lines, few-tables, lines-rowed, reviewed}
+use Rattle.atoms.proofs.Found.{placeless}
 use Rattle.calls.proofs.Known.{known-program}
 use Rattle.sharing.specs.Sharing.{partsOf}
 use Rattle.table.specs.Known.{Known}
@@ -35,7 +36,7 @@ program-taken c = rw (c .enum-told .given .1) at (c .before .before .read .ensur
 find-requires : tie.Need-find-requires
 find-requires c κs =
     let p = program-taken (c .before .before .before .before .before .before .before .before .before .before .before .before .before .before .before .before .before .before) in
-    (p .1, (p .0 .program, (c .before .before .before .blank3 .ensures, c .before .before .blank-codes .ensures)))
+    (p .1, (p .0 .program, placeless (c .before .before .before .blank3 .ensures)))
 
 of-requires : tie.Need-of-requires
 of-requires c κs =
@@ -53,7 +54,7 @@ known c =
     let e = c .before .before .before .before .before .before .before .before .before .before .before .before .before .before .before .before .before .before .before .before .before .before .before .before .before in
     let p = program-taken e in
     let of = c .before .of in
-    known-program {flow = of .last .1 .0} (p .0) (p .1) (c .before .before .before .before .before .before .find .ensures) (of .ensures) (omega (arith, of .kept, c .before .before .before .blank4 .ensures .size))
+    known-program {flow = of .last .1 .0} (p .0) (p .1) (c .before .before .before .before .before .before .find .ensures) (c .before .before .before .before .before .before .before .before .before .blank-codes .ensures .many) (of .ensures) (omega (arith, of .kept, c .before .before .before .blank4 .ensures .size))
 
 fill-requires : tie.Need-fill-requires
 fill-requires c κs =

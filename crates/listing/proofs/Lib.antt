@@ -1,0 +1,4 @@
+pub mod Sets
+pub mod Counts
+pub mod Lists
+pub mod Relisted
