@@ -52,6 +52,9 @@ module _ {o fs : List Entry} {size d : ℕ} {es : List Entry} {k : ℕ} (m : Mad
           let here : suc j ≡ k = omega arith in
           rw here (held-same es (d + k) i (omega (arith, m .room)) ∙ is)
 
+pub held-size : {p : Program} → Held p → length (statements p) ≡ p .count
+held-size {p} h = length-held (p .entries) (p .count) (omega (arith, h .room, h .few))
+
 module _ {road creeper : Program} (h : Held road) (w : WellFormed (statements road)) (g : Held creeper) (x : WellFormed (statements creeper)) where
   abbrev P : List Statement
   P = statements road
@@ -59,14 +62,8 @@ module _ {road creeper : Program} (h : Held road) (w : WellFormed (statements ro
   abbrev Q : List Statement
   Q = statements creeper
 
-  pub road-size : length P ≡ road .count
-  road-size = length-held (road .entries) (road .count) (omega (arith, h .room, h .few))
-
-  pub creeper-size : length Q ≡ creeper .count
-  creeper-size = length-held (creeper .entries) (creeper .count) (omega (arith, g .room, g .few))
-
   pub creeper-targets : (k : ℕ) → k < creeper .count → Targets most (held (creeper .entries) k)
-  creeper-targets k l = held-targets (creeper .entries) (creeper .count) k (omega (arith, creeper-size)) x
+  creeper-targets k l = held-targets (creeper .entries) (creeper .count) k (omega (arith, held-size g)) x
 
   -- the seam is set at the road's last place
   module _ {d : ℕ} (is : d ≡ length P - 1) {a b : ℕ} (wrote : a ≡ writes (held (road .entries) d)) (begins : b ≡ reads (held (creeper .entries) 0)) where
@@ -86,12 +83,12 @@ module _ {road creeper : Program} (h : Held road) (w : WellFormed (statements ro
           each P Q (w .counted) (x .counted) (λ s i. held es s ≡ i)
           (λ s l. m .road s (omega arith) ∙ held-other (road .entries) d s between (λ e. omega (arith, e))
           ∙ sym (at-held (road .entries) (road .count) s (omega arith)))
-          (ap (held es) (sym is) ∙ m .road d (omega arith) ∙ held-same (road .entries) d between (omega (arith, h .room, h .few, road-size, w .counted .0)) ∙ seam-made)
-          (λ j l. rw (← is) (m .creeper j (omega (arith, creeper-size)) ∙ ap (moved d) (sym (at-held (creeper .entries) (creeper .count) (suc j) l))))
+          (ap (held es) (sym is) ∙ m .road d (omega arith) ∙ held-same (road .entries) d between (omega (arith, h .room, h .few, held-size h, w .counted .0)) ∙ seam-made)
+          (λ j l. rw (← is) (m .creeper j (omega (arith, held-size g)) ∙ ap (moved d) (sym (at-held (creeper .entries) (creeper .count) (suc j) l))))
 
       pub made-all : map statementIn (take (d + creeper .count) es) ≡ joined P Q
       made-all =
           let size : length (map statementIn (take (d + creeper .count) es)) ≡ d + creeper .count = length-held es (d + creeper .count) (omega (arith, m .room)) in
           ext-getD Skip (map statementIn (take (d + creeper .count) es)) (joined P Q)
-          (omega (arith, size, is, creeper-size, joined-length P Q (w .counted) (x .counted)))
-          (λ s l. at-held es (d + creeper .count) s l ∙ there s (omega (arith, size, is, creeper-size)))
+          (omega (arith, size, is, held-size g, joined-length P Q (w .counted) (x .counted)))
+          (λ s l. at-held es (d + creeper .count) s l ∙ there s (omega (arith, size, is, held-size g)))

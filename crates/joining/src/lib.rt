@@ -60,8 +60,9 @@ pub fn join(road: Program, creeper: Program) -> Program
 {
     let mut entries = road.entries;
     let further = creeper.entries;
+    let count = road.count;
     let size = creeper.count;
-    let last = road.count - 1;
+    let last = count - 1;
     let write = entries[last];
     let read = further[0];
     let written = write.statement;
@@ -81,8 +82,9 @@ pub fn join(road: Program, creeper: Program) -> Program
         };
         k += 1;
     }
+    let total = last + size;
     Program {
         entries: entries,
-        count: last + size,
+        count: total,
     }
 }

@@ -1,5 +1,5 @@
 -- `join` meets its contract. The invariant: the road, the seam and the creeper up to place k stand in the entries. Assumes nothing.
-use Rattle.joining.proofs.Made.{Made, made-none, made-more, road-size, creeper-size, creeper-targets, made-all}
+use Rattle.joining.proofs.Made.{Made, made-none, made-more, held-size, creeper-targets, made-all}
 use Rattle.program.specs.Program.{most}
 use lib.ListN.{length, length-set}
 use borrow.Author.Needs.{needs}
@@ -10,66 +10,66 @@ use Rattle.joining.proofs.join.Statement.{statement}
 use Rattle.joining.proofs.join.Tie as tie
 
 abbrev Inv-loop : tie.InvT-loop
-Inv-loop entries₀ further size last x y d k₀ entries k = Made entries₀ further size last entries k
+Inv-loop entries₀ further count size last x y d k₀ entries k = Made entries₀ further size last entries k
 
 abbrev μ-loop : tie.MeasureT-loop
-μ-loop entries₀ further size last x y d k₀ entries k = size - k
+μ-loop entries₀ further count size last x y d k₀ entries k = size - k
 
 -- both programs have two statements or more and fit together, and both arrays are whole
 sizes : (c : tie.Start Inv-loop μ-loop) → (2 ≤ c .args .road .count) × (2 ≤ c .args .creeper .count) × (c .args .road .count + c .args .creeper .count ≤ most + 1) × (c .args .road .count ≤ most)
     × (length (c .args .road .entries) ≡ most) × (length (c .args .creeper .entries) ≡ most)
 sizes c =
     let p = c .pre in
-    let n = road-size (p .0 .0) (p .0 .1) (p .1 .0 .0) (p .1 .0 .1) in
-    let m = creeper-size (p .0 .0) (p .0 .1) (p .1 .0 .0) (p .1 .0 .1) in
+    let n = held-size (p .0 .0) in
+    let m = held-size (p .1 .0 .0) in
     (omega (arith, p .0 .1 .counted .0), omega (arith, p .1 .0 .1 .counted .0), p .1 .1, p .0 .0 .few, p .0 .0 .room, p .1 .0 .0 .room)
 
 sub-last : tie.Need-sub-last Inv-loop μ-loop
-sub-last c = let s = sizes (c .before .before .before) in omega arith
+sub-last c = let s = sizes (c .before .before) in omega arith
 
 array-copy-out-write : tie.Need-array-copy-out-write Inv-loop μ-loop
-array-copy-out-write c = let s = sizes (c .before .before .before) in omega arith
+array-copy-out-write c = let s = sizes (c .before .before) in omega arith
 
 array-copy-out-read : tie.Need-array-copy-out-read Inv-loop μ-loop
-array-copy-out-read c = let s = sizes (c .before .before .before .before) in omega arith
+array-copy-out-read c = let s = sizes (c .before .before .before) in omega arith
 
 array-set-from-entries : tie.Need-array-set-from-entries Inv-loop μ-loop
-array-set-from-entries c = let s = sizes (c .before .before .before .before .before .before .before) in omega arith
+array-set-from-entries c = let s = sizes (c .before .before .before .before .before .before) in omega arith
 
 cast-d : tie.Need-cast-d Inv-loop μ-loop
-cast-d c = let s = sizes (c .before .before .before .before .before .before .before) in omega arith
+cast-d c = let s = sizes (c .before .before .before .before .before .before) in omega arith
 
 loop-holds : tie.Need-loop-holds Inv-loop μ-loop
-loop-holds c = let s = sizes (c .before .before .before .before .before .before .before) in made-none (simp length-set (s .4)) (omega arith)
+loop-holds c = let s = sizes (c .before .before .before .before .before .before) in made-none (simp length-set (s .4)) (omega arith)
 
 array-copy-out-e : tie.Need-array-copy-out-e Inv-loop μ-loop
-array-copy-out-e c = let s = sizes (c .before .before .before .before .before .before .before .before .before) in omega arith
+array-copy-out-e c = let s = sizes (c .before .before .before .before .before .before .before .before) in omega arith
 
 moved-requires : tie.Need-moved-requires Inv-loop μ-loop
-moved-requires c κs = let s = sizes (c .before .before .before .before .before .before .before .before .before .before) in let p = c .before .before .before .before .before .before .before .before .before .before .pre in (creeper-targets (p .0 .0) (p .0 .1) (p .1 .0 .0) (p .1 .0 .1) (c .before .before .loop .k) (c .before .loop-test .taken), omega arith)
+moved-requires c κs = let s = sizes (c .before .before .before .before .before .before .before .before .before) in let p = c .before .before .before .before .before .before .before .before .before .pre in (creeper-targets (p .0 .0) (p .0 .1) (p .1 .0 .0) (p .1 .0 .1) (c .before .before .loop .k) (c .before .loop-test .taken), omega arith)
 
 add-entries : tie.Need-add-entries Inv-loop μ-loop
-add-entries c = let s = sizes (c .before .before .before .before .before .before .before .before .before .before .before) in omega arith
+add-entries c = let s = sizes (c .before .before .before .before .before .before .before .before .before .before) in omega arith
 
 array-set-from-entries-2 : tie.Need-array-set-from-entries-2 Inv-loop μ-loop
-array-set-from-entries-2 c = let s = sizes (c .before .before .before .before .before .before .before .before .before .before .before) in omega (arith, c .before .before .before .loop .inv .room)
+array-set-from-entries-2 c = let s = sizes (c .before .before .before .before .before .before .before .before .before .before) in omega (arith, c .before .before .before .loop .inv .room)
 
 add-k : tie.Need-add-k Inv-loop μ-loop
-add-k c = let s = sizes (c .before .before .before .before .before .before .before .before .before .before .before) in omega arith
+add-k c = let s = sizes (c .before .before .before .before .before .before .before .before .before .before) in omega arith
 
 loop-less : tie.Need-loop-less Inv-loop μ-loop
 loop-less c = omega arith
 
 loop-again : tie.Need-loop-again Inv-loop μ-loop
-loop-again c = let s = sizes (c .before .before .before .before .before .before .before .before .before .before .before) in made-more (c .before .before .before .loop .inv) (c .before .before .loop-test .taken) (omega arith) _ (c .moved .ensures)
+loop-again c = let s = sizes (c .before .before .before .before .before .before .before .before .before .before) in made-more (c .before .before .before .loop .inv) (c .before .before .loop-test .taken) (omega arith) _ (c .moved .ensures)
 
-add-t17 : tie.Need-add-t17 Inv-loop μ-loop
-add-t17 c = let s = sizes (c .before .before .before .before .before .before .before .before .before) in omega arith
+add-total : tie.Need-add-total Inv-loop μ-loop
+add-total c = let s = sizes (c .before .before .before .before .before .before .before .before) in omega arith
 
 returns : tie.Need-returns Inv-loop μ-loop
-returns c = let s = sizes (c .before .before .before .before .before .before .before .before .before) in
-    let p = c .before .before .before .before .before .before .before .before .before .pre in
-    let l = road-size (p .0 .0) (p .0 .1) (p .1 .0 .0) (p .1 .0 .1) in
+returns c = let s = sizes (c .before .before .before .before .before .before .before .before) in
+    let p = c .before .before .before .before .before .before .before .before .pre in
+    let l = held-size (p .0 .0) in
     (record { room = c .before .loop .inv .room; few = omega arith }, made-all (p .0 .0) (p .0 .1) (p .1 .0 .0) (p .1 .0 .1) (omega arith) (c .before .before .before .writes .ensures) (c .before .before .reads .ensures) (c .before .loop .inv) (c .loop-test .left) (omega arith))
 
 pub join-spec : {M : Type 1} → statement M
@@ -97,5 +97,5 @@ join-spec =
     add-k
     loop-less
     loop-again
-    add-t17
+    add-total
     returns)
