@@ -4,6 +4,7 @@ ghost use Rattle.host_tabulate.specs.Places.{TabulateExported};
 ghost use Rattle.host_judge.specs.Places.{JudgeExported};
 ghost use Rattle.host_review.specs.Places.{ReviewExported};
 ghost use Rattle.host_mark_line.specs.Places.{MarkLineExported};
+ghost use Rattle.host_join.specs.Places.{JoinExported};
 use language::KEPT;
 use machine::VALUES;
 use sharing::MOST_LINES;
@@ -103,4 +104,17 @@ pub extern "C" fn rewrites_mark_line(
     ensures { λ r. ⌜ MarkLineExported (now (marks .entry)) line r (record { begin = now (begin .entry); end = now (end .entry) }) (record { begin = now (begin .exit); end = now (end .exit) }) ⌝ }
 {
     host_mark_line::export(marks, line, begin, end)
+}
+
+#[no_mangle]
+pub extern "C" fn rewrites_join(
+    road: &[u8],
+    creeper: &[u8],
+    text: &mut [u8],
+    statements: &mut u32,
+    bytes: &mut u32,
+) -> u8
+    ensures { λ r. ⌜ JoinExported (now (road .entry)) (now (creeper .entry)) (now (text .entry)) (now (text .exit)) r (record { statements = now (statements .entry); bytes = now (bytes .entry) }) (record { statements = now (statements .exit); bytes = now (bytes .exit) }) ⌝ }
+{
+    host_join::export(road, creeper, text, statements, bytes)
 }
