@@ -158,6 +158,30 @@ uint8_t rewrites_judge(const uint8_t *program, size_t program_len, const uint8_t
 uint8_t rewrites_mark_line(const uint8_t *marks, size_t marks_len, uint32_t line, size_t *begin,
                            size_t *end);
 
+/* Joins a road program of N statements and a creeper program of M into one of N+M-1, and writes its
+   text. The road's `write X` and the creeper's `read Y` become the one statement N, `Y := X`;
+   creeper statement k from 2 on becomes N+k-1, its targets likewise. From any start and input the
+   whole does what the road does, and once that has ended what the creeper does when started with the
+   values that the road left, those before its `write`, and the written value as input. Where both
+   end, the steps are their sum less 1, with the creeper's value and kept values; where either never
+   ends, neither does the whole. A fault of the road is one at the same statement and step, a fault
+   of the creeper has its new number, and the sum less 1.
+
+   Returns 0, and sets
+   text        the joined program, from byte 0 on. All further bytes are kept.
+   *statements the number of its statements.
+   *bytes      the number of bytes of its text.
+
+   Returns the number of a refusal, and keeps all:
+    1: text has under 8,704 bytes.
+    2 to 5: the road's text, as with rewrites_run.
+    2 to 5: where the road's text is taken, the creeper's. The number doesn't tell which of the two
+            texts is meant: it is the road's where rewrites_run refuses that text by itself.
+   21: N+M-1 is above 256. */
+uint8_t rewrites_join(const uint8_t *road, size_t road_len, const uint8_t *creeper,
+                      size_t creeper_len, uint8_t *text, size_t text_len, uint32_t *statements,
+                      uint32_t *bytes);
+
 #ifdef __cplusplus
 }
 #endif
