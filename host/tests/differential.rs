@@ -1500,8 +1500,6 @@ fn lines_of_marks_are_as_by_the_oracle() {
     reuses.report();
 }
 
-// Whole ranges of cases
-
 // Joined programs
 
 /// The places that a join sets, with kept words between them.
@@ -1729,6 +1727,8 @@ fn joins_are_as_by_the_oracle_and_run_in_turn() {
     runs.report();
     seams.report();
 }
+
+// Whole ranges of cases
 
 #[test]
 fn runs_under_each_small_budget_are_as_by_the_oracle() {
