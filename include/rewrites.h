@@ -158,18 +158,19 @@ uint8_t rewrites_judge(const uint8_t *program, size_t program_len, const uint8_t
 uint8_t rewrites_mark_line(const uint8_t *marks, size_t marks_len, uint32_t line, size_t *begin,
                            size_t *end);
 
-/* Joins a road program of N statements and a creeper program of M into one of N+M-1, and writes its
-   text. The road's `write X` and the creeper's `read Y` become the one statement N, `Y := X`;
-   creeper statement k from 2 on becomes N+k-1, its targets likewise. From any start and input the
-   whole does what the road does, and once that has ended what the creeper does when started with the
-   values that the road left, those before its `write`, and the written value as input. Where both
-   end, the steps are their sum less 1, with the creeper's value and kept values; where either never
-   ends, neither does the whole. A fault of the road is one at the same statement and step, a fault
-   of the creeper has its new number, and the sum less 1.
+/* Joins a road program of N statements and a creeper program of M to one of N+M-1. The road program's
+   `write X` and the creeper program's `read Y` become the one statement `Y := X`, number N, and
+   creeper statement k from 2 on becomes N+k-1, its targets likewise.
+   From every start the joined program runs as the road program does, up to its `write`, and then as
+   the creeper program does, started with the values that the road program left and its written value
+   as input. If both end, it ends with the creeper program's value and kept values, after the sum of
+   their steps less 1. If one never ends, neither does the whole. A fault of the road program is a
+   fault of the whole, at the same statement after the same steps; one of the creeper program has its
+   new number, and the sum of the steps less 1. Takes at most 128 KiB of stack.
 
    Returns 0, and sets
    text        the joined program, from byte 0 on. All further bytes are kept.
-   *statements the number of its statements.
+   *statements the number of its statements, N+M-1.
    *bytes      the number of bytes of its text.
 
    Returns the number of a refusal, and keeps all:

@@ -8,6 +8,7 @@ mod check;
 mod fault;
 mod files;
 mod folder;
+mod join;
 mod lines;
 mod marks;
 mod output;
@@ -36,7 +37,7 @@ Exit status:
   3  output that wasn't written
 Of many folders the worst is told.";
 
-/// Shift programs: judges marks, tabulates and reviews conditions, runs, and finds the lines of marks
+/// Shift programs: judges marks, tabulates and reviews conditions, runs, finds the lines of marks, and joins two programs
 #[derive(Parser)]
 #[command(name = "rewrites", version, after_help = STATUSES)]
 struct Arguments {
@@ -61,13 +62,18 @@ enum Call {
     /// Show where in a list the line of each mark begins and ends
     #[command(after_help = STATUSES)]
     Lines(lines::Arguments),
+    /// Make one program of a road program and a creeper program
+    #[command(after_help = STATUSES)]
+    Join(join::Arguments),
 }
 
 /// What is wrong with the arguments of a call taken together.
 fn wrong(arguments: &Arguments) -> Option<clap::Error> {
     let (name, words) = match &arguments.call {
         Call::Check(check) => ("check", check.wrong()?),
-        Call::Tabulate(_) | Call::Review(_) | Call::Run(_) | Call::Lines(_) => return None,
+        Call::Tabulate(_) | Call::Review(_) | Call::Run(_) | Call::Lines(_) | Call::Join(_) => {
+            return None;
+        }
     };
     let mut command = Arguments::command();
     command.build();
@@ -99,6 +105,7 @@ fn answered(output: &mut Output) -> Result<Status, Unwritten> {
         Call::Review(call) => call.run(output),
         Call::Run(call) => call.run(output),
         Call::Lines(call) => call.run(output),
+        Call::Join(call) => call.run(output),
     }
 }
 

@@ -21,6 +21,8 @@ SPENT = START | {"statement", "left"}
 FAULTED = START | {"statement", "steps"}
 LINES = {"marks", "bytes", "lines"}
 LINE = {"line", "begin", "end", "mark"}
+PAIR = {"call", "road", "creeper", "status", "faults"}
+JOIN = {"statements", "bytes", "program"}
 
 
 def has(thing, names):
@@ -121,6 +123,13 @@ def lines(thing):
     return text + "marks {marks} bytes {bytes}\n".format(**thing)
 
 
+def join(thing):
+    has(thing, PAIR | JOIN)
+    assert thing["bytes"] == len(thing["program"].encode())
+    assert thing["statements"] == thing["program"].count("\n")
+    return "statements {statements} bytes {bytes}\n".format(**thing) + thing["program"]
+
+
 def faults(thing):
     """The refusal, `refused start`, or nothing where a file wasn't read."""
     text = ""
@@ -137,19 +146,20 @@ def faults(thing):
 
 def told(thing):
     assert thing["status"] in (0, 1, 2)
-    if "folder" not in thing:
+    if "folder" not in thing and thing["call"] == "check":
         return total(thing)
     assert (thing["status"] == 0) == (thing["faults"] == [])
     refused = faults(thing)
-    if set(thing) == REPORT:
+    if set(thing) == (PAIR if thing["call"] == "join" else REPORT):
         assert thing["status"] != 0
         return refused
     assert refused == ""
-    return {"check": check, "tabulate": tabulate, "review": review, "run": run, "lines": lines}[thing["call"]](thing)
+    calls = {"check": check, "tabulate": tabulate, "review": review, "run": run, "lines": lines, "join": join}
+    return calls[thing["call"]](thing)
 
 
 described = pathlib.Path(__file__).parents[2].joinpath("docs/REFERENCE.md").read_text()
-for names in (VERDICTS, FAULT, REPORT, TOTAL, CHECK, MARK, TABULATE, ROW, REVIEW, CONDITION, ENDED, SPENT, FAULTED, LINES, LINE):
+for names in (VERDICTS, FAULT, REPORT, TOTAL, CHECK, MARK, TABULATE, ROW, REVIEW, CONDITION, ENDED, SPENT, FAULTED, LINES, LINE, PAIR, JOIN):
     for name in names:
         assert "`%s`" % name in described, name
 

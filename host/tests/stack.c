@@ -1,6 +1,7 @@
 /* Prints how many bytes of stack the deepest calls take. Each runs in a thread whose stack was filled
    with a pattern before; what the thread alone overwrites is not counted. Exits with 0 where `run`,
-   `judge`, `tabulate`, `review` and `mark_line` take no more than the bytes given as arguments. */
+   `judge`, `tabulate`, `review`, `mark_line` and `join` take no more than the bytes given as
+   arguments. */
 #define _POSIX_C_SOURCE 200112L
 #include "rewrites.h"
 
@@ -53,6 +54,24 @@ static void *judge(void *unused) {
 static void *mark_line(void *unused) {
     static size_t begin, end;
     number = rewrites_mark_line(marks, marks_len, 255, &begin, &end);
+    return unused;
+}
+
+/* Two programs of 128 and 129 lines, each of the longest statement: the joined one has 256. */
+static uint8_t road[8704], creeper[8704];
+static size_t road_len, creeper_len;
+
+static size_t put_program(uint8_t *text, int lines) {
+    size_t length = sprintf((char *)text, "read i31\n");
+    while (lines-- > 2)
+        length += sprintf((char *)text + length, "i31 := -2147483648 + -2147483648\n");
+    return length + sprintf((char *)text + length, "write i31\n");
+}
+
+static void *join(void *unused) {
+    static uint8_t text[8704];
+    static uint32_t statements, bytes;
+    number = rewrites_join(road, road_len, creeper, creeper_len, text, 8704, &statements, &bytes);
     return unused;
 }
 
@@ -117,11 +136,11 @@ int main(int count, char **arguments) {
         {"EX ", "true", "", 340, 8}, {"!", "true", "", 1020, 8},  {"E[", "", "", 512, 7},
         {"(", "true", "", 1020, 7},  {"(", "", "", 1024, 7},
     };
-    size_t most[5] = {ROOM, ROOM, ROOM, ROOM, ROOM};
+    size_t most[6] = {ROOM, ROOM, ROOM, ROOM, ROOM, ROOM};
     size_t alone = overwritten(nothing), bytes, k;
     int fails = 0, line;
 
-    for (k = 0; k < 5 && k + 1 < (size_t)count; k++) most[k] = strtoul(arguments[k + 1], NULL, 10);
+    for (k = 0; k < 6 && k + 1 < (size_t)count; k++) most[k] = strtoul(arguments[k + 1], NULL, 10);
 
     put_sums();
     bytes = overwritten(judge) - alone;
@@ -150,6 +169,16 @@ int main(int count, char **arguments) {
     bytes = overwritten(mark_line) - alone;
     printf("%7lu bytes of stack: mark_line, the last of 256 marks\n", (unsigned long)bytes);
     fails += number != 0 || bytes > most[4];
+    road_len = put_program(road, 128);
+    creeper_len = put_program(creeper, 129);
+    bytes = overwritten(join) - alone;
+    printf("%7lu bytes of stack: join, 128 and 129 statements\n", (unsigned long)bytes);
+    fails += number != 0 || bytes > most[5];
+    road_len = put_program(road, 256);
+    creeper_len = put_program(creeper, 256);
+    bytes = overwritten(join) - alone;
+    printf("%7lu bytes of stack: join, 256 and 256 statements: %d\n", (unsigned long)bytes, number);
+    fails += number != 21 || bytes > most[5];
     for (k = 0; k < sizeof cases / sizeof *cases; k++) {
         condition_len = 0;
         put(cases[k].open, cases[k].depth);

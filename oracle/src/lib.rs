@@ -9,6 +9,7 @@ pub mod condition;
 pub mod desk;
 pub mod folder;
 pub mod generate;
+pub mod join;
 pub mod machine;
 pub mod marks;
 pub mod program;

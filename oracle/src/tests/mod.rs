@@ -5,6 +5,7 @@ mod cse;
 mod division;
 mod document;
 mod generated;
+mod join;
 mod kept;
 mod mark_lines;
 mod naive;
