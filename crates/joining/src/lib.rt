@@ -46,7 +46,11 @@ fn moved(s: Statement, d: u32) -> Statement
         Statement::Read(x) => Statement::Read(x),
         Statement::Write(x) => Statement::Write(x),
         Statement::Assign(x, e) => Statement::Assign(x, e),
-        Statement::Branch(x, n, m) => Statement::Branch(x, d + n, d + m),
+        Statement::Branch(x, n, m) => {
+            let a = d + n;
+            let b = d + m;
+            Statement::Branch(x, a, b)
+        }
         Statement::Skip => Statement::Skip,
     }
 }
