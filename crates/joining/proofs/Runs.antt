@@ -5,7 +5,6 @@ use mathlib.Core.List.{List}
 use mathlib.Core.Logic.{_⊎_, inl, inr}
 use Prim.Native.Nat.{ℕ, zero, suc, _+_, _-_, _<_, _≤_}
 use native.Mathlib.Omega.{arith}
-use native.Mathlib.Decide.{decLt}
 use lib.Dec.{eqb}
 use lib.ListN.{length, getD, set}
 use Rattle.base.specs.Pick.{pick}
@@ -19,7 +18,7 @@ use Rattle.machine.specs.Machine.{Final, written, faulted, State, before, ended
 use Rattle.machine.specs.Answer.{Ends}
 use Rattle.machine.proofs.Runs.{perform-inside}
 use Rattle.machine.proofs.Unique.{ended-stays}
-use Rattle.joining.specs.Joining.{moved, writes, reads, seam, joined}
+use Rattle.joining.specs.Joining.{moved, writes, reads, joined}
 use Rattle.joining.specs.Runs.{shiftEnd, shift, Endless, JoinedRuns}
 use Rattle.joining.proofs.Statements.{at-road, at-seam, at-creeper}
 

@@ -1,5 +1,5 @@
 -- `join` meets its contract. The invariant: the road, the seam and the creeper up to place k stand in the entries. Assumes nothing.
-use mathlib.Core.Path.{_≡_, _∙_}
+use mathlib.Core.Path.{_≡_}
 use Prim.Native.Nat.{_+_, _-_, _≤_}
 use native.Mathlib.Omega.{arith}
 use borrow.Author.Needs.{needs}
@@ -11,10 +11,10 @@ use Rattle.joining.proofs.join.Statement.{statement}
 use Rattle.joining.proofs.join.Tie as tie
 
 abbrev Inv-loop : tie.InvT-loop
-Inv-loop entries₀ further count size last x y d k₀ entries k = Made entries₀ further size last entries k
+Inv-loop creeper entries₀ count size last x y d k₀ entries k = Made entries₀ (creeper .entries) size last entries k
 
 abbrev μ-loop : tie.MeasureT-loop
-μ-loop entries₀ further count size last x y d k₀ entries k = size - k
+μ-loop creeper entries₀ count size last x y d k₀ entries k = size - k
 
 -- both programs have two statements or more and fit together, and both arrays are whole
 record Sizes (road creeper : Program) : Type 0 where
@@ -25,7 +25,7 @@ record Sizes (road creeper : Program) : Type 0 where
   room : length (road .entries) ≡ most
   further : length (creeper .entries) ≡ most
 
-sizes : (c : tie.Start Inv-loop μ-loop) → Sizes (c .args .road) (c .args .creeper)
+sizes : (c : tie.Start Inv-loop μ-loop) → Sizes (c .args .road) (c .args .t2)
 sizes c =
     let p = c .pre in
     let n = held-size (p .0 .0) in
@@ -42,16 +42,16 @@ sizes c =
 -- ---- up to the loop
 
 sub-last : tie.Need-sub-last Inv-loop μ-loop
-sub-last c = let s = sizes (c .before .before) in omega arith
+sub-last c = let s = sizes (c .before) in omega arith
 
 array-copy-out-write : tie.Need-array-copy-out-write Inv-loop μ-loop
-array-copy-out-write c = let s = sizes (c .before .before) in omega arith
+array-copy-out-write c = let s = sizes (c .before) in omega arith
 
-array-copy-out-read : tie.Need-array-copy-out-read Inv-loop μ-loop
-array-copy-out-read c = let s = sizes (c .before .before .before) in omega arith
+element-copy-out-read : tie.Need-element-copy-out-read Inv-loop μ-loop
+element-copy-out-read c = let s = sizes (c .before .before) in omega arith
 
 abbrev start : tie.After-reads Inv-loop μ-loop → tie.Start Inv-loop μ-loop
-start c = c .before .before .before .before .before .before
+start c = c .before .before .before .before .before
 
 array-set-from-entries : tie.Need-array-set-from-entries Inv-loop μ-loop
 array-set-from-entries c = let s = sizes (start c) in omega arith
@@ -64,8 +64,8 @@ loop-holds c = let s = sizes (start c) in made-none (simp length-set (s .room)) 
 
 -- ---- in it
 
-array-copy-out-e : tie.Need-array-copy-out-e Inv-loop μ-loop
-array-copy-out-e c = let s = sizes (start (c .before .before)) in omega arith
+element-copy-out-e : tie.Need-element-copy-out-e Inv-loop μ-loop
+element-copy-out-e c = let s = sizes (start (c .before .before)) in omega arith
 
 moved-requires : tie.Need-moved-requires Inv-loop μ-loop
 moved-requires c κs =
@@ -115,7 +115,7 @@ join-spec =
     sub-last
     (λ c. search needs)
     array-copy-out-write
-    array-copy-out-read
+    element-copy-out-read
     (λ c κs. search needs)
     (λ c κs. search needs)
     (λ c. search needs)
@@ -123,7 +123,7 @@ join-spec =
     cast-d
     loop-holds
     (λ c. search needs)
-    array-copy-out-e
+    element-copy-out-e
     moved-requires
     add-entries
     (λ c. search needs)
