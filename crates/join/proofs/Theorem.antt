@@ -2,7 +2,7 @@
 -- Assumes nothing.
 use mathlib.Core.Path.{_≡_, refl, sym, ap, ap₂, _∙_, subst}
 use mathlib.Core.List.{List}
-use Prim.Native.Nat.{ℕ, zero, suc, _+_, _-_, _≤_}
+use Prim.Native.Nat.{ℕ, _+_, _-_, _≤_}
 use native.Mathlib.Omega.{arith}
 use lib.ListN.{length, getD}
 use mir.Syntax.{w32}
@@ -11,7 +11,7 @@ use Rattle.language.specs.Kept.{keptOf}
 use Rattle.language.specs.declared.Statement.{Statement}
 use Rattle.program.specs.Program.{text, most, at, Taken}
 use Rattle.program.proofs.RoundTrip.{taken-unique}
-use Rattle.machine.specs.Machine.{Final, written, faulted, before, ended, after}
+use Rattle.machine.specs.Machine.{Final, written, faulted, before, after}
 use Rattle.machine.specs.Answer.{Ends, Answers}
 use Rattle.machine.specs.declared.Answer.{Answer}
 use Rattle.machine.specs.declared.Answer.the-variants.{Ended, Fault, Spent}
@@ -24,7 +24,7 @@ use Rattle.joining.specs.Joining.{writes, joined}
 use Rattle.joining.specs.Runs.{shiftEnd, shift, JoinedRuns}
 use Rattle.joining.proofs.Runs.{joined-runs, last-written, onward}
 use Rattle.joining.proofs.WellFormed.{joined-wellformed}
-use Rattle.join.specs.Answers.{Onward, Goes, Unended, RoadEnds, JoinedAnswers}
+use Rattle.join.specs.Answers.{Onward, Goes, Unended, RoadEnds}
 use Rattle.join.specs.Theorem.{JoinedTexts}
 
 -- a call of `run` with the text of a program answers what the program's run answers

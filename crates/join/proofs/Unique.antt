@@ -1,12 +1,11 @@
 -- A call of `join` has one answer, and leaves one content of the lent bytes. Assumes nothing.
 use mathlib.Core.Path.{_≡_, refl, sym, ap, _∙_}
 use mathlib.Core.List.{List}
-use Prim.Native.Nat.{ℕ, _+_, _-_, _≤_, _<_}
+use Prim.Native.Nat.{ℕ, _-_, _≤_, _<_}
 use native.Mathlib.Omega.{arith}
 use lib.ListN.{length}
 use lib.Seq.{sets}
-use Rattle.language.specs.declared.Statement.{Statement}
-use Rattle.program.specs.Program.{text, Taken}
+use Rattle.program.specs.Program.{text}
 use Rattle.program.proofs.RoundTrip.{taken-unique}
 use Rattle.program.proofs.Unique.{refused-unique, taken-refused}
 use Rattle.calls.proofs.Unique.{refuses-unique, refuses-not}

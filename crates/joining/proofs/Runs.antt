@@ -5,7 +5,6 @@ use mathlib.Core.List.{List}
 use mathlib.Core.Logic.{_⊎_, inl, inr}
 use Prim.Native.Nat.{ℕ, zero, suc, _+_, _-_, _<_, _≤_}
 use native.Mathlib.Omega.{arith}
-use native.Mathlib.Decide.{decLt}
 use lib.Dec.{eqb}
 use lib.ListN.{length, getD, set}
 use Rattle.base.specs.Pick.{pick}
@@ -19,7 +18,7 @@ use Rattle.machine.specs.Machine.{Final, written, faulted, State, before, ended
 use Rattle.machine.specs.Answer.{Ends}
 use Rattle.machine.proofs.Runs.{perform-inside}
 use Rattle.machine.proofs.Unique.{ended-stays}
-use Rattle.joining.specs.Joining.{moved, writes, reads, seam, joined}
+use Rattle.joining.specs.Joining.{moved, writes, reads, joined}
 use Rattle.joining.specs.Runs.{shiftEnd, shift, Endless, JoinedRuns}
 use Rattle.joining.proofs.Statements.{at-road, at-seam, at-creeper}
 
@@ -28,15 +27,18 @@ clashing e = absurd (let z : _≡_ {A = ℕ} 0 1 = cc in omega arith)
 
 -- ---- single statements
 
--- the last statement of a program is its `write`, and no other ends a run by writing
-inner-or-writes : (n s input : ℕ) (us : List ℕ) (i : Statement) → 2 ≤ n → InPlace n s i
-    → (s + 1 < n) ⊎ ((s + 1 ≡ n) × (perform i input s us ≡ ended (written (getD us (writes i) 0) (keptOf us))))
+-- a statement of a program of n either has another behind it, or is the `write`
+abbrev InnerOrWrites : ℕ → ℕ → ℕ → List ℕ → Statement → Type 0
+InnerOrWrites n s input us i = (s + 1 < n) ⊎ ((s + 1 ≡ n) × (perform i input s us ≡ ended (written (getD us (writes i) 0) (keptOf us))))
+
+inner-or-writes : (n s input : ℕ) (us : List ℕ) (i : Statement) → 2 ≤ n → InPlace n s i → InnerOrWrites n s input us i
 inner-or-writes n s input us (Read y) two p = inl (omega (arith, p))
 inner-or-writes n s input us (Write y) two p = inr (p, refl)
 inner-or-writes n s input us (Assign y a) two p = inl (p .1)
 inner-or-writes n s input us (Branch y a b) two p = inl (p .1)
 inner-or-writes n s input us Skip two p = inl (p .1)
 
+-- one that has another behind it doesn't end a run by writing
 inner-unwritten : (n s input v : ℕ) (us ks : List ℕ) (i : Statement) → InPlace n s i → s + 1 < n → perform i input s us ≡ ended (written v ks) → ⊥
 inner-unwritten n s input v us ks (Read y) p l e = clashing (sym e)
 inner-unwritten n s input v us ks (Write y) p l e = omega (arith, p)
@@ -114,7 +116,7 @@ module _ (P Q : List Statement) (w : WellFormed P) (x : WellFormed Q) (vs : List
       step : (t : ℕ) (us : List ℕ) → Beside k t us → perform (at P t) input t us ≡ before s ws → Beside (suc k) s ws
       step t us (l, stands) g = inner (inner-or-writes (length P) t input us (at P t) (w .counted .0) (w .placed t l))
         where
-          inner : (t + 1 < length P) ⊎ ((t + 1 ≡ length P) × (perform (at P t) input t us ≡ ended (written (getD us (writes (at P t)) 0) (keptOf us)))) → Beside (suc k) s ws
+          inner : InnerOrWrites (length P) t input us (at P t) → Beside (suc k) s ws
           inner (inl h) = (
             perform-inside (length P) t input s us ws (at P t) (w .counted .0) (w .placed t l) (w .aimed t l) g,
             ap (stepFrom J input) stands ∙ same-step t us h ∙ g,
@@ -138,6 +140,9 @@ module _ (P Q : List Statement) (w : WellFormed P) (x : WellFormed Q) (vs : List
     unfolding after
     next = ap (after J vs input) (e .counted) ∙ ap (stepFrom J input) (here .1)
 
+    last-step : InnerOrWrites (length P) (e .last) input (e .left) (at P (e .last))
+    last-step = inner-or-writes (length P) (e .last) input (e .left) (at P (e .last)) (w .counted .0) (w .placed (e .last) (here .0))
+
   road-faults : (k s : ℕ) → Ends P vs input k (faulted s) → Ends J vs input k (faulted s)
   road-faults k s e = record {
     last = e .last;
@@ -145,17 +150,12 @@ module _ (P Q : List Statement) (w : WellFormed P) (x : WellFormed Q) (vs : List
     steps = e .steps;
     counted = e .counted;
     stands = here k (faulted s) e .1;
-    over = next k (faulted s) e ∙ same-step (e .last) (e .left) inner ∙ over k (faulted s) e;
+    over = next k (faulted s) e ∙ same-step (e .last) (e .left) (inner (last-step k (faulted s) e)) ∙ over k (faulted s) e;
   }
     where
-      inner : e .last + 1 < length P
-      inner = go (inner-or-writes (length P) (e .last) input (e .left) (at P (e .last)) (w .counted .0) (w .placed (e .last) (here k (faulted s) e .0)))
-        where
-          go : (e .last + 1 < length P) ⊎ ((e .last + 1 ≡ length P) × (perform (at P (e .last)) input (e .last) (e .left) ≡ ended (written (getD (e .left) (writes (at P (e .last))) 0) (keptOf (e .left)))))
-              → e .last + 1 < length P
-          go (inl h) = h
-          go (inr h) = let z : ended (faulted s) ≡ ended (written (getD (e .left) (writes (at P (e .last))) 0) (keptOf (e .left))) = sym (over k (faulted s) e) ∙ h .1 in
-              absurd (let y : _≡_ {A = ℕ} 0 1 = cc in omega arith)
+      inner : InnerOrWrites (length P) (e .last) input (e .left) (at P (e .last)) → e .last + 1 < length P
+      inner (inl h) = h
+      inner (inr h) = let z = sym (over k (faulted s) e) ∙ h .1 in absurd (let y : _≡_ {A = ℕ} 0 1 = cc in omega arith)
 
   road-endless : Endless P vs input → Endless J vs input
   road-endless never k f e = go (after P vs input k) refl
@@ -167,16 +167,15 @@ module _ (P Q : List Statement) (w : WellFormed P) (x : WellFormed Q) (vs : List
   module _ (k v : ℕ) (ks : List ℕ) (e : Ends P vs input k (written v ks)) where
     -- the road ends at its last statement, and writes the value there
     pub last-written : (e .last ≡ d) × (v ≡ getD (e .left) (writes (at P d)) 0)
-    last-written =
-        let l = here k (written v ks) e .0 in
-        go (inner-or-writes (length P) (e .last) input (e .left) (at P (e .last)) (w .counted .0) (w .placed (e .last) l))
+    last-written = go (last-step k (written v ks) e)
       where
-        go : (e .last + 1 < length P) ⊎ ((e .last + 1 ≡ length P) × (perform (at P (e .last)) input (e .last) (e .left) ≡ ended (written (getD (e .left) (writes (at P (e .last))) 0) (keptOf (e .left)))))
-            → (e .last ≡ d) × (v ≡ getD (e .left) (writes (at P d)) 0)
-        go (inl h) = absurd (inner-unwritten (length P) (e .last) input v (e .left) ks (at P (e .last)) (w .placed (e .last) (here k (written v ks) e .0)) h (over k (written v ks) e))
+        go : InnerOrWrites (length P) (e .last) input (e .left) (at P (e .last)) → (e .last ≡ d) × (v ≡ getD (e .left) (writes (at P d)) 0)
+        go (inl h) =
+            let there = w .placed (e .last) (here k (written v ks) e .0) in
+            absurd (inner-unwritten (length P) (e .last) input v (e .left) ks (at P (e .last)) there h (over k (written v ks) e))
         go (inr h) =
             let is : e .last ≡ d = omega (arith, h .0) in
-            let z : ended (written v ks) ≡ ended (written (getD (e .left) (writes (at P (e .last))) 0) (keptOf (e .left))) = sym (over k (written v ks) e) ∙ h .1 in
+            let z = sym (over k (written v ks) e) ∙ h .1 in
             let y : v ≡ getD (e .left) (writes (at P (e .last))) 0 = cc in
             (is, rw is at y)
 

@@ -1,16 +1,16 @@
 -- The joined program is a program: its statements are valid, stand in their places and have their targets in it. Assumes nothing.
 use mathlib.Core.Path.{_≡_}
-use mathlib.Core.List.{List, [], _∷_, _++_, map}
+use mathlib.Core.List.{List, [], _∷_, map}
 use Prim.Native.Nat.{ℕ, zero, suc, _+_, _-_, _≤_, _<_}
 use native.Mathlib.Omega.{arith}
 use lib.ListN.{length, take, drop}
 use Rattle.lines.proofs.Texts.{valid-append}
-use Rattle.language.specs.Spelling.{variables, ValidVariable, Valid}
+use Rattle.language.specs.Spelling.{ValidVariable, Valid}
 use Rattle.language.specs.declared.Statement.{Statement}
 use Rattle.language.specs.declared.Statement.the-variants.{Read, Write, Assign, Branch, Skip}
 use Rattle.program.specs.Program.{at, most, AllValid, InPlace, Targets, WellFormed}
 use Rattle.program.proofs.Held.{at-valid, targets-wider}
-use Rattle.joining.specs.Joining.{moved, writes, reads, seam, joined}
+use Rattle.joining.specs.Joining.{moved, writes, reads, joined}
 use Rattle.joining.proofs.Statements.{joined-length, each}
 
 -- ---- what is valid

@@ -46,7 +46,11 @@ fn moved(s: Statement, d: u32) -> Statement
         Statement::Read(x) => Statement::Read(x),
         Statement::Write(x) => Statement::Write(x),
         Statement::Assign(x, e) => Statement::Assign(x, e),
-        Statement::Branch(x, n, m) => Statement::Branch(x, d + n, d + m),
+        Statement::Branch(x, n, m) => {
+            let a = d + n;
+            let b = d + m;
+            Statement::Branch(x, a, b)
+        }
         Statement::Skip => Statement::Skip,
     }
 }
@@ -59,12 +63,11 @@ pub fn join(road: Program, creeper: Program) -> Program
     ensures { λ r. ⌜ Held r × (statements r ≡ joined (statements road) (statements creeper)) ⌝ }
 {
     let mut entries = road.entries;
-    let further = creeper.entries;
     let count = road.count;
     let size = creeper.count;
     let last = count - 1;
     let write = entries[last];
-    let read = further[0];
+    let read = creeper.entries[0];
     let written = write.statement;
     let begun = read.statement;
     let x = writes(written);
@@ -75,7 +78,7 @@ pub fn join(road: Program, creeper: Program) -> Program
     let d = last as u32;
     let mut k: usize = 1;
     while k < size {
-        let e = further[k];
+        let e = creeper.entries[k];
         let s = e.statement;
         entries[last + k] = Entry {
             statement: moved(s, d),

@@ -1,16 +1,20 @@
 -- `moved` meets its contract. Assumes nothing.
-use Rattle.language.specs.declared.Statement.the-variants as Statement
-use Rattle.program.specs.Program.{most, Targets}
 use native.Mathlib.Omega.{arith}
 use borrow.Author.Needs.{needs}
+use Rattle.language.specs.declared.Statement.the-variants.{Branch}
+use Rattle.program.specs.Program.{most, Targets}
 use Rattle.joining.proofs.moved.Statement.{statement}
 use Rattle.joining.proofs.moved.Tie as tie
 
-add-t11 : tie.Need-add-t11
-add-t11 c = let t : Targets most (Statement.Branch (c .before .s4 .given .0 .0) (c .before .s4 .given .0 .1 .0) (c .before .s4 .given .0 .1 .1 .0)) = rw (c .before .s4 .given .1) at (c .before .before .before .pre .0) in omega (arith, t .0 .1, c .before .before .before .pre .1)
+-- the targets of a branch
+aimed : (c : tie.After-s4) → let s = c .s4 .given .0 in Targets most (Branch (s .0) (s .1 .0) (s .1 .1 .0))
+aimed c = rw (c .s4 .given .1) at (c .before .before .pre .0)
 
-add-t12 : tie.Need-add-t12
-add-t12 c = let t : Targets most (Statement.Branch (c .before .s4 .given .0 .0) (c .before .s4 .given .0 .1 .0) (c .before .s4 .given .0 .1 .1 .0)) = rw (c .before .s4 .given .1) at (c .before .before .before .pre .0) in omega (arith, t .1 .1, c .before .before .before .pre .1)
+add-a : tie.Need-add-a
+add-a c = omega (arith, aimed (c .before) .0 .1, c .before .before .before .pre .1)
+
+add-b : tie.Need-add-b
+add-b c = omega (arith, aimed (c .before) .1 .1, c .before .before .before .pre .1)
 
 returns : tie.Need-returns
 returns c = rw (c .before .s .given .1)
@@ -32,8 +36,8 @@ moved-spec =
     (λ c. search needs)
     (λ c. search needs)
     (λ c. search needs)
-    add-t11
-    add-t12
+    add-a
+    add-b
     (λ c. search needs)
     returns
     returns-2
