@@ -22,8 +22,13 @@
      that drops, each statement that is to read the variable by an accepted `cse` of the list, up to
      twenty, is a use: without them the table may tell otherwise, and never refuses more;
    - what is dropped becomes `skip`, and what is reused a copy;
+   - each step of a run adds the price of its statement's text to the ticks, and nothing is added once it is
+     over;
+   - a report is refused as the list is, its prices are those of the lines of given and new text, and its
+     totals are their sums and the first less the second;
    - the rewritten program is taken, and both programs' runs agree, in all nine values where they end,
-     in statement and steps where they fault;
+     in statement and steps where they fault, and before each step in the values of all variables x for
+     which `E[!def(x) U use(x)]` is true there in the given program, by a review of all 32;
    - the lines of a list that is taken, one after another, are the list;
    - two programs are joined unless one isn't taken, the first told before the second, or both have over
      257 lines. The joined text is taken and has a line less than both; the first's lines but the last
@@ -59,6 +64,7 @@
 #define MOST_READERS 20
 #define FIRST_KEPT 24
 #define KEPT 8
+#define STATEMENTS 256
 
 static const char P[] =
     "read i0\ni1 := i0\ni2 := 7\ni3 := i1 + i2\n"
@@ -148,6 +154,7 @@ enum { SPENT, ENDED, FAULT };
 struct run {
     uint32_t ended, steps, statement, left[VARIABLES], kept[KEPT];
     int32_t value;
+    uint64_t ticks;
 };
 
 static uint8_t run(struct text program, const uint32_t values[VARIABLES], uint32_t input,
@@ -157,6 +164,7 @@ static uint8_t run(struct text program, const uint32_t values[VARIABLES], uint32
         uint32_t word;
         int32_t value;
     } value;
+    uint64_t ticks[3] = {UNSET, UNSET, UNSET};
     uint8_t number;
 
     memcpy(given, values, sizeof given);
@@ -165,17 +173,19 @@ static uint8_t run(struct text program, const uint32_t values[VARIABLES], uint32
     unset(kept, KEPT + 2);
     value.word = UNSET;
     number = rewrites_run(program.bytes, program.length, values, input, budget, &places[1],
-                          &value.value, &places[3], &places[5], left + 1, kept + 1);
+                          &value.value, &places[3], &places[5], left + 1, kept + 1, &ticks[1]);
     REQUIRE(memcmp(given, values, sizeof given) == 0);
     for (size_t k = 0; k < 7; k += 2) REQUIRE(places[k] == UNSET);
     REQUIRE(left[0] == UNSET && left[VARIABLES + 1] == UNSET);
     REQUIRE(kept[0] == UNSET && kept[KEPT + 1] == UNSET);
+    REQUIRE(ticks[0] == UNSET && ticks[2] == UNSET);
     if (number != 0 || places[1] != SPENT)
         for (size_t k = 1; k <= VARIABLES; k++) REQUIRE(left[k] == UNSET);
     if (number != 0 || places[1] != ENDED)
         for (size_t k = 1; k <= KEPT; k++) REQUIRE(kept[k] == UNSET);
     if (number != 0) {
         REQUIRE(places[1] == UNSET && value.word == UNSET && places[3] == UNSET && places[5] == UNSET);
+        REQUIRE(ticks[1] == UNSET);
         return number;
     }
     REQUIRE(places[1] <= FAULT);
@@ -196,6 +206,7 @@ static uint8_t run(struct text program, const uint32_t values[VARIABLES], uint32
     answer->statement = places[5];
     memcpy(answer->left, left + 1, sizeof answer->left);
     memcpy(answer->kept, kept + 1, sizeof answer->kept);
+    answer->ticks = ticks[1];
     return 0;
 }
 
@@ -220,6 +231,20 @@ static void copy_line(struct text program, size_t n, char line[64]) {
     line[length] = 0;
 }
 
+/* The price of a statement, by its text. */
+static uint32_t price_of(const char *line) {
+    static const char signs[] = "+-*<=/";
+    static const uint32_t prices[] = {3, 3, 9, 3, 3, 24};
+    const char *right = strstr(line, " := ");
+
+    if (right == NULL) {
+        if (strcmp(line, "skip") == 0) return 1;
+        return strncmp(line, "if ", 3) == 0 ? 3 : 4;
+    }
+    right = strchr(right + 4, ' ');
+    return right == NULL ? 2 : prices[strchr(signs, right[1]) - signs];
+}
+
 /* The number that an operand stands for. */
 static int64_t value_of(const char *operand, const uint32_t values[VARIABLES]) {
     union {
@@ -241,6 +266,7 @@ static void check_step(struct text program, const struct run *before, const stru
     int64_t a, b, quotient, rest;
 
     copy_line(program, before->statement, line);
+    REQUIRE(after->ticks == before->ticks + price_of(line));
     if (sscanf(line, "i%u := %15[-i0-9] / %15s", &variable, dividend, divisor) != 3) {
         REQUIRE(after->ended != FAULT);
         return;
@@ -272,12 +298,12 @@ static void check_runs(struct text program, const uint32_t values[VARIABLES], ui
     struct run before = {0}, after = {0};
 
     REQUIRE(run(program, values, input, 0, &before) == 0);
-    REQUIRE(!before.ended && before.statement == 1);
+    REQUIRE(!before.ended && before.statement == 1 && before.ticks == 0);
     REQUIRE(memcmp(before.left, values, sizeof before.left) == 0);
     for (uint32_t b = 1; b <= budget; b++) {
         REQUIRE(run(program, values, input, b, &after) == 0);
         if (before.ended) {
-            REQUIRE(agree(&before, &after));
+            REQUIRE(agree(&before, &after) && after.ticks == before.ticks);
             break;
         }
         REQUIRE(!after.ended || after.steps == b);
@@ -830,6 +856,49 @@ static void check_verdicts(struct text program, struct text marks, const struct 
     REQUIRE(start == marks.length && accepted == answer->accepted);
 }
 
+/* Reports */
+
+/* The report on a list that judging answers with this number: the prices of both texts, line by line. */
+static void check_report(struct text program, struct text marks, uint8_t refused, struct text made) {
+    uint32_t places[7], before[STATEMENTS + 2], after[STATEMENTS + 2], sums[2] = {0, 0};
+    union {
+        uint32_t word;
+        int32_t value;
+    } saved;
+    size_t lines = lines_of(program);
+    char line[64];
+    uint8_t number;
+
+    unset(places, 7);
+    unset(before, STATEMENTS + 2);
+    unset(after, STATEMENTS + 2);
+    saved.word = UNSET;
+    number = rewrites_report(program.bytes, program.length, marks.bytes, marks.length, before + 1,
+                             after + 1, &places[1], &places[3], &places[5], &saved.value);
+    REQUIRE(number == refused);
+    if (number != 0) {
+        REQUIRE(saved.word == UNSET);
+        lines = 0;
+    }
+    for (size_t k = 0; k < 7; k++) REQUIRE((number == 0 && k % 2 == 1) || places[k] == UNSET);
+    REQUIRE(before[0] == UNSET && after[0] == UNSET);
+    for (size_t k = lines + 1; k < STATEMENTS + 2; k++) REQUIRE(before[k] == UNSET && after[k] == UNSET);
+    if (number != 0) return;
+
+    REQUIRE(places[1] == lines);
+    for (size_t k = 1; k <= lines; k++) {
+        copy_line(program, k, line);
+        REQUIRE(before[k] == price_of(line));
+        copy_line(made, k, line);
+        REQUIRE(after[k] == price_of(line) && after[k] <= before[k]);
+        sums[0] += before[k];
+        sums[1] += after[k];
+    }
+    REQUIRE(places[3] == sums[0] && places[5] == sums[1]);
+    REQUIRE((int64_t)saved.value == (int64_t)sums[0] - (int64_t)sums[1]);
+    met(OF_CALLS, 1410 + (saved.value > 0) + (saved.value > 1) + (saved.value > 20));
+}
+
 static uint8_t mark_line(struct text marks, uint32_t line, size_t *begin, size_t *end) {
     size_t places[5];
     uint8_t number;
@@ -860,11 +929,37 @@ static void check_lines(struct text marks, uint8_t refused, uint32_t count) {
     if (refused == 0) REQUIRE(start == marks.length);
 }
 
+/* Finds the statements at which each variable is live, as rows. Every part of the 32 lines is spelled
+   differently, so the review fills as many tables as it can. */
+static void find_live(struct text program, uint64_t live[VARIABLES][4]) {
+    static struct review answer;
+    static uint8_t lines[1024];
+    struct text all = {lines, 0};
+
+    for (unsigned x = 0; x < VARIABLES; x++)
+        all.length += (size_t)snprintf((char *)lines + all.length, sizeof lines - all.length,
+                                       "E[!def(i%u) U use(i%u)]\n", x, x);
+    REQUIRE(review(program, all, REVIEW_WORDS, &answer) == 0);
+    REQUIRE(answer.tables == MOST_TABLES);
+    for (unsigned x = 0; x < VARIABLES; x++)
+        memcpy(live[x], answer.words + 4 * answer.of_lines[TABLE_OF][x], sizeof live[x]);
+}
+
+/* Both runs are spent at one statement: they hold the same values of what is live there. */
+static void check_live(uint64_t live[VARIABLES][4], const struct run *given, const struct run *made) {
+    for (unsigned x = 0; x < VARIABLES; x++) {
+        if (given->left[x] == made->left[x]) continue;
+        REQUIRE(!holds(live[x], given->statement));
+        met(OF_CALLS, 96 + (x >= FIRST_KEPT));
+    }
+}
+
 static void check_marks(struct text program, struct text marks, uint8_t refused,
                         const uint32_t values[VARIABLES], uint32_t input, uint32_t budget) {
     static struct judgement answer, other;
     struct run given = {0}, made = {0};
     struct text rewritten;
+    uint64_t live[VARIABLES][4];
     uint8_t number = judge(program, marks, VERDICT_BYTES, TEXT_BYTES, &answer);
 
     REQUIRE(judge(program, marks, VERDICT_BYTES - 1, TEXT_BYTES, &other) == 1);
@@ -873,9 +968,11 @@ static void check_marks(struct text program, struct text marks, uint8_t refused,
     met(OF_CALLS, 32 + number);
     if (refused != 0) {
         REQUIRE(number == refused);
+        check_report(program, marks, number, program);
         return;
     }
     REQUIRE(number == 0 || number == 9 || number == 10);
+    check_report(program, marks, number, (struct text){answer.text, answer.bytes});
     check_lines(marks, number, number == 0 ? answer.marks : 0);
 
     /* No marks give the program back. */
@@ -890,11 +987,13 @@ static void check_marks(struct text program, struct text marks, uint8_t refused,
     rewritten = put(&others, answer.text, answer.bytes);
     REQUIRE(lines_of(rewritten) == lines_of(program));
     if (answer.accepted == 0) REQUIRE(memcmp(answer.text, program.bytes, program.length) == 0);
+    find_live(program, live);
     for (uint32_t b = 0; b <= budget; b++) {
         REQUIRE(run(program, values, input, b, &given) == 0);
         REQUIRE(run(rewritten, values, input, b, &made) == 0);
-        REQUIRE(agree(&given, &made));
+        REQUIRE(agree(&given, &made) && made.ticks <= given.ticks);
         if (given.ended) break;
+        check_live(live, &given, &made);
     }
 }
 

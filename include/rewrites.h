@@ -33,6 +33,9 @@ extern "C" {
               that many steps. *value, *steps and kept stay as they were.
    *ended = 2, *statement and *steps, where a statement divides by 0 within the budget: that statement,
               and the steps taken, its own counted. *value, left and kept stay as they were.
+   *ticks     in each of these cases: the price of the statements performed, a statement once for each
+              time, `write` and one that divides by 0 included. `read` 4, `write` 4, `skip` 1, `if` 3,
+              `X := A` 2, `+` 3, `-` 3, `*` 9, `<` 3, `=` 3, `/` 24.
 
    Returns the number of a refusal, and keeps all:
    15: the budget is over 1,000,000.
@@ -42,7 +45,8 @@ extern "C" {
     5: a target outside 2 to N, the count of statements. */
 uint8_t rewrites_run(const uint8_t *program, size_t program_len, const uint32_t values[32],
                      uint32_t input, uint32_t budget, uint32_t *ended, int32_t *value,
-                     uint32_t *steps, uint32_t *statement, uint32_t left[32], uint32_t kept[8]);
+                     uint32_t *steps, uint32_t *statement, uint32_t left[32], uint32_t kept[8],
+                     uint64_t *ticks);
 
 /* Tabulates a condition over the statements of a program: fills the table with the statements at
    which each part of the condition is true. The parts are the condition's operators and atoms, 1 to
@@ -117,7 +121,10 @@ uint8_t rewrites_review(const uint8_t *program, size_t program_len, const uint8_
    list: it tells the condition of an rm true also where a `cse` of the list refuses the rm. Accepted
    marks are all made together, refused ones aren't. The new program has the same line count. Started
    alike, it runs alike: to the same value and the same kept values in the same steps, to a fault at the
-   same statement in the same steps, or spent at the same statement. The values left then may differ.
+   same statement in the same steps, or spent at the same statement. Before each step every variable
+   that the given program may still use before defining it, its live variables, holds the same value
+   in both; others, and so the values left where a run is spent, may differ, and so may the ticks of
+   all runs.
    Takes at most 128 KiB of stack.
 
    Returns 0, and sets
@@ -142,6 +149,26 @@ uint8_t rewrites_review(const uint8_t *program, size_t program_len, const uint8_
 uint8_t rewrites_judge(const uint8_t *program, size_t program_len, const uint8_t *marks,
                        size_t marks_len, uint8_t *verdicts, size_t verdicts_len, uint8_t *text,
                        size_t text_len, uint32_t *mark_count, uint32_t *accepted, uint32_t *bytes);
+
+/* Tells the price of each statement in ticks, before and after the accepted marks of a list are made,
+   and the totals. The list is judged as by rewrites_judge, and the prices are those of rewrites_run.
+   Takes at most 128 KiB of stack.
+
+   Returns 0, and sets
+   before, after entry k, counted from 0, for statement k+1: its price in the given program, and in the
+                 rewritten one. All entries past the program's statements are kept.
+   *statements   the number of statements.
+   *given        the sum of the prices before.
+   *rewritten    the sum of the prices after.
+   *saved        given less rewritten, signed.
+
+   Returns the number of a refusal, and keeps all:
+    2 to 5: the program, as with rewrites_run.
+    9: some line of the marks is misspelled, or the last is without its byte 10.
+   10: the marks have over 256 lines. */
+uint8_t rewrites_report(const uint8_t *program, size_t program_len, const uint8_t *marks,
+                        size_t marks_len, uint32_t before[256], uint32_t after[256],
+                        uint32_t *statements, uint32_t *given, uint32_t *rewritten, int32_t *saved);
 
 /* Tells where a line of a list of marks lies in the list's text, so that a host can show a verdict
    beside its mark. A list is as with rewrites_judge; line j, counted from 0, is the one whose verdict

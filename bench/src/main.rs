@@ -7,8 +7,8 @@ mod time;
 use inputs::{atoms_condition, binary_condition, text, unary_condition, OPERATORS};
 use inputs::{cse_and_rm_marks_for, cse_marks_for, different_marks_for, marks_for};
 use oracle::tuned;
-use rewrites::{join, judge, review, run, tabulate, MOST_STEPS};
-use rewrites::{REVIEW_WORDS, TABLE_WORDS, TEXT_BYTES, VERDICT_BYTES};
+use rewrites::{join, judge, report, review, run, tabulate, MOST_STEPS};
+use rewrites::{REVIEW_WORDS, STATEMENTS, TABLE_WORDS, TEXT_BYTES, VERDICT_BYTES};
 use std::fs;
 use time::medians;
 
@@ -73,7 +73,7 @@ fn print_heading(title: &str, last: &str) {
 // Runs
 
 fn print_runs(worst: &mut Worst) {
-    print_heading("Runs of 1,000,000 steps, in microseconds", "    ns/step");
+    print_heading("Runs of 1,000,000 steps, ticks counted, in microseconds", "    ns/step");
     let loops: [(&str, &[&str]); 9] = [
         ("skip", &["skip", "skip", "skip", "skip"]),
         ("copies", &["i1 := i0", "i2 := 7", "i3 := i2", "i4 := i1"]),
@@ -91,6 +91,9 @@ fn print_runs(worst: &mut Worst) {
         lines.extend(["if i31 goto 2 else 2", "write i0"]);
         let program = text(&lines);
         let values = [0; 32];
+        let ticks = run(&program, &values, 7, MOST_STEPS).map(|outcome| outcome.ticks());
+        let wanted = tuned::run(&program, &values, 7, MOST_STEPS).map(|outcome| outcome.ticks());
+        assert_eq!(ticks.ok(), wanted.ok());
         let times = medians(
             RUN_TIMES,
             [&mut || run(&program, &values, 7, MOST_STEPS).is_ok(), &mut || {
@@ -433,6 +436,42 @@ fn print_judging(worst: &mut Worst) {
     }
 }
 
+// Reports
+
+fn time_report(program: &[u8], marks: &[u8]) -> [f64; 2] {
+    let (mut before, mut after) = ([0; STATEMENTS], [0; STATEMENTS]);
+    let times = medians(
+        TIMES,
+        [&mut || report(program, marks).is_ok(), &mut || {
+            tuned::report(program, marks, &mut before, &mut after).is_ok()
+        }],
+    );
+    let answer = report(program, marks).expect("program and list are taken");
+    assert!(answer.before == before && answer.after == after);
+    times
+}
+
+fn print_reports(worst: &mut Worst) {
+    print_heading(
+        "Reports on the same lists, no text written, in microseconds; tuned by a search",
+        "      saved",
+    );
+    let lists: [(&str, List); 2] = [("", marks_for), ("different ", different_marks_for)];
+    let sums: [(&str, List); 1] = [("rm and cse ", cse_and_rm_marks_for)];
+    let rows = FLOWS.iter().flat_map(|flow| lists.map(|list| (flow, list)));
+    for (flow, (kind, list)) in rows.chain(SUMS.iter().map(|flow| (flow, sums[0]))) {
+        for size in [16, 64, 256] {
+            let program = (flow.program)(size);
+            let marks = list(&program);
+            let saved = report(&program, &marks).expect("the list is taken").saved;
+            let name = format!("{}, {}marks, {} statements", flow.name, kind, size);
+            let ratio = print_line(&name, time_report(&program, &marks), &format!("{saved:>11}"));
+            let is_ordinary = flow.is_ordinary && kind.is_empty();
+            worst.meet(is_ordinary, ratio, format!("report, {}", name));
+        }
+    }
+}
+
 fn main() {
     let mut worst = Worst::default();
     println!("machine: {}", machine());
@@ -445,6 +484,7 @@ fn main() {
     print_table_growth(&mut worst);
     print_reviews(&mut worst);
     print_judging(&mut worst);
+    print_reports(&mut worst);
     println!("\nlargest ratio, ordinary inputs:    {:.2} ({})", worst.ordinary.0, worst.ordinary.1);
     println!(
         "largest ratio, adversarial inputs: {:.2} ({})",

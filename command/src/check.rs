@@ -9,9 +9,10 @@ use crate::marks::{self, Counts, Mark};
 use crate::output::{Output, Unwritten};
 use crate::status::Status;
 use clap::Args;
-use rewrites::{Refusal, Verdict, TEXT_BYTES, VERDICT_BYTES};
+use rewrites::{Refusal, Report, Verdict, TEXT_BYTES, VERDICT_BYTES};
 use serde::Serialize;
 use std::collections::HashMap;
+use std::ops::AddAssign;
 use std::path::PathBuf;
 
 #[derive(Args)]
@@ -40,6 +41,22 @@ struct Judged {
     verdicts: Vec<Verdict>,
     counts: Counts,
     program: Vec<u8>,
+    report: Report,
+}
+
+/// The price of each statement, in ticks.
+#[derive(Serialize)]
+struct Prices<'a> {
+    before: &'a [u32],
+    after: &'a [u32],
+}
+
+/// The totals of prices: of the given program, of the rewritten one, and given less rewritten.
+#[derive(Clone, Copy, Default, Serialize)]
+struct Ticks {
+    given: i64,
+    rewritten: i64,
+    saved: i64,
 }
 
 #[derive(Serialize)]
@@ -50,6 +67,8 @@ struct Answer<'a> {
     counts: Counts,
     verdicts: Vec<Judgement<'a>>,
     program: String,
+    prices: Prices<'a>,
+    ticks: Ticks,
 }
 
 /// What is told of a mark.
@@ -74,6 +93,7 @@ struct Sums {
     marks: usize,
     accepted: usize,
     counts: Counts,
+    ticks: Ticks,
 }
 
 #[derive(Serialize)]
@@ -90,13 +110,16 @@ fn judge(folder: &mut Folder) -> Option<Judged> {
     let given = folder.read_or_empty("given")?;
     let list = folder.read_or_empty("marks")?;
     let (mut verdicts, mut text) = ([0; VERDICT_BYTES], [0; TEXT_BYTES]);
-    match rewrites::judge(&given.bytes, &list.bytes, &mut verdicts, &mut text) {
-        Ok(judged) => {
+    let judged = rewrites::judge(&given.bytes, &list.bytes, &mut verdicts, &mut text);
+    let reported =
+        judged.and_then(|judged| Ok((judged, rewrites::report(&given.bytes, &list.bytes)?)));
+    match reported {
+        Ok((judged, report)) => {
             let bytes = verdicts.into_iter().take(judged.marks as usize);
             let verdicts: Vec<Verdict> = bytes.filter_map(Verdict::from_byte).collect();
             let counts = Counts::of(&verdicts);
             let program = text[..judged.bytes as usize].to_vec();
-            Some(Judged { given, list, verdicts, counts, program })
+            Some(Judged { given, list, verdicts, counts, program, report })
         }
         Err(refusal) => {
             let is_of_list = matches!(refusal, Refusal::MarkMisspelled | Refusal::MarkCount);
@@ -115,7 +138,24 @@ impl Judged {
         for (mark, verdict) in marks::of(&self.list.bytes).iter().zip(&self.verdicts) {
             text += &format!("{} {}\n", mark.statement, verdict.number());
         }
-        [text.as_bytes(), &self.program].concat()
+        let Report { given, rewritten, saved, .. } = self.report;
+        let mut prices = String::new();
+        let Prices { before, after } = self.prices();
+        for (at, (before, after)) in before.iter().zip(after).enumerate() {
+            prices += &format!("{} {before} {after}\n", at + 1);
+        }
+        prices += &format!("{given}\n{rewritten}\n{saved}\n");
+        [text.as_bytes(), &self.program, prices.as_bytes()].concat()
+    }
+
+    fn prices(&self) -> Prices<'_> {
+        let count = self.report.statements as usize;
+        Prices { before: &self.report.before[..count], after: &self.report.after[..count] }
+    }
+
+    fn ticks(&self) -> Ticks {
+        let Report { given, rewritten, saved, .. } = self.report;
+        Ticks { given: given.into(), rewritten: rewritten.into(), saved: saved.into() }
     }
 
     fn judgements(&self) -> Vec<Judgement<'_>> {
@@ -148,7 +188,17 @@ impl Judged {
             counts: self.counts,
             verdicts: self.judgements(),
             program: String::from_utf8_lossy(&self.program).into_owned(),
+            prices: self.prices(),
+            ticks: self.ticks(),
         }
+    }
+}
+
+impl AddAssign for Ticks {
+    fn add_assign(&mut self, other: Ticks) {
+        self.given += other.given;
+        self.rewritten += other.rewritten;
+        self.saved += other.saved;
     }
 }
 
@@ -213,6 +263,7 @@ impl Sums {
             self.counts += judged.counts;
             self.marks = self.counts.marks();
             self.accepted = self.counts.accepted;
+            self.ticks += judged.ticks();
         }
     }
 

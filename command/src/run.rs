@@ -43,21 +43,21 @@ struct Answer {
 #[derive(Serialize)]
 #[serde(tag = "outcome", rename_all = "lowercase")]
 enum Ending {
-    Ended { value: i32, steps: u32, kept: [i32; KEPT] },
-    Spent { statement: u32, left: [i32; VARIABLES] },
-    Fault { statement: u32, steps: u32 },
+    Ended { value: i32, steps: u32, ticks: u64, kept: [i32; KEPT] },
+    Spent { statement: u32, ticks: u64, left: [i32; VARIABLES] },
+    Fault { statement: u32, steps: u32, ticks: u64 },
 }
 
 impl From<Outcome> for Ending {
     fn from(outcome: Outcome) -> Ending {
         match outcome {
-            Outcome::Ended { value, steps, kept } => {
-                Ending::Ended { value, steps, kept: kept.map(|value| value as i32) }
+            Outcome::Ended { value, steps, kept, ticks } => {
+                Ending::Ended { value, steps, ticks, kept: kept.map(|value| value as i32) }
             }
-            Outcome::Spent { statement, values } => {
-                Ending::Spent { statement, left: values.map(|value| value as i32) }
+            Outcome::Spent { statement, values, ticks } => {
+                Ending::Spent { statement, ticks, left: values.map(|value| value as i32) }
             }
-            Outcome::Fault { statement, steps } => Ending::Fault { statement, steps },
+            Outcome::Fault { statement, steps, ticks } => Ending::Fault { statement, steps, ticks },
         }
     }
 }
@@ -66,18 +66,20 @@ impl Ending {
     /// What the runner prints.
     fn text(&self) -> String {
         match self {
-            Ending::Ended { value, steps, kept } => {
+            Ending::Ended { value, steps, ticks, kept } => {
                 let kept = kept.map(|value| value.to_string()).join(" ");
-                format!("ended {value} steps {steps} kept {kept}\n")
+                format!("ended {value} steps {steps} ticks {ticks} kept {kept}\n")
             }
-            Ending::Spent { statement, left } => {
-                let mut text = format!("spent at {statement}\n");
+            Ending::Spent { statement, ticks, left } => {
+                let mut text = format!("spent at {statement} ticks {ticks}\n");
                 for (x, value) in left.iter().enumerate() {
                     text += &format!("i{x} = {value}\n");
                 }
                 text
             }
-            Ending::Fault { statement, steps } => format!("fault at {statement} steps {steps}\n"),
+            Ending::Fault { statement, steps, ticks } => {
+                format!("fault at {statement} steps {steps} ticks {ticks}\n")
+            }
         }
     }
 }

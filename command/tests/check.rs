@@ -203,7 +203,9 @@ fn constants_below_zero() {
     let expected = read("expected");
     let output = run_in(&base, &["check", "--text", ".", "-o", "new"]);
     assert_eq!((status(&output), &output.stdout), (0, &expected));
-    let program: Vec<&str> = std::str::from_utf8(&expected).unwrap().lines().skip(12).collect();
+    // Behind the counts and 11 verdicts, and before as many prices and three totals.
+    let printed_lines: Vec<&str> = std::str::from_utf8(&expected).unwrap().lines().collect();
+    let program = &printed_lines[12..24];
     let new = fs::read_to_string(base.join("new")).expect("a file is read");
     assert_eq!(new, program.join("\n") + "\n");
     let explained = printed(&run_in(&base, &["check", "--explain", "."]));
@@ -332,6 +334,32 @@ total: folders 1; {counts}
     assert!(printed(&output).starts_with(".: marks 1, accepted 1\n"));
 }
 
+/// The prices of the example P and of a program on which marks save: the text and the JSON, of folders and of the total.
+#[test]
+fn prices_and_totals() {
+    let output = run_in(&example("p"), &["check", "--text", "."]);
+    let prices = "1 4 4\n2 2 2\n3 2 2\n4 3 3\n5 3 3\n6 3 3\n7 3 3\n8 4 4\n24\n24\n0\n";
+    assert!(printed(&output).ends_with(&format!("\nwrite i3\n{prices}")));
+    let given = b"read i0\ni1 := i0 * 3\nwrite i0\n";
+    let marks = b"2: mark(rm, i1, i0 * 3)\n";
+    let base = folder("prices", &[("given", given), ("marks", marks)]);
+    let output = run_in(&base, &["check", "--text", "."]);
+    assert!(printed(&output).ends_with("\nwrite i0\n1 4 4\n2 9 1\n3 4 4\n17\n9\n8\n"));
+    let p = example("p");
+    let output = run_in(&base, &["check", "--json", ".", &p.to_string_lossy(), "nowhere", "."]);
+    let json: Vec<String> = printed(&output).lines().map(str::to_string).collect();
+    let of_folder = "\"prices\":{\"before\":[4,9,4],\"after\":[4,1,4]},\
+                     \"ticks\":{\"given\":17,\"rewritten\":9,\"saved\":8}}";
+    assert!(json[0].ends_with(of_folder) && json[3].ends_with(of_folder), "{}", json[0]);
+    assert!(json[1].ends_with("\"ticks\":{\"given\":24,\"rewritten\":24,\"saved\":0}}"));
+    assert!(!json[2].contains("ticks") && !json[2].contains("prices"));
+    assert!(json[4].ends_with("\"ticks\":{\"given\":58,\"rewritten\":42,\"saved\":16}}"));
+    assert_eq!(told_again(&output.stdout)[0].as_bytes(), check::check(given, marks));
+    // Where the call is refused there is nothing of it.
+    let base = folder("prices", &[("given", given), ("marks", b"2: mark(rm)\n")]);
+    assert_eq!(printed(&run_in(&base, &["check", "--text", "."])), "refused 9\n");
+}
+
 #[test]
 fn the_longest_report() {
     let longest = "i31 := -2147483648 + -2147483648\n".repeat(254);
@@ -339,7 +367,7 @@ fn the_longest_report() {
     let marks = "2147483647: mark(rm, i31, -2147483648 + -2147483648)\n".repeat(256).into_bytes();
     let base = folder("longest", &[("given", &given), ("marks", &marks)]);
     let output = run_in(&base, &["check", "--text", "."]);
-    assert_eq!((status(&output), output.stdout.len()), (0, 12_006));
+    assert_eq!((status(&output), output.stdout.len()), (0, 13_956));
     assert!(output.stdout == check::check(&given, &marks));
     let output = run_in(&base, &["check", ".", "--json"]);
     assert!(told_again(&output.stdout)[0].as_bytes() == check::check(&given, &marks));

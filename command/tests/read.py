@@ -8,21 +8,26 @@ import sys
 VERDICTS = {"accepted": 0, "missing": 11, "repeated": 12, "unfit": 13, "may_fault": 18, "unmet": 14}
 FAULT = {"refusal", "file", "line", "whose", "words", "expected", "found"}
 REPORT = {"call", "folder", "status", "faults"}
-TOTAL = {"call", "status", "folders", "results", "refused", "unread", "marks", "accepted", "counts"}
-CHECK = {"marks", "accepted", "bytes", "counts", "verdicts", "program"}
+TOTAL = {"call", "status", "folders", "results", "refused", "unread", "marks", "accepted", "counts", "ticks"}
+CHECK = {"marks", "accepted", "bytes", "counts", "verdicts", "program", "prices", "ticks"}
+PRICES = {"before", "after"}
+TICKS = {"given", "rewritten", "saved"}
 MARK = {"line", "mark", "statement", "verdict", "name", "words", "condition"}
 TABULATE = {"condition", "statements", "parts", "satisfied", "first", "table"}
 ROW = {"part", "text", "satisfied", "statements"}
 REVIEW = {"statements", "tables", "lines", "conditions"}
 CONDITION = {"line", "condition", "table", "parts", "satisfied", "first", "statements"}
 START = {"input", "budget", "values", "outcome"}
-ENDED = START | {"value", "steps", "kept"}
-SPENT = START | {"statement", "left"}
-FAULTED = START | {"statement", "steps"}
+ENDED = START | {"value", "steps", "ticks", "kept"}
+SPENT = START | {"statement", "ticks", "left"}
+FAULTED = START | {"statement", "steps", "ticks"}
 LINES = {"marks", "bytes", "lines"}
 LINE = {"line", "begin", "end", "mark"}
 PAIR = {"call", "road", "creeper", "status", "faults"}
 JOIN = {"statements", "bytes", "program"}
+
+# The totals of the folders that were checked since the last total.
+summed = dict.fromkeys(TICKS, 0)
 
 
 def has(thing, names):
@@ -39,6 +44,8 @@ def total(thing):
     assert thing["folders"] == thing["results"] + thing["refused"] + thing["unread"]
     assert thing["marks"] == sum(thing["counts"].values())
     assert thing["accepted"] == thing["counts"]["accepted"]
+    assert thing["ticks"] == summed
+    summed.update(dict.fromkeys(TICKS, 0))
     return "total {folders} {results} {refused} {unread} {marks} {accepted} status {status}\n".format(**thing)
 
 
@@ -58,7 +65,16 @@ def check(thing):
     assert thing["marks"] == len(thing["verdicts"])
     assert thing["accepted"] == thing["counts"]["accepted"]
     assert thing["bytes"] == len(thing["program"].encode())
-    return text + thing["program"]
+    text += thing["program"]
+    has(thing["prices"], PRICES)
+    has(thing["ticks"], TICKS)
+    before, after = thing["prices"]["before"], thing["prices"]["after"]
+    assert len(before) == len(after) == thing["program"].count("\n")
+    for at, pair in enumerate(zip(before, after)):
+        text += "%d %d %d\n" % (at + 1, *pair)
+    for name in TICKS:
+        summed[name] += thing["ticks"][name]
+    return text + "{given}\n{rewritten}\n{saved}\n".format(**thing["ticks"])
 
 
 def tabulate(thing):
@@ -98,14 +114,14 @@ def run(thing):
         has(thing, REPORT | ENDED)
         assert len(thing["kept"]) == 8 and all(map(whole, thing["kept"]))
         kept = " ".join(map(str, thing["kept"]))
-        return "ended {value} steps {steps} kept ".format(**thing) + kept + "\n"
+        return "ended {value} steps {steps} ticks {ticks} kept ".format(**thing) + kept + "\n"
     if thing["outcome"] == "fault":
         has(thing, REPORT | FAULTED)
-        return "fault at {statement} steps {steps}\n".format(**thing)
+        return "fault at {statement} steps {steps} ticks {ticks}\n".format(**thing)
     has(thing, REPORT | SPENT)
     assert thing["outcome"] == "spent" and len(thing["left"]) == 32
     lines = ["i%d = %d\n" % (x, value) for x, value in enumerate(thing["left"])]
-    return "spent at {statement}\n".format(**thing) + "".join(lines)
+    return "spent at {statement} ticks {ticks}\n".format(**thing) + "".join(lines)
 
 
 def lines(thing):
@@ -159,7 +175,7 @@ def told(thing):
 
 
 described = pathlib.Path(__file__).parents[2].joinpath("docs/REFERENCE.md").read_text()
-for names in (VERDICTS, FAULT, REPORT, TOTAL, CHECK, MARK, TABULATE, ROW, REVIEW, CONDITION, ENDED, SPENT, FAULTED, LINES, LINE, PAIR, JOIN):
+for names in (VERDICTS, FAULT, REPORT, TOTAL, CHECK, PRICES, TICKS, MARK, TABULATE, ROW, REVIEW, CONDITION, ENDED, SPENT, FAULTED, LINES, LINE, PAIR, JOIN):
     for name in names:
         assert "`%s`" % name in described, name
 

@@ -20,7 +20,8 @@ fn ready(name: &str) -> PathBuf {
 /// P with its accepted mark made.
 fn rewritten() -> String {
     let report = fs::read_to_string(example("p/expected")).expect("a file is read");
-    report[report.find("read").expect("a program")..].to_string()
+    let end = report.find("1 4 4\n").expect("prices");
+    report[report.find("read").expect("a program")..end].to_string()
 }
 
 fn read(path: &Path) -> String {

@@ -118,10 +118,10 @@ fn options_replace_the_start() {
 fn runs_of_an_example() {
     let p = example("p");
     for (words, expected) in [
-        (&["run", "."][..], "ended 9 steps 12 kept 0 0 0 0 0 0 0 0\n"),
-        (&["run", ".", "--input", "0"], "ended 7 steps 6 kept 0 0 0 0 0 0 0 0\n"),
+        (&["run", "."][..], "ended 9 steps 12 ticks 36 kept 0 0 0 0 0 0 0 0\n"),
+        (&["run", ".", "--input", "0"], "ended 7 steps 6 ticks 18 kept 0 0 0 0 0 0 0 0\n"),
         (&["run", "--input=-1", "--budget", "11", ".", "--json"], "\"outcome\":\"spent\""),
-        (&["run", ".", "--budget", "11"], "spent at 8\n"),
+        (&["run", ".", "--budget", "11"], "spent at 8 ticks 32\n"),
     ] {
         assert!(printed(&run_in(&p, words)).contains(expected), "{words:?}");
     }
@@ -132,11 +132,11 @@ fn runs_of_an_example() {
 fn what_one_pass_keeps_starts_the_next() {
     let hold = example("hold");
     let output = run_in(&hold, &["run", "."]);
-    assert_eq!(printed(&output), "ended 4 steps 12 kept 4 3 4 0 0 0 0 0\n");
+    assert_eq!(printed(&output), "ended 4 steps 12 ticks 31 kept 4 3 4 0 0 0 0 0\n");
     let next = ["run", ".", "--input=2", "--set=i24=4", "--set=i25=3", "--set=i26=4"];
     let output = run_in(&hold, &next);
     // The gear is held, and a pass less is left.
-    assert_eq!(printed(&output), "ended 4 steps 10 kept 4 2 2 0 0 0 0 0\n");
+    assert_eq!(printed(&output), "ended 4 steps 10 ticks 27 kept 4 2 2 0 0 0 0 0\n");
 }
 
 /// Numbers below zero, in the program and in options.
@@ -144,21 +144,24 @@ fn what_one_pass_keeps_starts_the_next() {
 fn runs_below_zero() {
     let offset = example("offset");
     for (words, expected) in [
-        (&["run", "."][..], "ended -25 steps 12 kept 0 0 0 0 0 0 0 0\n"),
-        (&["run", ".", "--input", "-5"], "ended -25 steps 12 kept 0 0 0 0 0 0 0 0\n"),
-        (&["run", ".", "--input=-5", "--set=i2=-10"], "ended -25 steps 11 kept 0 0 0 0 0 0 0 0\n"),
+        (&["run", "."][..], "ended -25 steps 12 ticks 35 kept 0 0 0 0 0 0 0 0\n"),
+        (&["run", ".", "--input", "-5"], "ended -25 steps 12 ticks 35 kept 0 0 0 0 0 0 0 0\n"),
+        (
+            &["run", ".", "--input=-5", "--set=i2=-10"],
+            "ended -25 steps 11 ticks 32 kept 0 0 0 0 0 0 0 0\n",
+        ),
         (
             &["run", ".", "--input", "90", "--set", "i2=-10"],
-            "ended 50 steps 10 kept 0 0 0 0 0 0 0 0\n",
+            "ended 50 steps 10 ticks 30 kept 0 0 0 0 0 0 0 0\n",
         ),
         (
             &["run", ".", "--input", "90", "--set", "i2=-11"],
-            "ended 35 steps 11 kept 0 0 0 0 0 0 0 0\n",
+            "ended 35 steps 11 ticks 33 kept 0 0 0 0 0 0 0 0\n",
         ),
         (&["run", ".", "--input=-2147483648", "--budget=5"], "i3 = 2147483608\n"),
         (
             &["run", ".", "--json"],
-            "\"outcome\":\"ended\",\"value\":-25,\"steps\":12,\"kept\":[0,0,0,0,0,0,0,0]}\n",
+            "\"outcome\":\"ended\",\"value\":-25,\"steps\":12,\"ticks\":35,\"kept\":[0,0,0,0,0,0,0,0]}\n",
         ),
     ] {
         let output = run_in(&offset, words);
@@ -167,7 +170,7 @@ fn runs_below_zero() {
     }
     let base = folder("below", &[("given", b"read i0\ni1 := i0 - i13\nwrite i1\n")]);
     let output = run_in(&base, &["run", ".", "--set", "i13=-40", "--input", "-5"]);
-    assert_eq!(printed(&output), "ended 35 steps 3 kept 0 0 0 0 0 0 0 0\n");
+    assert_eq!(printed(&output), "ended 35 steps 3 ticks 11 kept 0 0 0 0 0 0 0 0\n");
 }
 
 /// What the unit keeps: the values of the library's call, signed, in the text and in the JSON.
@@ -180,7 +183,7 @@ fn runs_tell_what_is_kept() {
         values[FIRST_KEPT + 1] = setting as u32;
         let answer = rewrites::run(given, &values, input as u32, 4);
         let kept = match answer {
-            Ok(Outcome::Ended { value, steps: 4, kept }) if value == input => kept,
+            Ok(Outcome::Ended { value, steps: 4, kept, ticks: 13 }) if value == input => kept,
             other => panic!("{other:?}"),
         };
         let kept = kept.map(|value| (value as i32).to_string());
@@ -192,17 +195,17 @@ fn runs_tell_what_is_kept() {
         };
         let text: Vec<String> = words("--budget=4");
         let output = run_in(&base, &text);
-        let expected = format!("ended {input} steps 4 kept {}\n", kept.join(" "));
+        let expected = format!("ended {input} steps 4 ticks 13 kept {}\n", kept.join(" "));
         assert_eq!((printed(&output), said(&output)), (expected.clone(), String::new()));
         let json: Vec<String> = words("--json");
         let output = run_in(&base, &json);
-        let list = format!("\"steps\":4,\"kept\":[{}]}}\n", kept.join(","));
+        let list = format!("\"steps\":4,\"ticks\":13,\"kept\":[{}]}}\n", kept.join(","));
         assert!(printed(&output).ends_with(&list), "{}", printed(&output));
         assert_eq!(told_again(&output.stdout), [expected]);
         // Where the budget is spent, nothing is told as kept.
         let text: Vec<String> = words("--budget=3");
         let output = printed(&run_in(&base, &text));
-        assert!(output.starts_with("spent at 4\n") && !output.contains("kept"), "{output}");
+        assert!(output.starts_with("spent at 4 ticks 9\n") && !output.contains("kept"), "{output}");
     }
 }
 
@@ -214,17 +217,17 @@ fn runs_tell_of_faults() {
         let words = ["run", ".", "--input=0", "--budget", budget];
         let output = run_in(&base, &words);
         assert_eq!((status(&output), said(&output)), (0, String::new()));
-        assert_eq!(printed(&output), "fault at 2 steps 2\n");
+        assert_eq!(printed(&output), "fault at 2 steps 2 ticks 28\n");
         let output = run_in(&base, &[&words[..], &["--json"]].concat());
-        let end = "\"outcome\":\"fault\",\"statement\":2,\"steps\":2}\n";
+        let end = "\"outcome\":\"fault\",\"statement\":2,\"steps\":2,\"ticks\":28}\n";
         assert!(printed(&output).ends_with(end), "{}", printed(&output));
         assert!(printed(&output).contains("\"status\":0,\"faults\":[],"), "{}", printed(&output));
-        assert_eq!(told_again(&output.stdout), ["fault at 2 steps 2\n"]);
+        assert_eq!(told_again(&output.stdout), ["fault at 2 steps 2 ticks 28\n"]);
     }
     let output = run_in(&base, &["run", ".", "--input=0", "--budget=1"]);
-    assert!(printed(&output).starts_with("spent at 2\ni0 = 0\n"));
+    assert!(printed(&output).starts_with("spent at 2 ticks 4\ni0 = 0\n"));
     let output = run_in(&base, &["run", ".", "--input=-3"]);
-    assert_eq!(printed(&output), "ended -3 steps 3 kept 0 0 0 0 0 0 0 0\n");
+    assert_eq!(printed(&output), "ended -3 steps 3 ticks 32 kept 0 0 0 0 0 0 0 0\n");
 }
 
 /// The example that divides, and its program with the accepted marks made: both fault at each divisor that is 0.
@@ -242,17 +245,20 @@ fn both_programs_of_an_example_fault_alike() {
              may fault 2, condition false 6"
         )
     );
-    for (setting, expected) in [
-        ("i31=0", "ended 30 steps 14 kept 0 0 0 0 0 0 0 0\n"),
-        ("i2=4000", "ended 4 steps 15 kept 0 0 0 0 0 0 0 0\n"),
-        ("i1=0", "fault at 6 steps 6\n"),
-        ("i2=0", "fault at 8 steps 8\n"),
-        ("i12=0", "fault at 9 steps 9\n"),
-        ("i14=0", "fault at 11 steps 11\n"),
+    let kept = " kept 0 0 0 0 0 0 0 0";
+    // The division of 10 is dropped: 23 ticks less for runs that come there.
+    for (setting, answer, kept, of_given, of_made) in [
+        ("i31=0", "ended 30 steps 14", kept, 187, 164),
+        ("i2=4000", "ended 4 steps 15", kept, 189, 166),
+        ("i1=0", "fault at 6 steps 6", "", 72, 72),
+        ("i2=0", "fault at 8 steps 8", "", 105, 105),
+        ("i12=0", "fault at 9 steps 9", "", 129, 129),
+        ("i14=0", "fault at 11 steps 11", "", 177, 154),
     ] {
-        for base in [&creeper, &made] {
+        for (base, ticks) in [(&creeper, of_given), (&made, of_made)] {
             let output = run_in(base, &["run", ".", "--set", setting]);
-            assert_eq!((status(&output), printed(&output).as_str()), (0, expected), "{setting}");
+            let expected = format!("{answer} ticks {ticks}{kept}\n");
+            assert_eq!((status(&output), printed(&output)), (0, expected), "{setting}");
         }
     }
 }
@@ -290,7 +296,7 @@ fn refused_starts_in_words() {
                    expected a file of at most 65,535 bytes\n";
     assert_eq!((status(&output), said(&output).as_str()), (2, missing));
     let output = run_in(&base, &["run", ".", "--input", "3"]);
-    let ended = "ended 3 steps 2 kept 0 0 0 0 0 0 0 0\n";
+    let ended = "ended 3 steps 2 ticks 8 kept 0 0 0 0 0 0 0 0\n";
     assert_eq!((status(&output), printed(&output).as_str()), (0, ended));
     let over = "--budget: the host program: budget over 1,000,000; expected at most 1,000,000, \
                 found `1000001`\n";

@@ -22,13 +22,15 @@
 //!     write i1\n";
 //! let values = [0; 32];
 //!
-//! let ended = Outcome::Ended { value: 10, steps: 15, kept: [0; KEPT] };
+//! // `read` and `write` take 4 ticks each, the other 13 steps 3.
+//! let ended = Outcome::Ended { value: 10, steps: 15, kept: [0; KEPT], ticks: 47 };
 //! assert_eq!(run(program, &values, 4, 100), Ok(ended));
 //!
 //! // Two steps read 4 into i0 and go to statement 3.
 //! let mut left = values;
 //! left[0] = 4;
-//! assert_eq!(run(program, &values, 4, 2), Ok(Outcome::Spent { statement: 3, values: left }));
+//! let spent = Outcome::Spent { statement: 3, values: left, ticks: 7 };
+//! assert_eq!(run(program, &values, 4, 2), Ok(spent));
 //!
 //! assert_eq!(run(b"read i0\n", &values, 4, 100), Err(Refusal::LineCount));
 //! ```
@@ -84,6 +86,17 @@
 //! assert_eq!(text[..31], *b"read i0\nskip\ni1 := i2\nwrite i2\n");
 //! ```
 //!
+//! [`report`] tells the price of each statement in ticks, before and after the accepted marks are made.
+//!
+//! ```
+//! use rewrites::report;
+//!
+//! // Without the product, 9 ticks, statement 2 is `skip`, 1 tick.
+//! let program = b"read i0\ni1 := i0 * 3\nwrite i0\n";
+//! let answer = report(program, b"2: mark(rm, i1, i0 * 3)\n").unwrap();
+//! assert_eq!((answer.given, answer.rewritten, answer.saved), (17, 9, 8));
+//! ```
+//!
 //! [`mark_line`] tells where a mark's line lies in the list, to show its verdict beside it.
 //!
 //! A road program and a creeper program become one that does what the second does with what the first
@@ -108,6 +121,9 @@ use std::fmt;
 use std::ops::Range;
 
 pub mod raw;
+
+/// The most statements of a program.
+pub const STATEMENTS: usize = 256;
 
 /// The variables of a program, `i0` to `i31`, each with one value.
 pub const VARIABLES: usize = 32;
@@ -139,7 +155,8 @@ pub const VERDICT_BYTES: usize = 256;
 /// The bytes that there must be for new text.
 pub const TEXT_BYTES: usize = 8704;
 
-/// What a run answers.
+/// What a run answers. Each answer tells the ticks of the statements that were performed: the price of
+/// each, a statement once for each time.
 #[derive(Clone, Copy, Debug, PartialEq, Eq)]
 pub enum Outcome {
     /// The run ended within the budget.
@@ -150,6 +167,8 @@ pub enum Outcome {
         steps: u32,
         /// The values of `i24` to `i31` at the end, which the unit keeps for its next pass.
         kept: [u32; KEPT],
+        /// The price of all steps taken.
+        ticks: u64,
     },
     /// The run took all steps of the budget without ending.
     Spent {
@@ -157,6 +176,8 @@ pub enum Outcome {
         statement: u32,
         /// The values of `i0` to `i31` after the last step.
         values: [u32; VARIABLES],
+        /// The price of all steps of the budget.
+        ticks: u64,
     },
     /// A statement divided by 0 within the budget, which ended the run. Nothing is written or kept.
     Fault {
@@ -164,7 +185,20 @@ pub enum Outcome {
         statement: u32,
         /// The steps taken, its own among them.
         steps: u32,
+        /// The price of all steps taken, that of its own among them.
+        ticks: u64,
     },
+}
+
+impl Outcome {
+    /// The ticks of the statements that were performed.
+    pub fn ticks(&self) -> u64 {
+        match *self {
+            Outcome::Ended { ticks, .. }
+            | Outcome::Spent { ticks, .. }
+            | Outcome::Fault { ticks, .. } => ticks,
+        }
+    }
 }
 
 /// What the tabulation of a condition answers beside the table.
@@ -205,6 +239,26 @@ pub struct Judged {
     pub accepted: u32,
     /// The number of bytes of new text.
     pub bytes: u32,
+}
+
+/// The prices of a program's statements before and after the accepted marks of a list are made, in ticks:
+/// `read` 4, `write` 4, `skip` 1, `if` 3, `X := A` 2, `+` 3, `-` 3, `*` 9, `<` 3, `=` 3, `/` 24.
+///
+/// Entry k of an array is that of statement k + 1; entries past the statements are 0.
+#[derive(Clone, Copy, Debug, PartialEq, Eq)]
+pub struct Report {
+    /// The number of statements, 2 to 256, the same in both programs.
+    pub statements: u32,
+    /// The price of each statement of the given program.
+    pub before: [u32; STATEMENTS],
+    /// The price of each statement of the rewritten program.
+    pub after: [u32; STATEMENTS],
+    /// The sum of the prices before.
+    pub given: u32,
+    /// The sum of the prices after.
+    pub rewritten: u32,
+    /// The sum before less the sum after.
+    pub saved: i32,
 }
 
 /// What a mark on statement n of a program of N statements gets. Where it isn't accepted, it gets
@@ -380,7 +434,7 @@ impl Error for Refusal {}
 ///
 /// A run that ends tells what `write` wrote, and the values that the unit keeps for its next pass: those
 /// of the [`KEPT`] variables from [`FIRST_KEPT`] on. One that divides by 0 ends there with a fault, and
-/// tells the statement.
+/// tells the statement. Every answer tells the ticks of the statements performed; [`Report`] has the prices.
 ///
 /// # Errors
 ///
@@ -394,26 +448,27 @@ impl Error for Refusal {}
 /// // Values keep their low 32 bits, and the written value is signed.
 /// let program = b"read i0\ni0 := i0 + 1\nwrite i0\n";
 /// let answer = run(program, &[0; 32], 2147483647, 3);
-/// assert_eq!(answer, Ok(Outcome::Ended { value: -2147483648, steps: 3, kept: [0; KEPT] }));
+/// let ended = |value, ticks| Ok(Outcome::Ended { value, steps: 3, kept: [0; KEPT], ticks });
+/// assert_eq!(answer, ended(-2147483648, 11));
 ///
 /// // A constant may be below zero.
 /// let program = b"read i0\ni1 := i0 - -40\nwrite i1\n";
 /// let answer = run(program, &[0; 32], 2, 3);
-/// assert_eq!(answer, Ok(Outcome::Ended { value: 42, steps: 3, kept: [0; KEPT] }));
+/// assert_eq!(answer, ended(42, 11));
 ///
 /// // Quotients are rounded toward zero. By 0 there is none: the second step ends the run.
 /// let program = b"read i0\ni1 := -7 / i0\nwrite i1\n";
 /// let answer = run(program, &[0; 32], 2, 3);
-/// assert_eq!(answer, Ok(Outcome::Ended { value: -3, steps: 3, kept: [0; KEPT] }));
+/// assert_eq!(answer, ended(-3, 32));
 /// let answer = run(program, &[0; 32], 0, 3);
-/// assert_eq!(answer, Ok(Outcome::Fault { statement: 2, steps: 2 }));
+/// assert_eq!(answer, Ok(Outcome::Fault { statement: 2, steps: 2, ticks: 28 }));
 ///
 /// // i24 counts the passes: what one keeps is handed to the next.
 /// let program = b"read i0\ni24 := i24 + 1\nwrite i0\n";
 /// let mut values = [0; 32];
 /// for pass in 1..=3 {
 ///     match run(program, &values, 5, 3) {
-///         Ok(Outcome::Ended { value: 5, steps: 3, kept }) => {
+///         Ok(Outcome::Ended { value: 5, steps: 3, kept, ticks: 11 }) => {
 ///             assert_eq!(kept, [pass, 0, 0, 0, 0, 0, 0, 0]);
 ///             values[FIRST_KEPT..FIRST_KEPT + KEPT].copy_from_slice(&kept);
 ///         }
@@ -433,6 +488,7 @@ pub fn run(
     let mut statement = 0;
     let mut left = [0; VARIABLES];
     let mut kept = [0; KEPT];
+    let mut ticks = 0;
     // SAFETY: the pointers come from references, so none is null, and those that are written
     // through are the only ones to their places.
     let number = unsafe {
@@ -448,15 +504,16 @@ pub fn run(
             &mut statement,
             &mut left,
             &mut kept,
+            &mut ticks,
         )
     };
     if number != 0 {
         return Err(Refusal::returned(number));
     }
     Ok(match ended {
-        1 => Outcome::Ended { value, steps, kept },
-        2 => Outcome::Fault { statement, steps },
-        _ => Outcome::Spent { statement, values: left },
+        1 => Outcome::Ended { value, steps, kept, ticks },
+        2 => Outcome::Fault { statement, steps, ticks },
+        _ => Outcome::Spent { statement, values: left, ticks },
     })
 }
 
@@ -620,7 +677,10 @@ pub fn review(program: &[u8], conditions: &[u8], table: &mut [u64]) -> Result<Re
 ///
 /// From every start, and under every budget that isn't refused, runs of the two programs answer the
 /// same value, the same steps and the same kept values, a fault at the same statement after the same
-/// steps, or 'spent' at the same statement. The values told with 'spent' may differ.
+/// steps, or 'spent' at the same statement. Of the values told with 'spent', those of every variable that
+/// the given program may still use before defining it, its live variables, are the same in both: those x
+/// for which `E[!def(x) U use(x)]` is true at that statement of the given program. The others may differ,
+/// and so may the ticks of all runs.
 ///
 /// Takes at most 128 KiB of stack.
 ///
@@ -689,6 +749,15 @@ pub fn review(program: &[u8], conditions: &[u8], table: &mut [u64]) -> Result<Re
 /// // By itself the first mark is accepted: the given program never uses i1.
 /// let answer = judge(program, &marks[..24], &mut verdicts, &mut text)?;
 /// assert_eq!((answer.accepted, verdicts[0]), (1, 0));
+///
+/// // Before statement 3, i1 isn't live, and differs; i0, which 3 uses, is the same.
+/// use rewrites::{run, Outcome};
+/// let left = |program: &[u8]| match run(program, &[0; 32], 6, 2) {
+///     Ok(Outcome::Spent { statement: 3, values }) => (values[0], values[1]),
+///     other => panic!("{:?}", other),
+/// };
+/// assert_eq!(left(program), (6, 7));
+/// assert_eq!(left(&text[..answer.bytes as usize]), (6, 0));
 /// # Ok::<(), rewrites::Refusal>(())
 /// ```
 pub fn judge(
@@ -721,6 +790,57 @@ pub fn judge(
         return Err(Refusal::returned(number));
     }
     Ok(Judged { marks: mark_count, accepted, bytes })
+}
+
+/// Tells the price of each statement of a program in ticks, before and after the accepted marks of a list
+/// are made, and the totals. The list is judged as by [`judge`]; [`Report`] has the prices.
+///
+/// Takes at most 128 KiB of stack.
+///
+/// # Errors
+///
+/// For the program, [`Refusal::Misspelled`], [`Refusal::LineCount`], [`Refusal::Placement`] or
+/// [`Refusal::Target`]; else, for the marks, [`Refusal::MarkMisspelled`] or [`Refusal::MarkCount`].
+///
+/// ```
+/// use rewrites::{report, Refusal};
+///
+/// // A sum that is computed twice, and a product that nothing uses.
+/// let program = b"read i0\ni1 := i0 + 1\ni2 := i0 + 1\ni3 := i2 * i2\nwrite i2\n";
+/// let marks = b"3: mark(cse, i1, i0 + 1)\n4: mark(rm, i3, i2 * i2)\n";
+/// let answer = report(program, marks)?;
+/// assert_eq!(answer.statements, 5);
+/// assert_eq!(answer.before[..5], [4, 3, 3, 9, 4]);
+/// assert_eq!(answer.after[..5], [4, 3, 2, 1, 4]);
+/// assert_eq!((answer.given, answer.rewritten, answer.saved), (23, 14, 9));
+///
+/// assert_eq!(report(program, b"4: mark(rm, i3)\n"), Err(Refusal::MarkMisspelled));
+/// # Ok::<(), Refusal>(())
+/// ```
+pub fn report(program: &[u8], marks: &[u8]) -> Result<Report, Refusal> {
+    let none = [0; STATEMENTS];
+    let mut report =
+        Report { statements: 0, before: none, after: none, given: 0, rewritten: 0, saved: 0 };
+    // SAFETY: the pointers come from references, so none is null, and those that are written
+    // through are the only ones to their places.
+    let number = unsafe {
+        raw::rewrites_report(
+            program.as_ptr(),
+            program.len(),
+            marks.as_ptr(),
+            marks.len(),
+            &mut report.before,
+            &mut report.after,
+            &mut report.statements,
+            &mut report.given,
+            &mut report.rewritten,
+            &mut report.saved,
+        )
+    };
+    if number != 0 {
+        return Err(Refusal::returned(number));
+    }
+    Ok(report)
 }
 
 /// Tells where line `line` of a list of marks, counted from 0, lies in the list: the bytes from its first

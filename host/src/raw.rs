@@ -1,6 +1,6 @@
 //! The calls as `include/rewrites.h` declares them.
 
-use crate::{KEPT, REVIEW_LINES, VARIABLES};
+use crate::{KEPT, REVIEW_LINES, STATEMENTS, VARIABLES};
 
 extern "C" {
     /// See [`crate::run`] and the header.
@@ -21,6 +21,7 @@ extern "C" {
         statement: *mut u32,
         left: *mut [u32; VARIABLES],
         kept: *mut [u32; KEPT],
+        ticks: *mut u64,
     ) -> u8;
 
     /// See [`crate::tabulate`] and the header.
@@ -83,6 +84,26 @@ extern "C" {
         mark_count: *mut u32,
         accepted: *mut u32,
         bytes: *mut u32,
+    ) -> u8;
+
+    /// See [`crate::report`] and the header.
+    ///
+    /// # Safety
+    ///
+    /// `program` points to `program_len` bytes and `marks` to `marks_len`; each of them may be null where
+    /// its length is 0. No other pointer is null. Places that the call writes overlap no other place lent
+    /// to it.
+    pub fn rewrites_report(
+        program: *const u8,
+        program_len: usize,
+        marks: *const u8,
+        marks_len: usize,
+        before: *mut [u32; STATEMENTS],
+        after: *mut [u32; STATEMENTS],
+        statements: *mut u32,
+        given: *mut u32,
+        rewritten: *mut u32,
+        saved: *mut i32,
     ) -> u8;
 
     /// See [`crate::mark_line`] and the header.

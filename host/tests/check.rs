@@ -6,7 +6,7 @@
 mod common;
 mod coverage;
 
-use common::{built, in_folder, option, shown};
+use common::{built, in_folder, option, shown, P};
 use coverage::Tally;
 use oracle::generate::Random;
 use oracle::{check, folder};
@@ -66,8 +66,10 @@ fn the_longest_report_is_printed() {
     assert!(output.status.success());
     assert_eq!(shown(&output.stderr), "");
     let numbers = "2147483647 11\n".repeat(256);
-    let expected = format!("marks 256 accepted 0\n{numbers}{given}");
-    assert_eq!((given.len(), expected.len()), (8_401, 12_006));
+    let inner: String = (2..256).map(|n| format!("{n} 3 3\n")).collect();
+    let prices = format!("1 4 4\n{inner}256 4 4\n770\n770\n0\n");
+    let expected = format!("marks 256 accepted 0\n{numbers}{given}{prices}");
+    assert_eq!((given.len(), prices.len(), expected.len()), (8_401, 1_950, 13_956));
     assert_eq!(shown(&output.stdout), shown(expected.as_bytes()));
     assert!(output.stdout == expected.as_bytes());
     assert!(output.stdout == check::check(given.as_bytes(), marks.as_bytes()));
@@ -82,7 +84,8 @@ fn divisions_are_checked() {
         4: mark(rm, i1, i0 / -1)\n5: mark(rm, i1, i0 / 2)\n6: mark(rm, i1, i0 / 0)\n\
         7: mark(rm, i1, i0 / 0)\n";
     let expected = "marks 7 accepted 1\n2 18\n2 12\n3 18\n4 0\n5 14\n6 13\n7 11\n\
-        read i0\ni1 := i0 / i2\ni1 := i0 / 0\nskip\ni1 := i0 / 2\nwrite i1\n";
+        read i0\ni1 := i0 / i2\ni1 := i0 / 0\nskip\ni1 := i0 / 2\nwrite i1\n\
+        1 4 4\n2 24 24\n3 24 24\n4 24 1\n5 24 24\n6 4 4\n104\n81\n23\n";
     let output = in_folder(&program, "divisions", &[("given", given), ("marks", marks)], &[]);
     assert_eq!(shown(&output.stderr), "");
     assert_eq!(String::from_utf8_lossy(&output.stdout), expected);
@@ -100,8 +103,10 @@ fn sums_are_checked() {
         "5: mark(rpl, i3, 7)\n",
         "4: mark(cse, i1, 7)\n",
     ];
-    let made = "read i0\ni1 := i0 + 1\ni2 := i1\ni3 := 7\ni4 := i2 * 7\nwrite i4\n";
-    let dropped = "read i0\nskip\ni2 := i0 + 1\ni3 := 7\ni4 := i2 * 7\nwrite i4\n";
+    let made = "read i0\ni1 := i0 + 1\ni2 := i1\ni3 := 7\ni4 := i2 * 7\nwrite i4\n\
+        1 4 4\n2 3 3\n3 3 2\n4 2 2\n5 9 9\n6 4 4\n25\n24\n1\n";
+    let dropped = "read i0\nskip\ni2 := i0 + 1\ni3 := 7\ni4 := i2 * 7\nwrite i4\n\
+        1 4 4\n2 3 1\n3 3 3\n4 2 2\n5 9 9\n6 4 4\n25\n23\n2\n";
     for (marks, expected) in [
         (
             format!("{rm}{cse}{rpl}{single}"),
@@ -119,6 +124,37 @@ fn sums_are_checked() {
         assert_eq!(String::from_utf8_lossy(&output.stdout), expected, "{marks}");
         assert!(output.stdout == check::check(given, marks.as_bytes()));
     }
+}
+
+/// P with document 01's marks: `rpl` changes no price.
+#[test]
+fn the_prices_of_p_are_printed() {
+    let program = built("check_rewrites");
+    let marks =
+        "4: mark(rpl, i2, 7)\n3: mark(rm, i2, 7)\n4: mark(rpl, i1, i0)\n6: mark(rm, i0, 1)\n\
+        9: mark(rm, i2, 7)\n";
+    let new = P.replace("i1 + i2", "i1 + 7");
+    let expected = format!(
+        "marks 5 accepted 1\n4 0\n3 14\n4 12\n6 13\n9 11\n{new}\
+         1 4 4\n2 2 2\n3 2 2\n4 3 3\n5 3 3\n6 3 3\n7 3 3\n8 4 4\n24\n24\n0\n"
+    );
+    let files = [("given", P.as_bytes()), ("marks", marks.as_bytes())];
+    let output = in_folder(&program, "prices", &files, &[]);
+    assert_eq!(String::from_utf8_lossy(&output.stdout), expected);
+    assert!(output.stdout == check::check(P.as_bytes(), marks.as_bytes()));
+}
+
+/// The longest numbers of ours: 254 divisions, all dropped but those that may fault.
+#[test]
+fn the_largest_totals_are_printed() {
+    let program = built("check_rewrites");
+    let given = format!("read i0\n{}write i0\n", "i1 := 7 / 2\n".repeat(254));
+    let marks: String = (2..256).map(|n| format!("{n}: mark(rm, i1, 7 / 2)\n")).collect();
+    let files = [("given", given.as_bytes()), ("marks", marks.as_bytes())];
+    let output = in_folder(&program, "totals", &files, &[]);
+    let printed = String::from_utf8_lossy(&output.stdout);
+    assert!(printed.ends_with("\n255 24 1\n256 4 4\n6104\n262\n5842\n"));
+    assert!(output.stdout == check::check(given.as_bytes(), marks.as_bytes()));
 }
 
 /// Each sign that is misspelled, in either file.

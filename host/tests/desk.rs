@@ -6,7 +6,7 @@
 mod common;
 mod coverage;
 
-use common::{built, in_folder, option, shown};
+use common::{built, in_folder, option, shown, P};
 use coverage::Tally;
 use oracle::check::LARGEST_FILE;
 use oracle::generate::{self, Random};
@@ -76,6 +76,9 @@ fn ending(output: &str) -> Option<&'static str> {
 
 const ENDINGS: [&str; 4] = ["ended, kept zeros", "ended, kept others", "spent", "fault"];
 
+/// The bytes of a step's line in which no variable differs: the step, the statement's number, and two statements.
+const STEP_BYTES: usize = 7 + 2 + 3 + 2 + 32 + 2 + 32;
+
 const OF_PROGRAMS: [&str; 5] = ["result", "refused 2", "refused 3", "refused 4", "refused 5"];
 const OF_STARTS: [&str; 2] = ["refused start", "refused 15"];
 
@@ -123,6 +126,8 @@ fn comparisons_are_as_by_the_oracle() {
     let classes = OF_PROGRAMS.into_iter().chain(OF_STARTS).chain(["refused 9"]);
     let mut met = Tally::new("comparisons", classes);
     let mut endings = Tally::new("endings of comparisons", ENDINGS);
+    let mut differences = Tally::new("steps compared", ["alike", "dead variables differ"]);
+    let mut fewer = Tally::new("ticks of comparisons", ["fewer", "the same"]);
     for (case, mut random) in cases("compare") {
         let random = &mut random;
         let ((given, text), start) = (folder::given(random), folder::start(random));
@@ -134,9 +139,20 @@ fn comparisons_are_as_by_the_oracle() {
         same(case, &printed(&comparer, "compare", &files, &[]), &expected, &files);
         met.met(class(&expected));
         ending(&expected).into_iter().for_each(|ending| endings.met(ending));
+        for line in expected.lines().filter(|line| line.starts_with(' ')) {
+            // Both statements fill their columns, and the last of a line without differences ends there.
+            let is_alike = line.len() == STEP_BYTES;
+            differences.met(if is_alike { "alike" } else { "dead variables differ" });
+        }
+        let told = |name| expected.lines().find(|line| line.starts_with(name)).map(ticks);
+        if let (Some(given), Some(rewritten)) = (told("given "), told("rewritten ")) {
+            fewer.met(if rewritten < given { "fewer" } else { "the same" });
+        }
     }
     met.report();
     endings.report();
+    differences.report();
+    fewer.report();
 }
 
 // Faults
@@ -146,7 +162,7 @@ fn comparisons_are_as_by_the_oracle() {
 fn faults_are_printed() {
     let runner = built("run_program");
     let given = b"read i0\ni1 := 10 / i0\nwrite i1\n";
-    let outcome = "fault at 2 steps 2\n";
+    let outcome = "fault at 2 steps 2 ticks 28\n";
     let trace = "      1    1  read i0                           i0 = 0\n\
                  \x20     2    2  i1 := 10 / i0                   \n";
     for (start, is_traced) in [("0\n2\n7\n7\n", false), ("0\n1000000\n7\n7\n", true)] {
@@ -160,7 +176,7 @@ fn faults_are_printed() {
     let start = "0\n1\n";
     let files = [("given", &given[..]), ("start", start.as_bytes())];
     let expected = desk::run(given, start.as_bytes(), false);
-    assert!(expected.starts_with("spent at 2\n"));
+    assert!(expected.starts_with("spent at 2 ticks 4\n"));
     same(1, &printed(&runner, "fault", &files, &[]), &expected, &files);
 }
 
@@ -175,7 +191,8 @@ fn faults_are_compared() {
          \x20     2    2  i3 := 9                           skip                              i3 9 0\n\
          \x20     3    3  i1 := 0                           i1 := 0                           i3 9 0\n\
          \x20     4    4  i2 := i0 / i1                     i2 := i0 / 0                      i3 9 0\n\
-         given fault at 4 steps 4\nrewritten fault at 4 steps 4\nstatements and outcome agree\n";
+         given fault at 4 steps 4 ticks 32\nrewritten fault at 4 steps 4 ticks 31\n\
+         statements, outcome and live variables agree\n";
     for budget in ["4", "1000000"] {
         let start = format!("5\n{budget}\n");
         let files = [("given", &given[..]), ("marks", &list[..]), ("start", start.as_bytes())];
@@ -194,16 +211,16 @@ fn the_longest_fault_is_printed() {
     given += &"skip\n".repeat(249);
     given += "i1 := i1 / i0\nwrite i1\n";
     let (given, start) = (given.as_bytes(), b"249999\n1000000\n-2147483648\n");
-    let expected = "fault at 255 steps 1000000\n";
+    let expected = "fault at 255 steps 1000000 ticks 2500022\n";
     assert_eq!(desk::run(given, start, false), expected);
     let files = [("given", given), ("start", &start[..])];
     same(0, &printed(&runner, "longest_fault", &files, &[]), expected, &files);
     let start = b"0\n1000000\n";
     let expected = desk::compare(given, b"", start);
-    let line = "fault at 255 steps 4\n";
-    assert!(
-        expected.ends_with(&format!("given {line}rewritten {line}statements and outcome agree\n"))
-    );
+    let line = "fault at 255 steps 4 ticks 32\n";
+    assert!(expected.ends_with(&format!(
+        "given {line}rewritten {line}statements, outcome and live variables agree\n"
+    )));
     let files = [("given", given), ("marks", &b""[..]), ("start", &start[..])];
     same(1, &printed(&comparer, "longest_faults", &files, &[]), &expected, &files);
 }
@@ -222,12 +239,103 @@ fn sums_are_compared() {
          \x20     3    3  i2 := i0 + 1                      i2 := i1                        \n\
          \x20     4    4  i3 := i2                          skip                              i3 6 0\n\
          \x20     5    5  write i2                          write i2                          i3 6 0\n\
-         given ended 6 steps 5 kept 0 0 0 0 0 0 0 0\nrewritten ended 6 steps 5 kept 0 0 0 0 0 0 0 0\n\
-         statements and outcome agree\n";
+         given ended 6 steps 5 ticks 16 kept 0 0 0 0 0 0 0 0\n\
+         rewritten ended 6 steps 5 ticks 14 kept 0 0 0 0 0 0 0 0\n\
+         statements, outcome and live variables agree\n";
     let start = b"5\n100\n";
     let files = [("given", &given[..]), ("marks", &list[..]), ("start", &start[..])];
     assert_eq!(desk::compare(given, list, start), expected);
     same(0, &printed(&comparer, "sums", &files, &[]), expected, &files);
+}
+
+// Variables that aren't live
+
+/// i5 is dropped and set anew: while it differs, before steps 4 and 5, nothing can use it.
+#[test]
+fn what_differs_is_dead() {
+    let comparer = built("compare_runs");
+    let given = b"read i0\ni1 := i0 + 1\ni5 := i0 * 2\ni2 := i0 + 1\ni5 := i2\nwrite i5\n";
+    let list = b"4: mark(cse, i1, i0 + 1)\n3: mark(rm, i5, i0 * 2)\n";
+    let expected = "marks 2 accepted 2\n\
+         \x20     1    1  read i0                           read i0                         \n\
+         \x20     2    2  i1 := i0 + 1                      i1 := i0 + 1                    \n\
+         \x20     3    3  i5 := i0 * 2                      skip                              i5 8 0\n\
+         \x20     4    4  i2 := i0 + 1                      i2 := i1                          i5 8 0\n\
+         \x20     5    5  i5 := i2                          i5 := i2                        \n\
+         \x20     6    6  write i5                          write i5                        \n\
+         given ended 5 steps 6 ticks 25 kept 0 0 0 0 0 0 0 0\n\
+         rewritten ended 5 steps 6 ticks 16 kept 0 0 0 0 0 0 0 0\n\
+         statements, outcome and live variables agree\n";
+    let start = b"4\n100\n";
+    let files = [("given", &given[..]), ("marks", &list[..]), ("start", &start[..])];
+    assert_eq!(desk::compare(given, list, start), expected);
+    same(0, &printed(&comparer, "dead", &files, &[]), expected, &files);
+}
+
+// Ticks
+
+/// The ticks that a line tells.
+fn ticks(line: &str) -> u64 {
+    let (_, rest) = line.split_once(" ticks ").expect("each outcome has ticks");
+    rest.split(' ').next().and_then(|word| word.parse().ok()).expect("a number")
+}
+
+/// P's runs: to the end from two inputs, and under smaller budgets.
+#[test]
+fn the_ticks_of_p_are_printed() {
+    let runner = built("run_program");
+    for (start, expected) in [
+        ("0\n1000000\n", "ended 7 steps 6 ticks 18 kept 0 0 0 0 0 0 0 0\n"),
+        ("2\n1000000\n", "ended 9 steps 12 ticks 36 kept 0 0 0 0 0 0 0 0\n"),
+        ("2\n12\n", "ended 9 steps 12 ticks 36 kept 0 0 0 0 0 0 0 0\n"),
+        ("2\n11\n", "spent at 8 ticks 32\ni0 = 0\ni1 = 2\ni2 = 7\ni3 = 9\ni4 = 0\n"),
+        ("2\n0\n", "spent at 1 ticks 0\ni0 = 0\ni1 = 0\n"),
+    ] {
+        let files = [("given", P.as_bytes()), ("start", start.as_bytes())];
+        let output = printed(&runner, "ticks", &files, &[]);
+        assert!(output.starts_with(expected.as_bytes()), "{start}: {}", shown(&output));
+        assert!(output == desk::run(P.as_bytes(), start.as_bytes(), false).as_bytes());
+    }
+}
+
+/// The longest number of ticks: a division each step but the jumps.
+#[test]
+fn the_most_ticks_are_printed() {
+    let (runner, divisions) = (built("run_program"), "i1 := 7 / 2\n".repeat(253));
+    let given = format!("read i0\n{divisions}if i0 goto 2 else 2\nwrite i1\n");
+    let files = [("given", given.as_bytes()), ("start", &b"0\n1000000\n"[..])];
+    // 3,937 rounds of 254 statements between `read` and a division.
+    let ticks = 4 + 3_937 * (253 * 24 + 3) + 24;
+    let output = printed(&runner, "most_ticks", &files, &[]);
+    assert!(output.starts_with(format!("spent at 3 ticks {ticks}\ni0 = 0\n").as_bytes()));
+    assert!(output == desk::run(given.as_bytes(), b"0\n1000000\n", false).as_bytes());
+}
+
+/// The rewritten program takes fewer, and the runs agree.
+#[test]
+fn the_ticks_of_both_runs_are_printed() {
+    let comparer = built("compare_runs");
+    let given = b"read i0\ni1 := i0 * 3\nwrite i0\n";
+    let list = b"2: mark(rm, i1, i0 * 3)\n";
+    let kept = "kept 0 0 0 0 0 0 0 0";
+    for (start, ends) in [
+        (
+            "5\n9\n",
+            format!(
+                "given ended 5 steps 3 ticks 17 {kept}\nrewritten ended 5 steps 3 ticks 9 {kept}\n"
+            ),
+        ),
+        ("5\n2\n", "given spent at 3 ticks 13\nrewritten spent at 3 ticks 5\n".to_string()),
+        ("5\n0\n", "given spent at 1 ticks 0\nrewritten spent at 1 ticks 0\n".to_string()),
+    ] {
+        let files = [("given", &given[..]), ("marks", &list[..]), ("start", start.as_bytes())];
+        let expected = desk::compare(given, list, start.as_bytes());
+        assert!(
+            expected.ends_with(&format!("{ends}statements, outcome and live variables agree\n")),
+            "{expected}"
+        );
+        same(0, &printed(&comparer, "ticks_of_both", &files, &[]), &expected, &files);
+    }
 }
 
 // The longest statement fills its column
@@ -302,16 +410,16 @@ fn the_longest_endings_are_printed() {
         b"read i0\nif i0 goto 3 else 6\ni0 := i0 - 1\nskip\nif i1 goto 2 else 2\nskip\nwrite i31\n";
     let start = format!("249999\n1000000\n{least}");
     let files = [("given", &given[..]), ("start", start.as_bytes())];
-    let expected = format!("ended -2147483648 steps 1000000 {kept}");
+    let expected = format!("ended -2147483648 steps 1000000 ticks 2500002 {kept}");
     assert_eq!(desk::run(given, start.as_bytes(), false), expected);
     same(0, &printed(&runner, "longest_ending", &files, &[]), &expected, &files);
     let given = b"read i0\nwrite i31\n";
     let start = format!("0\n1000000\n{least}");
     let files = [("given", &given[..]), ("marks", &b""[..]), ("start", start.as_bytes())];
     let expected = desk::compare(given, b"", start.as_bytes());
-    let line = format!("ended -2147483648 steps 2 {kept}");
-    assert!(
-        expected.ends_with(&format!("given {line}rewritten {line}statements and outcome agree\n"))
-    );
+    let line = format!("ended -2147483648 steps 2 ticks 8 {kept}");
+    assert!(expected.ends_with(&format!(
+        "given {line}rewritten {line}statements, outcome and live variables agree\n"
+    )));
     same(1, &printed(&comparer, "longest_endings", &files, &[]), &expected, &files);
 }

@@ -15,12 +15,14 @@ use lent::{Lent, Text};
 use oracle::condition::{self, Atom, Condition, Demand, Direction, Part, Quantifier};
 use oracle::generate::{self, Damage, Random, WrongReuse, WrongSign};
 use oracle::join::{self, InTurn};
+use oracle::liveness::{differing, Liveness};
 use oracle::machine::{self, kept_of, Outcome, Run, State, Values};
 use oracle::marks::{self, Judge, Kind, Mark};
+use oracle::pricing::{self, kind, KIND_NAMES};
 use oracle::program::{is_kept, Expression, Operand, Operator, Program, Statement, LARGEST, LEAST};
 use oracle::review::{self, Reviewed, MOST_TABLES};
 use rewrites::{raw, FIRST_KEPT, KEPT, MOST_STEPS, VARIABLES};
-use rewrites::{REVIEW_LINES, REVIEW_WORDS, TABLE_WORDS, TEXT_BYTES, VERDICT_BYTES};
+use rewrites::{REVIEW_LINES, REVIEW_WORDS, STATEMENTS, TABLE_WORDS, TEXT_BYTES, VERDICT_BYTES};
 use std::ops::Range;
 
 const CASES: u64 = 100_000;
@@ -188,16 +190,30 @@ const LEFT: usize = 8;
 const KEPT_ONES: usize = LEFT + VARIABLES + 1;
 const RUN_WORDS: usize = KEPT_ONES + KEPT;
 
+/// What is lent to a run.
+#[derive(Clone)]
+struct RunPlaces {
+    words: Lent<u32>,
+    ticks: Lent<u64>,
+}
+
+impl RunPlaces {
+    fn new(random: &mut Random) -> RunPlaces {
+        let words = Lent::new(random, RUN_WORDS, |bits| bits as u32);
+        RunPlaces { words, ticks: Lent::new(random, 1, |bits| bits) }
+    }
+}
+
 fn lend_run(
     program: &[u8],
     values: &Values,
     input: u32,
     budget: u32,
-    places: &mut Lent<u32>,
+    places: &mut RunPlaces,
 ) -> u8 {
-    let places = places.part();
-    assert_eq!(places.len(), RUN_WORDS);
-    let first = places.as_mut_ptr();
+    let (words, ticks) = (places.words.part(), places.ticks.part());
+    assert_eq!((words.len(), ticks.len()), (RUN_WORDS, 1));
+    let first = words.as_mut_ptr();
     // SAFETY: the pointers come from references, and no two of the written places overlap.
     unsafe {
         raw::rewrites_run(
@@ -212,26 +228,28 @@ fn lend_run(
             first.add(STATEMENT),
             first.add(LEFT).cast(),
             first.add(KEPT_ONES).cast(),
+            ticks.as_mut_ptr(),
         )
     }
 }
 
 /// Puts an outcome where a run does.
-fn put_outcome(places: &mut Lent<u32>, outcome: Outcome) {
-    let places = places.part();
+fn put_outcome(places: &mut RunPlaces, outcome: Outcome) {
+    places.ticks.part()[0] = outcome.ticks();
+    let places = places.words.part();
     match outcome {
-        Outcome::Ended { value, steps, kept } => {
+        Outcome::Ended { value, steps, kept, .. } => {
             places[ENDED] = 1;
             places[VALUE] = value as u32;
             places[STEPS] = steps;
             places[KEPT_ONES..KEPT_ONES + KEPT].copy_from_slice(&kept);
         }
-        Outcome::Spent { statement, values } => {
+        Outcome::Spent { statement, values, .. } => {
             places[ENDED] = 0;
             places[STATEMENT] = statement;
             places[LEFT..LEFT + VARIABLES].copy_from_slice(&values);
         }
-        Outcome::Fault { statement, steps } => {
+        Outcome::Fault { statement, steps, .. } => {
             places[ENDED] = 2;
             places[STATEMENT] = statement;
             places[STEPS] = steps;
@@ -261,7 +279,7 @@ fn run_from_agrees(
     budget: u32,
 ) -> Result<Outcome, u8> {
     let (mut program, lent) = (Text::new(random, text), values);
-    let mut places = Lent::new(random, RUN_WORDS, |bits| bits as u32);
+    let mut places = RunPlaces::new(random);
     let mut expected = places.clone();
     let wanted = machine::run(text, values, input, budget);
     if let Ok(outcome) = wanted {
@@ -273,7 +291,8 @@ fn run_from_agrees(
     };
     let number = lend_run(program.part(), &values, input, budget, &mut places);
     assert_eq!(number, wanted.err().unwrap_or(0), "number of {}", shown());
-    places.assert_same(&expected, "places", shown);
+    places.words.assert_same(&expected.words, "places", shown);
+    places.ticks.assert_same(&expected.ticks, "ticks", shown);
     program.assert_kept("program", shown);
     assert_eq!(values, lent, "{}", shown());
     wanted
@@ -396,6 +415,37 @@ fn fault_kinds(statement: u32, steps: u32, budget: u32) -> [&'static str; 3] {
     ]
 }
 
+const TICKS: [&str; 5] = ["none", "4", "8 to 255", "to 65,535", "more"];
+
+/// How many ticks those are.
+fn ticks_kind(ticks: u64) -> &'static str {
+    match ticks {
+        0 => "none",
+        // Behind `read` alone; no statement is cheaper but `skip`.
+        1..=7 => "4",
+        8..=255 => "8 to 255",
+        256..=65_535 => "to 65,535",
+        _ => "more",
+    }
+}
+
+/// Counts the kinds of the statements that a run's first steps perform, each of which has its price.
+fn performed_met(
+    program: &Program,
+    values: Values,
+    input: u32,
+    budget: u32,
+    met: &mut Tally<&'static str>,
+) {
+    let mut run = Run::start(program, values, input);
+    for _ in 0..budget.min(60) {
+        if let State::Before { statement, .. } = *run.state() {
+            met.met(KIND_NAMES[kind(program.statement(statement).expect("a statement"))]);
+        }
+        run.step();
+    }
+}
+
 #[test]
 fn runs_are_as_by_the_oracle() {
     let mut refusals = Tally::new("refusals of run", [15, 2, 3, 4, 5]);
@@ -412,6 +462,8 @@ fn runs_are_as_by_the_oracle() {
     let mut constants = Constants::new("constants of programs run");
     let kept_variables = FIRST_KEPT..FIRST_KEPT + KEPT;
     let mut kept_set = Tally::new("kept variables that a run set", kept_variables);
+    let mut ticks = Tally::new("ticks of runs", TICKS);
+    let mut performed = Tally::new("statements that runs performed", KIND_NAMES);
     for (case, mut random) in cases("run") {
         let random = &mut random;
         let program = program(random, case);
@@ -445,7 +497,7 @@ fn runs_are_as_by_the_oracle() {
                         set.for_each(|k| kept_set.met(FIRST_KEPT + k));
                     }
                     Outcome::Spent { .. } => outcomes.met("spent"),
-                    Outcome::Fault { statement, steps } => {
+                    Outcome::Fault { statement, steps, .. } => {
                         outcomes.met("fault");
                         let kinds = fault_kinds(statement, steps, budget);
                         kinds.into_iter().for_each(|kind| faults.met(kind));
@@ -453,6 +505,8 @@ fn runs_are_as_by_the_oracle() {
                 }
                 let program = Program::read(&text).expect("a program that was run is taken");
                 quotients_met(&program, values_given, input, budget, &mut quotients);
+                ticks.met(ticks_kind(outcome.ticks()));
+                performed_met(&program, values_given, input, budget, &mut performed);
                 sizes.met(program.count());
                 program.statements().iter().for_each(|s| kinds.met(statement_kind(s)));
                 program.statements().iter().for_each(|s| constants.met_in(s));
@@ -471,6 +525,8 @@ fn runs_are_as_by_the_oracle() {
     signs.met.report();
     constants.0.report();
     kept_set.report();
+    ticks.report();
+    performed.report();
 }
 
 // Tables
@@ -926,58 +982,143 @@ fn judgement_agrees(
     })
 }
 
-/// What a run tells that a rewriting must leave as it is: its nine values and its steps, the statement and the steps
-/// of its fault, or its statement.
+/// What a run tells: its nine values and its steps, the statement and the steps of its fault, or the statement before
+/// which it stands, with the values there.
 #[derive(Debug, PartialEq)]
 enum Stand {
     Ended { value: u32, steps: u32, kept: Vec<u32> },
     Faulted { statement: u32, steps: u32 },
-    Before(u32),
+    Before { statement: u32, values: Values },
 }
 
+/// That, and the ticks beside it.
 fn stand(
     program: &[u8],
     values: &Values,
     input: u32,
     budget: u32,
-    places: &mut Lent<u32>,
-) -> Stand {
+    places: &mut RunPlaces,
+) -> (Stand, u64) {
     let number = lend_run(program, values, input, budget, places);
     assert_eq!(number, 0, "refused: {}", escaped(program));
-    let places = places.part();
-    match places[ENDED] {
+    let (places, ticks) = (places.words.part(), places.ticks.part()[0]);
+    let stand = match places[ENDED] {
         1 => Stand::Ended {
             value: places[VALUE],
             steps: places[STEPS],
             kept: places[KEPT_ONES..KEPT_ONES + KEPT].to_vec(),
         },
         2 => Stand::Faulted { statement: places[STATEMENT], steps: places[STEPS] },
-        _ => Stand::Before(places[STATEMENT]),
+        _ => {
+            let mut values = [0; VARIABLES];
+            values.copy_from_slice(&places[LEFT..LEFT + VARIABLES]);
+            Stand::Before { statement: places[STATEMENT], values }
+        }
+    };
+    (stand, ticks)
+}
+
+/// What a rewriting must leave of a run as it is: all but the values of variables that aren't live in the given program
+/// before the statement. Those that differ.
+fn dead_and_differing(live: &Liveness, one: &Stand, other: &Stand) -> Option<Vec<u8>> {
+    match (one, other) {
+        (
+            Stand::Before { statement, values },
+            Stand::Before { statement: there, values: others },
+        ) => {
+            let differ = differing(values, others);
+            let is_dead = |x: &u8| !live.is_live(*statement, *x);
+            (statement == there && differ.iter().all(is_dead)).then_some(differ)
+        }
+        _ => (one == other).then(Vec::new),
+    }
+}
+
+/// What steps of given and rewritten runs meet, each by the state before it.
+const TRACES: [&str; 6] = [
+    "no variable differs",
+    "dead ones differ",
+    "a kept one differs, dead",
+    "dead ones differ at write",
+    "dead ones differ before a fault",
+    "dead ones differ in a loop",
+];
+
+/// Both programs, run side by side.
+struct Traces<'a> {
+    given: &'a [u8],
+    new: &'a [u8],
+    count: u32,
+    live: Liveness,
+}
+
+impl<'a> Traces<'a> {
+    fn new(given: &'a [u8], new: &'a [u8]) -> Traces<'a> {
+        let program = Program::read(given).expect("a program that was judged is taken");
+        Traces { given, new, count: program.count(), live: Liveness::new(&program) }
+    }
+
+    /// How both runs stand under a budget, which agrees, with the variables that differ and the ticks of both.
+    fn stand(
+        &self,
+        case: &str,
+        (values, input): (&Values, u32),
+        budget: u32,
+        places: &mut RunPlaces,
+    ) -> (Stand, Vec<u8>, [u64; 2]) {
+        let (one, ticks) = stand(self.given, values, input, budget, places);
+        let (other, of_new) = stand(self.new, values, input, budget, places);
+        match dead_and_differing(&self.live, &one, &other) {
+            Some(differ) => (one, differ, [ticks, of_new]),
+            None => panic!(
+                "case {case}: values {values:?} input {input} budget {budget} given {} new {}: {one:?} {other:?}",
+                escaped(self.given),
+                escaped(self.new)
+            ),
+        }
+    }
+
+    /// What the state before a step is. `earlier` are the statements that were performed before.
+    fn met(&self, at: u32, differ: &[u8], earlier: &[u32], met: &mut Tally<&str>) {
+        if differ.is_empty() {
+            met.met("no variable differs");
+            return;
+        }
+        met.met("dead ones differ");
+        if differ.iter().any(|&x| is_kept(x)) {
+            met.met("a kept one differs, dead");
+        }
+        if at == self.count {
+            met.met("dead ones differ at write");
+        }
+        if earlier.contains(&at) {
+            met.met("dead ones differ in a loop");
+        }
     }
 }
 
 /// Runs the given and the rewritten program by growing budgets, step by step first, until both have
 /// ended or faulted.
 fn runs_stay(random: &mut Random, case: &str, given: &[u8], new: &[u8], runs: &mut Tally<&str>) {
-    let mut places = Lent::new(random, RUN_WORDS, |bits| bits as u32);
+    let mut places = RunPlaces::new(random);
     let by_steps = if given.len() < 1_000 { 30 } else { 6 };
     let starts = if given.len() < 1_000 { 2 } else { 1 };
+    let traces = Traces::new(given, new);
     for _ in 0..starts {
         let (values, input) = (generate::values(random), generate::word(random));
         let further = random.between(by_steps as usize, 400) as u32;
         let far = random.pick(&[2_000, 2_000, 2_000, 20_000]);
         let budgets = (0..by_steps).chain(further..further + 6).chain([far]);
         for budget in budgets {
-            let one = stand(given, &values, input, budget, &mut places);
-            let other = stand(new, &values, input, budget, &mut places);
-            assert_eq!(
-                one,
-                other,
-                "case {case}: values {values:?} input {input} budget {budget} given {} new {}",
-                escaped(given),
-                escaped(new)
-            );
+            let (one, differ, [ticks, fewer]) =
+                traces.stand(case, (&values, input), budget, &mut places);
             runs.met("budgets");
+            if !differ.is_empty() {
+                runs.met("dead variables differ");
+            }
+            // By our prices no mark makes a statement dearer.
+            assert!(fewer <= ticks, "case {case}: {fewer} ticks for {ticks}");
+            runs.met(if fewer < ticks { "fewer ticks" } else { "the same ticks" });
             match one {
                 Stand::Ended { kept, .. } => {
                     runs.met("ended");
@@ -990,11 +1131,88 @@ fn runs_stay(random: &mut Random, case: &str, given: &[u8], new: &[u8], runs: &m
                     runs.met("fault");
                     break;
                 }
-                Stand::Before(_) if budget == far => runs.met("spent"),
-                Stand::Before(_) => {}
+                Stand::Before { .. } if budget == far => runs.met("spent"),
+                Stand::Before { .. } => {}
             }
         }
     }
+}
+
+/// The statements at which each variable is live, by the library's review of `E[!def(x) U use(x)]` for all of them.
+fn live_by_review(program: &[u8]) -> Vec<[u64; 4]> {
+    let lines: String = (0..VARIABLES).map(|x| format!("E[!def(i{x}) U use(i{x})]\n")).collect();
+    let mut table = [0; REVIEW_WORDS];
+    let reviewed = rewrites::review(program, lines.as_bytes(), &mut table).expect("it is taken");
+    assert_eq!(reviewed.tables as usize, 4 * VARIABLES);
+    let row = |x: usize| {
+        let first = 4 * reviewed.table_of[x] as usize;
+        std::array::from_fn(|word| table[first + word])
+    };
+    (0..VARIABLES).map(row).collect()
+}
+
+/// Before each step, from the first to the run's end or 300 steps on, given and rewritten program hold the same value of
+/// each variable that is live in the given one.
+#[test]
+fn live_variables_agree_before_each_step() {
+    const LONGEST: u32 = 300;
+    let mut met = Tally::new("states before a step of both programs", TRACES);
+    let mut by_kinds = Tally::new("lists traced, by what is accepted", KINDS_MADE);
+    let mut endings = Tally::new("traces", ["ended", "fault", "still running"]);
+    let mut live_bits = Tally::new("variables at statements", ["live", "dead"]);
+    for (case, mut random) in cases("traces").filter(|(case, _)| case % 20 == 0) {
+        let random = &mut random;
+        let size = if random.chance(90) { random.between(4, 40) } else { generate::size(random) };
+        let program = generate::program(random, size);
+        let (text, count) = (program.text(), random.between(1, size.min(40)));
+        let list = marks::text(&generate::marks(random, &program, count));
+        let case = case.to_string();
+        let rooms = (VERDICT_BYTES, TEXT_BYTES);
+        let judged = judgement_agrees(random, &case, &text, &list, rooms).expect("both are taken");
+        let traces = Traces::new(&text, &judged.text);
+        for (x, row) in live_by_review(&text).iter().enumerate() {
+            for n in 1..=program.count() {
+                let bit = row[(n as usize - 1) / 64] >> ((n - 1) % 64) & 1 == 1;
+                assert_eq!(bit, traces.live.is_live(n, x as u8), "i{x} at {n}: {}", escaped(&text));
+                live_bits.met(if bit { "live" } else { "dead" });
+            }
+        }
+        let list = marks::read(&list).expect("it is taken");
+        if judged.verdicts.iter().any(|&verdict| verdict == 0) {
+            by_kinds.met(kinds_made(&list, &judged.verdicts));
+        }
+        let mut places = RunPlaces::new(random);
+        let (values, input) = (generate::values(random), generate::word(random));
+        let (mut earlier, mut differed) = (Vec::new(), false);
+        for budget in 0..=LONGEST {
+            let (one, differ, _) = traces.stand(&case, (&values, input), budget, &mut places);
+            match one {
+                Stand::Before { statement, .. } => {
+                    traces.met(statement, &differ, &earlier, &mut met);
+                    earlier.push(statement);
+                    differed = !differ.is_empty();
+                    if budget == LONGEST {
+                        endings.met("still running");
+                    }
+                }
+                Stand::Ended { .. } => {
+                    endings.met("ended");
+                    break;
+                }
+                Stand::Faulted { .. } => {
+                    endings.met("fault");
+                    if differed {
+                        met.met("dead ones differ before a fault");
+                    }
+                    break;
+                }
+            }
+        }
+    }
+    met.report();
+    by_kinds.report();
+    endings.report();
+    live_bits.report();
 }
 
 /// What an accepted mark does to its statement.
@@ -1227,7 +1445,16 @@ fn judgements_are_as_by_the_oracle_and_keep_runs() {
     let mut text_rooms = rooms("bytes of new text", TEXT_BYTES);
     let mut of_programs = damages("damages of programs judged");
     let mut of_lists = damages("damages of marks");
-    let classes = ["budgets", "ended", "kept other values", "fault", "spent"];
+    let classes = [
+        "budgets",
+        "dead variables differ",
+        "ended",
+        "kept other values",
+        "fault",
+        "spent",
+        "fewer ticks",
+        "the same ticks",
+    ];
     let mut runs = Tally::new("runs of both programs", classes);
     let mut on_kept = Tally::new("marks on what is kept", MARKS_ON_KEPT);
     let mut on_divisions = Tally::new("marks on divisions", MARKS_ON_DIVISIONS);
@@ -1372,6 +1599,140 @@ fn judgements_are_as_by_the_oracle_and_keep_runs() {
     otherwise.report();
     too_small.report();
     enough.report();
+}
+
+// Reports
+
+/// The places that a report sets, with kept words between them.
+const BEFORE: usize = 0;
+const AFTER: usize = BEFORE + STATEMENTS + 1;
+const COUNT: usize = AFTER + STATEMENTS + 1;
+const GIVEN: usize = COUNT + 2;
+const REWRITTEN: usize = GIVEN + 2;
+const SAVED: usize = REWRITTEN + 2;
+const REPORT_WORDS: usize = SAVED + 1;
+
+/// Holds a report to the oracle's, and tells its answer.
+fn report_agrees(
+    random: &mut Random,
+    case: &str,
+    program: &[u8],
+    list: &[u8],
+) -> Result<pricing::Report, u8> {
+    let (mut given, mut asked) = (Text::new(random, program), Text::new(random, list));
+    let mut places = Lent::new(random, REPORT_WORDS, |bits| bits as u32);
+    let mut expected = places.clone();
+    let wanted = pricing::report(program, list);
+    if let Ok(report) = &wanted {
+        let (places, count) = (expected.part(), report.before.len());
+        places[BEFORE..BEFORE + count].copy_from_slice(&report.before);
+        places[AFTER..AFTER + count].copy_from_slice(&report.after);
+        places[COUNT] = count as u32;
+        places[GIVEN] = report.given;
+        places[REWRITTEN] = report.rewritten;
+        places[SAVED] = report.saved as u32;
+    }
+    let shown = || format!("case {case}: program {} marks {}", escaped(program), escaped(list));
+    let (program, list) = (given.part(), asked.part());
+    let first = places.part().as_mut_ptr();
+    // SAFETY: the pointers come from references, and no two of the written places overlap.
+    let number = unsafe {
+        raw::rewrites_report(
+            program.as_ptr(),
+            program.len(),
+            list.as_ptr(),
+            list.len(),
+            first.add(BEFORE).cast(),
+            first.add(AFTER).cast(),
+            first.add(COUNT),
+            first.add(GIVEN),
+            first.add(REWRITTEN),
+            first.add(SAVED).cast(),
+        )
+    };
+    assert_eq!(number, wanted.as_ref().err().copied().unwrap_or(0), "number of {}", shown());
+    places.assert_same(&expected, "places", shown);
+    given.assert_kept("program", shown);
+    asked.assert_kept("marks", shown);
+    wanted
+}
+
+/// What is dropped, or computed already, by the kinds of statements whose price changes.
+#[rustfmt::skip]
+const CHEAPER: [&str; 13] = [
+    "rm of X := A", "rm of +", "rm of -", "rm of *", "rm of <", "rm of =", "rm of /",
+    "cse of +", "cse of -", "cse of *", "cse of <", "cse of =", "cse of /",
+];
+
+#[test]
+fn reports_are_as_by_the_oracle() {
+    let mut refusals = Tally::new("refusals of report", [2, 3, 4, 5, 9, 10]);
+    let mut sizes = Tally::new("sizes of programs priced", 2..=256);
+    let mut counts = Tally::new("marks of a list that is priced", 0..=256);
+    let mut priced = Tally::new("statements priced", KIND_NAMES);
+    let mut cheaper = Tally::new("prices that change", CHEAPER);
+    let mut saved = Tally::new("ticks saved", ["none", "1", "some", "over 255"]);
+    let mut of_programs = damages("damages of programs priced");
+    let mut of_lists = damages("damages of lists priced");
+    for (case, mut random) in cases("report") {
+        let random = &mut random;
+        let program = program(random, case);
+        let mut text = program.text();
+        let count = in_turn(case, EACH_COUNT, 0..=256).unwrap_or(match random.below(30) {
+            0 => random.between(250, 258),
+            _ => random.below(program.count() as usize + 4).min(40),
+        });
+        let mut list = marks::text(&generate::marks(random, &program, count));
+        if !is_whole(case) {
+            match random.below(40) {
+                0..=3 => damaged(random, &mut text, &mut of_programs),
+                4 => text = generate::statement_soup(random),
+                _ => {}
+            }
+            match random.below(20) {
+                0..=2 => damaged(random, &mut list, &mut of_lists),
+                3 => list = generate::mark_soup(random),
+                _ => {}
+            }
+        }
+        match report_agrees(random, &case.to_string(), &text, &list) {
+            Err(number) => refusals.met(number),
+            Ok(report) => {
+                let program = Program::read(&text).expect("a program that is priced is taken");
+                sizes.met(program.count());
+                counts.met(marks::read(&list).expect("its marks are taken").len());
+                for (at, statement) in program.statements().iter().enumerate() {
+                    let name = KIND_NAMES[kind(statement)];
+                    priced.met(name);
+                    match (report.before[at], report.after[at]) {
+                        (before, after) if before == after => {}
+                        (_, 1) => cheaper.met(cheaper_kind("rm", name)),
+                        _ => cheaper.met(cheaper_kind("cse", name)),
+                    }
+                }
+                saved.met(match report.saved {
+                    0 => "none",
+                    1 => "1",
+                    2..=255 => "some",
+                    _ => "over 255",
+                });
+            }
+        }
+    }
+    refusals.report();
+    sizes.report();
+    counts.report();
+    priced.report();
+    cheaper.report();
+    saved.report();
+    of_programs.report();
+    of_lists.report();
+}
+
+/// The class of a price that changes.
+fn cheaper_kind(mark: &str, kind: &str) -> &'static str {
+    let class = CHEAPER.into_iter().find(|class| *class == format!("{mark} of {kind}"));
+    class.unwrap_or_else(|| panic!("{mark} of {kind} changed a price"))
 }
 
 // Lines of marks
@@ -1772,7 +2133,10 @@ fn quotients_at_the_edges_are_as_by_the_oracle() {
             for right in rights {
                 let text = format!("read i0\ni3 := {right}\nwrite i3\n");
                 let answer = run_from_agrees(random, &right, text.as_bytes(), values, 5, 3);
-                assert_eq!(answer == Ok(Outcome::Fault { statement: 2, steps: 2 }), b == 0);
+                assert_eq!(
+                    answer == Ok(Outcome::Fault { statement: 2, steps: 2, ticks: 28 }),
+                    b == 0
+                );
             }
             quotient_kinds(a, b).into_iter().for_each(|kind| met.met(kind));
         }
@@ -1977,6 +2341,7 @@ fn programs_edited_by_one_byte_are_as_by_the_oracle() {
     let mut numbers = Tally::new("answers to edited programs", [0, 2, 5]);
     for text in edits(EACH_KIND).chain(edits(BELOW_ZERO)).chain(edits(DIVIDING)) {
         numbers.met(run_agrees(random, "edit", &text, 5, 20).err().unwrap_or(0));
+        let _ = report_agrees(random, "edit", &text, b"2: mark(rm, i1, i0)\n");
     }
     numbers.report();
 }
@@ -2019,6 +2384,7 @@ fn marks_edited_by_one_byte_are_as_by_the_oracle() {
         for line in [0, 1, 2, 3, u32::MAX] {
             let _ = mark_line_agrees(random, "edit", &text, line);
         }
+        let _ = report_agrees(random, "edit", program, &text);
         let answer = judgement_agrees(random, "edit", program, &text, rooms);
         numbers.met(answer.as_ref().err().copied().unwrap_or(0));
         if let Ok(judged) = answer {

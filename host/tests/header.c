@@ -18,30 +18,41 @@ static const char P[] =
 
 static int run_answers(void) {
     uint8_t (*const run)(const uint8_t *, size_t, const uint32_t *, uint32_t, uint32_t, uint32_t *,
-                         int32_t *, uint32_t *, uint32_t *, uint32_t *, uint32_t *) = rewrites_run;
+                         int32_t *, uint32_t *, uint32_t *, uint32_t *, uint32_t *, uint64_t *) =
+        rewrites_run;
     const uint8_t *program = (const uint8_t *)P;
     const size_t length = strlen(P);
     const uint32_t values[32] = {0};
     uint32_t ended = 11, steps = 12, statement = 13, left[32] = {14}, kept[8];
     int32_t value = -15;
+    uint64_t ticks = 17;
     size_t k;
 
     for (k = 0; k < 8; k++) kept[k] = 16;
-    CHECK(run(program, length, values, 2, 1000001, &ended, &value, &steps, &statement, left, kept) == 15);
-    CHECK(run(program, length - 1, values, 2, 9, &ended, &value, &steps, &statement, left, kept) == 2);
-    CHECK(run(program, 0, values, 2, 9, &ended, &value, &steps, &statement, left, kept) == 3);
-    CHECK(run(NULL, 0, values, 2, 1000001, &ended, &value, &steps, &statement, left, kept) == 15);
-    CHECK(run(NULL, 0, values, 2, 9, &ended, &value, &steps, &statement, left, kept) == 3);
+    CHECK(run(program, length, values, 2, 1000001, &ended, &value, &steps, &statement, left, kept,
+              &ticks) == 15);
+    CHECK(run(program, length - 1, values, 2, 9, &ended, &value, &steps, &statement, left, kept,
+              &ticks) == 2);
+    CHECK(run(program, 0, values, 2, 9, &ended, &value, &steps, &statement, left, kept,
+              &ticks) == 3);
+    CHECK(run(NULL, 0, values, 2, 1000001, &ended, &value, &steps, &statement, left, kept,
+              &ticks) == 15);
+    CHECK(run(NULL, 0, values, 2, 9, &ended, &value, &steps, &statement, left, kept,
+              &ticks) == 3);
     CHECK(ended == 11 && value == -15 && steps == 12 && statement == 13 && left[0] == 14);
+    CHECK(ticks == 17);
     for (k = 0; k < 8; k++) CHECK(kept[k] == 16);
 
-    CHECK(run(program, length, values, 2, 12, &ended, &value, &steps, &statement, left, kept) == 0);
+    CHECK(run(program, length, values, 2, 12, &ended, &value, &steps, &statement, left, kept,
+              &ticks) == 0);
     CHECK(ended == 1 && value == 9 && steps == 12 && statement == 13 && left[0] == 14);
+    CHECK(ticks == 36);
     for (k = 0; k < 8; k++) CHECK(kept[k] == 0);
 
     for (k = 0; k < 8; k++) kept[k] = 16;
-    CHECK(run(program, length, values, 2, 11, &ended, &value, &steps, &statement, left, kept) == 0);
-    CHECK(ended == 0 && value == 9 && steps == 12 && statement == 8);
+    CHECK(run(program, length, values, 2, 11, &ended, &value, &steps, &statement, left, kept,
+              &ticks) == 0);
+    CHECK(ended == 0 && value == 9 && steps == 12 && statement == 8 && ticks == 32);
     CHECK(left[0] == 0 && left[1] == 2 && left[2] == 7 && left[3] == 9 && left[31] == 0);
     for (k = 0; k < 8; k++) CHECK(kept[k] == 16);
     return 0;
@@ -58,12 +69,13 @@ static int kept_answers(void) {
     uint32_t places[10]; /* kept, with a word on both sides of it */
     uint64_t table[256] = {0};
     int32_t value;
+    uint64_t ticks;
     size_t k;
 
     values[25] = 7;
     for (k = 0; k < 10; k++) places[k] = 0xa5c3e187;
     CHECK(rewrites_run(p, strlen(given), values, 0, 4, &ended, &value, &steps, &statement, left,
-                       places + 1) == 0);
+                       places + 1, &ticks) == 0);
     CHECK(ended == 1 && value == 0 && steps == 4);
     CHECK(places[1] == 5 && places[2] == 7 && places[8] == 0xffffffff);
     for (k = 3; k < 8; k++) CHECK(places[k] == 0);
@@ -72,11 +84,11 @@ static int kept_answers(void) {
     /* The budget is spent one step before the end. */
     for (k = 0; k < 10; k++) places[k] = 0xa5c3e187;
     CHECK(rewrites_run(b, strlen(bare), values, 9, 1, &ended, &value, &steps, &statement, left,
-                       places + 1) == 0);
+                       places + 1, &ticks) == 0);
     CHECK(ended == 0 && statement == 2 && left[24] == 9 && left[25] == 7);
     for (k = 0; k < 10; k++) CHECK(places[k] == 0xa5c3e187);
     CHECK(rewrites_run(b, strlen(bare), values, 9, 2, &ended, &value, &steps, &statement, left,
-                       places + 1) == 0);
+                       places + 1, &ticks) == 0);
     CHECK(ended == 1 && value == 9 && steps == 2 && places[1] == 9 && places[2] == 7);
 
     /* They are used at `write`, so an assignment before it stays. */
@@ -105,23 +117,24 @@ static int division_answers(void) {
     uint64_t table[256] = {0};
     uint32_t ended = 11, steps = 12, statement = 13, left[32], kept[8], first, second, third;
     int32_t value = -15;
+    uint64_t ticks;
     size_t k;
 
     for (k = 0; k < 32; k++) left[k] = 14;
     for (k = 0; k < 8; k++) kept[k] = 16;
     CHECK(rewrites_run(p, strlen(given), values, 0, 2, &ended, &value, &steps, &statement, left,
-                       kept) == 0);
-    CHECK(ended == 2 && statement == 2 && steps == 2 && value == -15);
+                       kept, &ticks) == 0);
+    CHECK(ended == 2 && statement == 2 && steps == 2 && value == -15 && ticks == 28);
     for (k = 0; k < 32; k++) CHECK(left[k] == 14);
     for (k = 0; k < 8; k++) CHECK(kept[k] == 16);
 
     /* One step before, and by another divisor. */
     CHECK(rewrites_run(p, strlen(given), values, 0, 1, &ended, &value, &steps, &statement, left,
-                       kept) == 0);
+                       kept, &ticks) == 0);
     CHECK(ended == 0 && statement == 2 && steps == 2 && value == -15 && left[0] == 0 && left[1] == 0);
     CHECK(rewrites_run(p, strlen(given), values, (uint32_t)-3, 3, &ended, &value, &steps, &statement,
-                       left, kept) == 0);
-    CHECK(ended == 1 && value == -3 && steps == 3 && kept[0] == 0);
+                       left, kept, &ticks) == 0);
+    CHECK(ended == 1 && value == -3 && steps == 3 && kept[0] == 0 && ticks == 32);
 
     /* A division steps to the next line. */
     CHECK(rewrites_tabulate(p, strlen(given), (const uint8_t *)forward, strlen(forward), table, 256,
@@ -133,6 +146,44 @@ static int division_answers(void) {
     CHECK(first == 2 && second == 1 && third == strlen(rewritten));
     CHECK(verdicts[0] == 18 && verdicts[1] == 0);
     CHECK(memcmp(text, rewritten, strlen(rewritten)) == 0);
+    return 0;
+}
+
+/* Prices of each statement, before and after. */
+static int report_answers(void) {
+    uint8_t (*const report)(const uint8_t *, size_t, const uint8_t *, size_t, uint32_t *, uint32_t *,
+                            uint32_t *, uint32_t *, uint32_t *, int32_t *) = rewrites_report;
+    static const char given[] = "read i0\ni1 := i0 + 1\ni2 := i0 + 1\ni3 := i2 * i2\nwrite i2\n";
+    static const char list[] =
+        "3: mark(cse, i1, i0 + 1)\n4: mark(rm, i3, i2 * i2)\n2: mark(rm, i1, i0 + 1)\n";
+    static const uint32_t prices[2][5] = {{4, 3, 3, 9, 4}, {4, 3, 2, 1, 4}};
+    const uint8_t *p = (const uint8_t *)given, *m = (const uint8_t *)list;
+    const size_t length = strlen(given), bound = strlen(list);
+    /* Two arrays of 256 with a word on both sides of each. */
+    uint32_t places[1 + 256 + 1 + 256 + 1], *const before = places + 1, *const after = places + 258;
+    uint32_t statements = 11, total = 12, rewritten = 13;
+    int32_t saved = -14;
+    size_t k;
+
+    for (k = 0; k < 515; k++) places[k] = 0xa5c30000 + (uint32_t)k;
+    CHECK(report(p, length - 1, m, bound, before, after, &statements, &total, &rewritten, &saved) == 2);
+    CHECK(report(p, 0, m, bound, before, after, &statements, &total, &rewritten, &saved) == 3);
+    CHECK(report(NULL, 0, NULL, 0, before, after, &statements, &total, &rewritten, &saved) == 3);
+    CHECK(report(p, length, m, bound - 1, before, after, &statements, &total, &rewritten, &saved) == 9);
+    CHECK(statements == 11 && total == 12 && rewritten == 13 && saved == -14);
+    for (k = 0; k < 515; k++) CHECK(places[k] == 0xa5c30000 + k);
+
+    CHECK(report(p, length, m, bound, before, after, &statements, &total, &rewritten, &saved) == 0);
+    CHECK(statements == 5 && total == 23 && rewritten == 14 && saved == 9);
+    for (k = 0; k < 5; k++) CHECK(before[k] == prices[0][k] && after[k] == prices[1][k]);
+    for (k = 6; k < 258; k++) CHECK(places[k] == 0xa5c30000 + k);
+    for (k = 263; k < 515; k++) CHECK(places[k] == 0xa5c30000 + k);
+    CHECK(places[0] == 0xa5c30000);
+
+    /* Without marks both columns are the same. */
+    CHECK(report(p, length, NULL, 0, before, after, &statements, &total, &rewritten, &saved) == 0);
+    CHECK(statements == 5 && total == 23 && rewritten == 23 && saved == 0);
+    for (k = 0; k < 5; k++) CHECK(before[k] == prices[0][k] && after[k] == prices[0][k]);
     return 0;
 }
 
@@ -156,13 +207,15 @@ static int cse_answers(void) {
     uint32_t ended, steps, statement, left[32], kept[8], first, second, third;
     size_t begin, end;
     int32_t value;
+    uint64_t ticks;
 
     CHECK(rewrites_judge(p, length, (const uint8_t *)list, strlen(list), verdicts, 256, text, 8704,
                          &first, &second, &third) == 0);
     CHECK(first == 2 && second == 1 && third == strlen(reused));
     CHECK(verdicts[0] == 14 && verdicts[1] == 0);
     CHECK(memcmp(text, reused, strlen(reused)) == 0);
-    CHECK(rewrites_run(text, third, values, 4, 4, &ended, &value, &steps, &statement, left, kept) == 0);
+    CHECK(rewrites_run(text, third, values, 4, 4, &ended, &value, &steps, &statement, left, kept,
+              &ticks) == 0);
     CHECK(ended == 1 && value == 5 && steps == 4);
     CHECK(rewrites_judge(p, length, (const uint8_t *)turned, strlen(turned), verdicts, 256, text, 8704,
                          &first, &second, &third) == 0);
@@ -367,9 +420,10 @@ static int below_zero_answers(void) {
     uint64_t table[256] = {0};
     uint32_t ended, steps, statement, left[32], kept[8], first, second, third;
     int32_t value;
+    uint64_t ticks;
 
     CHECK(rewrites_run(p, strlen(given), values, 2, 4, &ended, &value, &steps, &statement, left,
-                       kept) == 0);
+                       kept, &ticks) == 0);
     CHECK(ended == 1 && value == 42 && steps == 4);
 
     CHECK(rewrites_tabulate(p, strlen(given), (const uint8_t *)condition, strlen(condition), table, 256,
@@ -483,7 +537,7 @@ static int join_answers(void) {
 }
 
 int main(void) {
-    return run_answers() || kept_answers() || division_answers() || cse_answers() ||
+    return run_answers() || kept_answers() || division_answers() || report_answers() || cse_answers() ||
            tabulate_answers() || review_answers() || full_review_answers() || judge_answers() ||
            below_zero_answers() || mark_line_answers() || join_answers();
 }

@@ -137,11 +137,19 @@ fn p() -> Vec<&'static str> {
 // Runs side by side
 
 /// The same value, steps and kept values, a fault at the same statement after the same steps, or spent at
-/// the same statement.
+/// the same statement. Ticks may differ.
 fn alike(given: Outcome, new: Outcome) -> bool {
     match (given, new) {
         (Outcome::Spent { statement: n, .. }, Outcome::Spent { statement: m, .. }) => n == m,
-        _ => given == new,
+        (
+            Outcome::Ended { value: a, steps: n, kept: one, .. },
+            Outcome::Ended { value: b, steps: m, kept: other, .. },
+        ) => (a, n, one) == (b, m, other),
+        (
+            Outcome::Fault { statement: a, steps: n, .. },
+            Outcome::Fault { statement: b, steps: m, .. },
+        ) => (a, n) == (b, m),
+        _ => false,
     }
 }
 
@@ -935,9 +943,9 @@ fn a_division_that_is_dropped_would_lose_its_fault() {
     assert!(holds(&program, "!EX E[!def(i1) U use(i1)]", 2));
     let wrong = text(&changed(&program, &[(2, "skip")]));
     let outcome = |program: &[u8]| run(program, &[0; 32], 5, 9);
-    assert_eq!(outcome(&text(&program)), Ok(Outcome::Fault { statement: 2, steps: 2 }));
+    assert_eq!(outcome(&text(&program)), Ok(Outcome::Fault { statement: 2, steps: 2, ticks: 28 }));
     let kept = [0; KEPT];
-    assert_eq!(outcome(&wrong), Ok(Outcome::Ended { value: 5, steps: 3, kept }));
+    assert_eq!(outcome(&wrong), Ok(Outcome::Ended { value: 5, steps: 3, kept, ticks: 9 }));
 }
 
 #[test]
@@ -950,7 +958,7 @@ fn rpl_puts_anything_for_a_dividend_or_a_divisor() {
     for program in [text(&program), new] {
         for budget in [3, 4, 1_000_000] {
             let answer = run(&program, &given(), 5, budget);
-            assert_eq!(answer, Ok(Outcome::Fault { statement: 3, steps: 3 }));
+            assert_eq!(answer, Ok(Outcome::Fault { statement: 3, steps: 3, ticks: 30 }));
         }
         assert!(matches!(run(&program, &given(), 5, 2), Ok(Outcome::Spent { statement: 3, .. })));
     }
@@ -2234,8 +2242,8 @@ fn p_and_its_rewriting_run_alike() {
     }
     let outcome = |input, budget| run(&rewritten, &given(), input, budget);
     let kept = given_kept(&[]);
-    assert_eq!(outcome(0, 6), Ok(Outcome::Ended { value: 7, steps: 6, kept }));
-    assert_eq!(outcome(2, 12), Ok(Outcome::Ended { value: 9, steps: 12, kept }));
+    assert_eq!(outcome(0, 6), Ok(Outcome::Ended { value: 7, steps: 6, kept, ticks: 18 }));
+    assert_eq!(outcome(2, 12), Ok(Outcome::Ended { value: 9, steps: 12, kept, ticks: 36 }));
     assert!(matches!(outcome(2, 11), Ok(Outcome::Spent { statement: 8, .. })));
 }
 
@@ -2244,11 +2252,23 @@ fn the_values_told_with_spent_may_differ() {
     let program = ["read i0", "i1 := 7", "skip", "write i0"];
     assert_judged(&program, &[("2: mark(rm, i1, 7)", 0)], &[(2, "skip")]);
     let spent = |program: &[u8]| match run(program, &given(), 5, 3) {
-        Ok(Outcome::Spent { statement, values }) => (statement, values[1]),
+        Ok(Outcome::Spent { statement, values, .. }) => (statement, values[1]),
         other => panic!("{:?}", other),
     };
     assert_eq!(spent(&text(&program)), (4, 7));
     assert_eq!(spent(&text(&changed(&program, &[(2, "skip")]))), (4, 1001));
+}
+
+#[test]
+fn the_ticks_of_given_and_rewritten_runs_may_differ() {
+    let program = ["read i0", "i1 := i0 * 3", "write i0"];
+    assert_judged(&program, &[("2: mark(rm, i1, i0 * 3)", 0)], &[(2, "skip")]);
+    let ticks = |program: &[u8], budget| run(program, &given(), 5, budget).map(|it| it.ticks());
+    let new = text(&changed(&program, &[(2, "skip")]));
+    for (budget, one, other) in [(0, 0, 0), (1, 4, 4), (2, 13, 5), (3, 17, 9), (1_000, 17, 9)] {
+        assert_eq!(ticks(&text(&program), budget), Ok(one), "budget {budget}");
+        assert_eq!(ticks(&new, budget), Ok(other), "budget {budget}");
+    }
 }
 
 #[test]

@@ -4,7 +4,26 @@
 mod common;
 
 use common::{given, lines, shown, text, P};
-use rewrites::{raw, run, Outcome, Refusal, FIRST_KEPT, KEPT};
+use oracle::machine;
+use rewrites::{raw, Outcome, Refusal, FIRST_KEPT, KEPT};
+
+/// What stands for the ticks of an answer that is compared without them.
+const ANY: u64 = u64::MAX;
+
+/// A run. Its ticks are held to the second implementation's and left out, so that only the tests of ticks have to add them up.
+fn run(program: &[u8], values: &[u32; 32], input: u32, budget: u32) -> Result<Outcome, Refusal> {
+    let mut answer = rewrites::run(program, values, input, budget);
+    if let Ok(outcome) = &mut answer {
+        let counted = machine::run(program, *values, input, budget).map(|outcome| outcome.ticks());
+        assert_eq!(Ok(outcome.ticks()), counted, "{}", shown(program));
+        match outcome {
+            Outcome::Ended { ticks, .. }
+            | Outcome::Spent { ticks, .. }
+            | Outcome::Fault { ticks, .. } => *ticks = ANY,
+        }
+    }
+    answer
+}
 
 /// The given values with some of them replaced.
 fn given_but(changes: &[(usize, u32)]) -> [u32; 32] {
@@ -27,15 +46,15 @@ fn ended(value: i32, steps: u32) -> Result<Outcome, Refusal> {
 
 /// The same where these values are other than the given ones.
 fn ended_with(value: i32, steps: u32, changes: &[(usize, u32)]) -> Result<Outcome, Refusal> {
-    Ok(Outcome::Ended { value, steps, kept: kept(given_but(changes)) })
+    Ok(Outcome::Ended { value, steps, kept: kept(given_but(changes)), ticks: ANY })
 }
 
 fn spent(statement: u32, values: [u32; 32]) -> Result<Outcome, Refusal> {
-    Ok(Outcome::Spent { statement, values })
+    Ok(Outcome::Spent { statement, values, ticks: ANY })
 }
 
 fn fault(statement: u32, steps: u32) -> Result<Outcome, Refusal> {
-    Ok(Outcome::Fault { statement, steps })
+    Ok(Outcome::Fault { statement, steps, ticks: ANY })
 }
 
 /// The number of the refusal, or 0 where the program is taken; it doesn't depend on the budget.
@@ -1258,7 +1277,7 @@ fn a_division_that_no_step_reaches_is_no_fault() {
 fn an_ended_run_tells_i24_to_i31_in_order() {
     let kept = [1024, 1025, 1026, 1027, 1028, 1029, 1030, 1031];
     let answer = run_lines(&["read i0", "write i0"], 5, 2);
-    assert_eq!(answer, Ok(Outcome::Ended { value: 5, steps: 2, kept }));
+    assert_eq!(answer, Ok(Outcome::Ended { value: 5, steps: 2, kept, ticks: ANY }));
     assert_eq!((FIRST_KEPT, KEPT), (24, 8));
 }
 
@@ -1270,7 +1289,7 @@ fn what_is_kept_is_what_the_run_left() {
     let kept = [5, 7, 0, 0, 0, 0, 0, MINUS_1];
     for budget in [4, 5, 1_000_000] {
         let answer = run(&text(&program), &values, 0, budget);
-        assert_eq!(answer, Ok(Outcome::Ended { value: 0, steps: 4, kept }));
+        assert_eq!(answer, Ok(Outcome::Ended { value: 0, steps: 4, kept, ticks: ANY }));
     }
     let mut left = values;
     left[24] = 5;
@@ -1294,8 +1313,8 @@ fn each_kept_variable_is_told_in_its_place_and_no_other_is() {
                 values[x] = -77_i32 as u32;
             }
             let written: usize = program[2][7..].parse().unwrap();
-            let expected =
-                Outcome::Ended { value: values[written] as i32, steps: 3, kept: kept(values) };
+            let (value, kept) = (values[written] as i32, kept(values));
+            let expected = Outcome::Ended { value, steps: 3, kept, ticks: ANY };
             assert_eq!(run(&text(&program), &given(), input, 3), Ok(expected), "{:?}", program);
         }
     }
@@ -1308,7 +1327,7 @@ fn all_32_bits_are_kept() {
         let values = [input; 32];
         let mut kept = [input; KEPT];
         kept[7] = input.wrapping_add(input);
-        let expected = Outcome::Ended { value: input as i32, steps: 3, kept };
+        let expected = Outcome::Ended { value: input as i32, steps: 3, kept, ticks: ANY };
         assert_eq!(run(&program, &values, input, 3), Ok(expected));
     }
 }
@@ -1335,8 +1354,89 @@ fn what_one_pass_keeps_starts_the_next() {
     for (pass, (input, sum)) in [(5, 5), (7, 12), (MINUS_1, 11)].into_iter().enumerate() {
         let kept = [sum, 0, 0, 0, 0, 0, pass as u32 + 1, 0];
         let answer = run(&program, &values, input, 4);
-        assert_eq!(answer, Ok(Outcome::Ended { value: sum as i32, steps: 4, kept }));
+        let ended = Outcome::Ended { value: sum as i32, steps: 4, kept, ticks: ANY };
+        assert_eq!(answer, Ok(ended));
         values[FIRST_KEPT..FIRST_KEPT + KEPT].copy_from_slice(&kept);
+    }
+}
+
+// Ticks
+
+/// The ticks of a run of the lines from the given values.
+fn ticks<L: AsRef<str>>(lines: &[L], input: u32, budget: u32) -> u64 {
+    let answer = rewrites::run(&text(lines), &given(), input, budget);
+    answer.expect("the program is taken").ticks()
+}
+
+#[test]
+fn ticks_of_p() {
+    let p: Vec<&str> = P.lines().collect();
+    // 1 2 3 4 5 8: 4 2 2 3 3 4.
+    assert_eq!((ticks(&p, 0, 6), ticks(&p, 0, 1_000_000)), (18, 18));
+    // 1 to 5, 6 7 4 5, 6 7, 8.
+    assert_eq!((ticks(&p, 2, 12), ticks(&p, 2, 1_000_000)), (36, 36));
+    let spent = [0, 4, 6, 8, 11, 14, 17, 20, 23, 26, 29, 32];
+    for (budget, wanted) in spent.into_iter().enumerate() {
+        assert_eq!(ticks(&p, 2, budget as u32), wanted, "budget {budget}");
+    }
+}
+
+#[test]
+fn each_kind_of_statement_has_its_price() {
+    for (statement, price) in [
+        ("skip", 1),
+        ("if i0 goto 3 else 3", 3),
+        ("if i0 goto 3 else 2", 3),
+        ("i1 := i0", 2),
+        ("i1 := -2147483648", 2),
+        ("i1 := i0 + 1", 3),
+        ("i1 := i0 - i2", 3),
+        ("i1 := 0 * 0", 9),
+        ("i1 := i0 < i2", 3),
+        ("i1 := i0 = i2", 3),
+        ("i1 := i0 / i2", 24),
+        ("i1 := 1 / 1", 24),
+        // One that ends the run, before `write`.
+        ("i1 := i0 / 0", 20),
+    ] {
+        assert_eq!(ticks(&["read i0", statement, "write i1"], 5, 9), 8 + price, "{statement}");
+        let fault = if statement.ends_with("/ 0") { 24 } else { price };
+        assert_eq!(ticks(&["read i0", statement, "write i1"], 5, 2), 4 + fault, "{statement}");
+    }
+    assert_eq!(
+        (ticks(&["read i0", "write i0"], 5, 1), ticks(&["read i0", "write i0"], 5, 2)),
+        (4, 8)
+    );
+}
+
+#[test]
+fn a_statement_counts_once_for_each_time() {
+    let program = ["read i0", "i1 := i1 * i0", "i0 := i0 - 1", "if i0 goto 2 else 5", "write i1"];
+    for input in [1, 2, 3, 100, 100_000] {
+        assert_eq!(ticks(&program, input, 1_000_000), 8 + 15 * u64::from(input));
+    }
+    // No statement behind the end, and none that is jumped over.
+    let program = ["read i0", "if i0 goto 4 else 4", "i1 := 1 / 0", "write i0"];
+    assert_eq!(ticks(&program, 5, 1_000_000), 11);
+}
+
+#[test]
+fn ticks_of_a_million_steps() {
+    // 254 statements a round: 253 products and an `if`.
+    let mut program = vec!["i1 := i1 * i0"; 256];
+    (program[0], program[254], program[255]) = ("read i0", "if i2 goto 2 else 2", "write i1");
+    let rounds = 3_937;
+    assert_eq!(1 + 254 * rounds + 1, 1_000_000);
+    assert_eq!(ticks(&program, 3, 1_000_000), 4 + rounds * (253 * 9 + 3) + 9);
+    let divided = ["read i0", "i1 := i0 / 3", "if i2 goto 2 else 2", "write i1"];
+    assert_eq!(ticks(&divided, 9, 1_000_000), 4 + 500_000 * 24 + 499_999 * 3);
+}
+
+#[test]
+fn a_fault_counts_its_division() {
+    let program = ["read i0", "i1 := 10 / i0", "i0 := i0 - 1", "if i1 goto 2 else 2", "write i1"];
+    for (input, rounds) in [(0, 0), (1, 1), (2, 2), (7, 7)] {
+        assert_eq!(ticks(&program, input, 1_000), 4 + 30 * rounds + 24, "input {input}");
     }
 }
 
@@ -1355,6 +1455,8 @@ struct Lent {
     between: [u32; 32],
     kept: [u32; KEPT],
     after: [u32; 32],
+    ticks: u64,
+    last: [u32; 32],
 }
 
 const LENT: Lent = Lent {
@@ -1367,6 +1469,8 @@ const LENT: Lent = Lent {
     between: [0xaaaa_aaaa; 32],
     kept: [0x9999_9999; KEPT],
     after: [0xdddd_dddd; 32],
+    ticks: 0x8888_8888_7777_7777,
+    last: [0x6666_6666; 32],
 };
 
 /// The number that a raw call returns, and the lent places after it.
@@ -1388,6 +1492,7 @@ fn lend(text: &[u8], input: u32, budget: u32) -> (u8, Lent) {
             &mut lent.statement,
             &mut lent.left,
             &mut lent.kept,
+            &mut lent.ticks,
         )
     };
     assert_eq!(program, text);
@@ -1414,40 +1519,41 @@ fn a_refused_call_changes_nothing_lent() {
 }
 
 #[test]
-fn an_ended_run_sets_value_steps_and_kept_values_and_keeps_the_rest() {
-    let expected = Lent { ended: 1, value: 9, steps: 12, kept: kept(given()), ..LENT };
+fn an_ended_run_sets_value_steps_kept_values_and_ticks_and_keeps_the_rest() {
+    let kept = kept(given());
+    let expected = Lent { ended: 1, value: 9, steps: 12, kept, ticks: 36, ..LENT };
     assert_eq!(lend(P.as_bytes(), 2, 12), (0, expected.clone()));
     assert_eq!(lend(P.as_bytes(), 2, 1_000_000), (0, expected));
 }
 
 #[test]
-fn a_spent_run_sets_statement_and_values_and_keeps_the_rest() {
+fn a_spent_run_sets_statement_values_and_ticks_and_keeps_the_rest() {
     let left = given_but(&[(0, 0), (1, 2), (2, 7), (3, 9)]);
-    let expected = Lent { ended: 0, statement: 8, left, ..LENT };
+    let expected = Lent { ended: 0, statement: 8, left, ticks: 32, ..LENT };
     assert_eq!(lend(P.as_bytes(), 2, 11), (0, expected));
-    let expected = Lent { ended: 0, statement: 1, left: given(), ..LENT };
+    let expected = Lent { ended: 0, statement: 1, left: given(), ticks: 0, ..LENT };
     assert_eq!(lend(P.as_bytes(), 2, 0), (0, expected));
     // One step before the end.
     let left = given_but(&[(24, 9)]);
-    let expected = Lent { ended: 0, statement: 2, left, ..LENT };
+    let expected = Lent { ended: 0, statement: 2, left, ticks: 4, ..LENT };
     assert_eq!(lend(b"read i24\nwrite i24\n", 9, 1), (0, expected));
     let kept = kept(left);
-    let expected = Lent { ended: 1, value: 9, steps: 2, kept, ..LENT };
+    let expected = Lent { ended: 1, value: 9, steps: 2, kept, ticks: 8, ..LENT };
     assert_eq!(lend(b"read i24\nwrite i24\n", 9, 2), (0, expected));
 }
 
 #[test]
-fn a_faulting_run_sets_statement_and_steps_and_keeps_the_rest() {
+fn a_faulting_run_sets_statement_steps_and_ticks_and_keeps_the_rest() {
     let program = b"read i24\ni25 := 7\ni1 := i25 / i24\nwrite i1\n";
-    let expected = Lent { ended: 2, statement: 3, steps: 3, ..LENT };
+    let expected = Lent { ended: 2, statement: 3, steps: 3, ticks: 30, ..LENT };
     assert_eq!(lend(program, 0, 3), (0, expected.clone()));
     assert_eq!(lend(program, 0, 1_000_000), (0, expected));
     // One step before, and by another divisor.
     let left = given_but(&[(24, 0), (25, 7)]);
-    let expected = Lent { ended: 0, statement: 3, left, ..LENT };
+    let expected = Lent { ended: 0, statement: 3, left, ticks: 6, ..LENT };
     assert_eq!(lend(program, 0, 2), (0, expected));
     let kept = kept(given_but(&[(24, MINUS_2), (25, 7)]));
-    let expected = Lent { ended: 1, value: -3, steps: 4, kept, ..LENT };
+    let expected = Lent { ended: 1, value: -3, steps: 4, kept, ticks: 34, ..LENT };
     assert_eq!(lend(program, MINUS_2, 4), (0, expected));
 }
 

@@ -1,6 +1,6 @@
 /* Prints how many bytes of stack the deepest calls take. Each runs in a thread whose stack was filled
    with a pattern before; what the thread alone overwrites is not counted. Exits with 0 where `run`,
-   `judge`, `tabulate`, `review`, `mark_line` and `join` take no more than the bytes given as
+   `judge`, `tabulate`, `review`, `mark_line`, `report` and `join` take no more than the bytes given as
    arguments. */
 #define _POSIX_C_SOURCE 200112L
 #include "rewrites.h"
@@ -21,9 +21,10 @@ static void *nothing(void *unused) { return unused; }
 
 static void *run(void *unused) {
     static uint32_t values[32], ended, steps, statement, left[32], kept[8];
+    static uint64_t ticks;
     static int32_t value;
     number = rewrites_run(program, program_len, values, 0, 1000, &ended, &value, &steps, &statement,
-                          left, kept);
+                          left, kept, &ticks);
     return unused;
 }
 
@@ -48,6 +49,14 @@ static void *judge(void *unused) {
     static uint32_t count, accepted, bytes;
     number = rewrites_judge(program, program_len, marks, marks_len, verdicts, 256, text, 8704, &count,
                             &accepted, &bytes);
+    return unused;
+}
+
+static void *report(void *unused) {
+    static uint32_t before[256], after[256], statements, given, rewritten;
+    static int32_t saved;
+    number = rewrites_report(program, program_len, marks, marks_len, before, after, &statements, &given,
+                             &rewritten, &saved);
     return unused;
 }
 
@@ -136,16 +145,19 @@ int main(int count, char **arguments) {
         {"EX ", "true", "", 340, 8}, {"!", "true", "", 1020, 8},  {"E[", "", "", 512, 7},
         {"(", "true", "", 1020, 7},  {"(", "", "", 1024, 7},
     };
-    size_t most[6] = {ROOM, ROOM, ROOM, ROOM, ROOM, ROOM};
+    size_t most[7] = {ROOM, ROOM, ROOM, ROOM, ROOM, ROOM, ROOM};
     size_t alone = overwritten(nothing), bytes, k;
     int fails = 0, line;
 
-    for (k = 0; k < 6 && k + 1 < (size_t)count; k++) most[k] = strtoul(arguments[k + 1], NULL, 10);
+    for (k = 0; k < 7 && k + 1 < (size_t)count; k++) most[k] = strtoul(arguments[k + 1], NULL, 10);
 
     put_sums();
     bytes = overwritten(judge) - alone;
     printf("%7lu bytes of stack: judge, 256 marks, of which 127 add a use\n", (unsigned long)bytes);
     fails += number != 0 || bytes > most[1];
+    bytes = overwritten(report) - alone;
+    printf("%7lu bytes of stack: report, 256 marks, of which 127 add a use\n", (unsigned long)bytes);
+    fails += number != 0 || bytes > most[5];
     marks_len = 0;
 
     /* 256 lines: each goes to the line before. */
@@ -166,6 +178,9 @@ int main(int count, char **arguments) {
     bytes = overwritten(judge) - alone;
     printf("%7lu bytes of stack: judge, 256 marks\n", (unsigned long)bytes);
     fails += number != 0 || bytes > most[1];
+    bytes = overwritten(report) - alone;
+    printf("%7lu bytes of stack: report, 256 marks\n", (unsigned long)bytes);
+    fails += number != 0 || bytes > most[5];
     bytes = overwritten(mark_line) - alone;
     printf("%7lu bytes of stack: mark_line, the last of 256 marks\n", (unsigned long)bytes);
     fails += number != 0 || bytes > most[4];
@@ -173,12 +188,12 @@ int main(int count, char **arguments) {
     creeper_len = put_program(creeper, 129);
     bytes = overwritten(join) - alone;
     printf("%7lu bytes of stack: join, 128 and 129 statements\n", (unsigned long)bytes);
-    fails += number != 0 || bytes > most[5];
+    fails += number != 0 || bytes > most[6];
     road_len = put_program(road, 256);
     creeper_len = put_program(creeper, 256);
     bytes = overwritten(join) - alone;
     printf("%7lu bytes of stack: join, 256 and 256 statements: %d\n", (unsigned long)bytes, number);
-    fails += number != 21 || bytes > most[5];
+    fails += number != 21 || bytes > most[6];
     for (k = 0; k < sizeof cases / sizeof *cases; k++) {
         condition_len = 0;
         put(cases[k].open, cases[k].depth);

@@ -1,6 +1,7 @@
 //! What the desk's programs print: the viewer, the runner, and the comparison of two runs.
 
 use crate::condition::{Checker, Condition};
+use crate::liveness::{differing, Liveness};
 use crate::machine::{self, Kept, Outcome, Run, State, Values, VALUES};
 use crate::marks::{self, TEXT_BYTES, VERDICT_BYTES};
 use crate::program::{Program, Statement};
@@ -173,15 +174,20 @@ fn head(step: usize, at: u32, statement: &str) -> String {
     format!("{step:STEP_COLUMNS$}  {at:NUMBER_COLUMNS$}  {statement:STATEMENT_COLUMNS$}")
 }
 
-/// The line of a run that ended: the written value, the steps, and the values that the unit keeps.
-fn ended(value: i32, steps: u32, kept: &Kept) -> String {
+/// The line of a run that ended: the written value, the steps, the ticks, and the values that the unit keeps.
+fn ended(value: i32, steps: u32, ticks: u64, kept: &Kept) -> String {
     let kept: String = kept.iter().map(|&value| format!(" {}", value as i32)).collect();
-    format!("ended {value} steps {steps} kept{kept}\n")
+    format!("ended {value} steps {steps} ticks {ticks} kept{kept}\n")
 }
 
-/// The line of a run that a fault ended: the statement that divided by 0, and the steps, its own counted.
-fn fault(statement: u32, steps: u32) -> String {
-    format!("fault at {statement} steps {steps}\n")
+/// The line of a run that a fault ended: the statement that divided by 0, the steps and the ticks, its own counted.
+fn fault(statement: u32, steps: u32, ticks: u64) -> String {
+    format!("fault at {statement} steps {steps} ticks {ticks}\n")
+}
+
+/// The line of a run that took all steps of its budget: the statement that comes next, and the ticks.
+fn spent(statement: u32, ticks: u64) -> String {
+    format!("spent at {statement} ticks {ticks}\n")
 }
 
 /// What the runner prints for a program and a start, with every step if `trace` says so.
@@ -206,19 +212,20 @@ pub fn run(program: &[u8], start: &[u8], trace: bool) -> String {
         }
     }
     match outcome {
-        Outcome::Ended { value, steps, kept } => text += &ended(value, steps, &kept),
-        Outcome::Spent { statement, values } => {
-            text += &format!("spent at {statement}\n");
+        Outcome::Ended { value, steps, kept, ticks } => text += &ended(value, steps, ticks, &kept),
+        Outcome::Spent { statement, values, ticks } => {
+            text += &spent(statement, ticks);
             for (x, &value) in values.iter().enumerate() {
                 text += &format!("i{x} = {}\n", value as i32);
             }
         }
-        Outcome::Fault { statement, steps } => text += &fault(statement, steps),
+        Outcome::Fault { statement, steps, ticks } => text += &fault(statement, steps, ticks),
     }
     text
 }
 
-/// What the comparison prints for a program, a list of marks and a start.
+/// What the comparison prints for a program, a list of marks and a start. Before each step the live variables of the given
+/// program agree, else the comparison itself is wrong.
 pub fn compare(program: &[u8], list: &[u8], start: &[u8]) -> String {
     let start = match read_start(start) {
         Ok(start) => start,
@@ -238,11 +245,14 @@ pub fn compare(program: &[u8], list: &[u8], start: &[u8]) -> String {
     let given = Program::read(program).expect("a program that was judged is taken");
     let rewritten = Program::read(&new).expect("a rewritten program is taken");
     let mut text = format!("marks {count} accepted {accepted}\n");
+    let live = Liveness::new(&given);
     let both = walk(&given, &start).into_iter().zip(walk(&rewritten, &start));
-    for (k, ((at, _, one), (there, _, other))) in both.enumerate() {
+    for (k, ((at, before, one), (there, before_there, other))) in both.enumerate() {
+        let dead = |x: &u8| !live.is_live(at, *x);
+        assert!(at == there && differing(&before, &before_there).iter().all(dead));
         let (old, new) = (spelled(&given, at), spelled(&rewritten, there));
         text += &format!("{}  {new:STATEMENT_COLUMNS$}", head(k + 1, at, &old));
-        for x in (0..VALUES).filter(|&x| one[x] != other[x]) {
+        for x in differing(&one, &other).into_iter().map(usize::from) {
             text += &format!("  i{x} {} {}", one[x] as i32, other[x] as i32);
         }
         text.push('\n');
@@ -250,12 +260,16 @@ pub fn compare(program: &[u8], list: &[u8], start: &[u8]) -> String {
     let rewritten_ends = run(&new).expect("a rewritten program is taken");
     for (name, outcome) in [("given", given_ends), ("rewritten", rewritten_ends)] {
         text += &match outcome {
-            Outcome::Ended { value, steps, kept } => {
-                format!("{name} {}", ended(value, steps, &kept))
+            Outcome::Ended { value, steps, kept, ticks } => {
+                format!("{name} {}", ended(value, steps, ticks, &kept))
             }
-            Outcome::Spent { statement, .. } => format!("{name} spent at {statement}\n"),
-            Outcome::Fault { statement, steps } => format!("{name} {}", fault(statement, steps)),
+            Outcome::Spent { statement, ticks, .. } => {
+                format!("{name} {}", spent(statement, ticks))
+            }
+            Outcome::Fault { statement, steps, ticks } => {
+                format!("{name} {}", fault(statement, steps, ticks))
+            }
         };
     }
-    text + "statements and outcome agree\n"
+    text + "statements, outcome and live variables agree\n"
 }

@@ -1,5 +1,6 @@
 //! Runs by steps.
 
+use crate::pricing::{price, OURS};
 use crate::program::{Expression, Operand, Operator, Program, Statement, FIRST_KEPT, KEPT};
 
 /// The number of variables.
@@ -14,23 +15,54 @@ pub type Kept = [u32; KEPT];
 /// The largest budget that isn't refused.
 pub const LARGEST_BUDGET: u32 = 1_000_000;
 
-/// What a run under a budget answers.
+/// What a run under a budget answers, each with the ticks of the statements that were performed.
 #[derive(Clone, Copy, Debug, PartialEq, Eq)]
 pub enum Outcome {
     Ended {
         value: i32,
         steps: u32,
         kept: Kept,
+        ticks: u64,
     },
     Spent {
         statement: u32,
         values: Values,
+        ticks: u64,
     },
     /// A statement divided by 0; its step is counted.
     Fault {
         statement: u32,
         steps: u32,
+        ticks: u64,
     },
+}
+
+impl Outcome {
+    /// The ticks of the statements that were performed.
+    pub fn ticks(&self) -> u64 {
+        match *self {
+            Outcome::Ended { ticks, .. }
+            | Outcome::Spent { ticks, .. }
+            | Outcome::Fault { ticks, .. } => ticks,
+        }
+    }
+
+    /// Whether a rewritten program may answer so where the given one answers this. Ticks, and the values told with
+    /// 'spent', don't count.
+    pub fn is_alike(&self, other: &Outcome) -> bool {
+        match (*self, *other) {
+            (
+                Outcome::Ended { value: a, steps: m, kept: one, .. },
+                Outcome::Ended { value: b, steps: n, kept: other, .. },
+            ) => (a, m, one) == (b, n, other),
+            (Outcome::Spent { statement: a, .. }, Outcome::Spent { statement: b, .. }) => a == b,
+            (
+                Outcome::Fault { statement: a, steps: m, .. },
+                Outcome::Fault { statement: b, steps: n, .. },
+            ) => (a, m) == (b, n),
+            _ => false,
+        }
+    }
 }
 
 /// Where a run stands between two steps.
@@ -90,6 +122,17 @@ impl<'a> Run<'a> {
         &self.state
     }
 
+    /// The price of the statement that the next step performs; nothing once the run is over.
+    pub fn cost(&self) -> u64 {
+        match self.state {
+            State::Before { statement, .. } => {
+                let statement = &self.program.statements()[statement as usize - 1];
+                u64::from(price(&OURS, statement))
+            }
+            State::Ended { .. } | State::Faulted { .. } => 0,
+        }
+    }
+
     /// Performs one statement; a run that has ended, or is over by a fault, stays so.
     pub fn step(&mut self) {
         let (at, values) = match &mut self.state {
@@ -123,16 +166,17 @@ impl<'a> Run<'a> {
 /// A run of a program that is taken, under a budget of any size.
 pub fn run_program(program: &Program, values: Values, input: u32, budget: u32) -> Outcome {
     let mut run = Run::start(program, values, input);
-    let mut steps = 0;
+    let (mut steps, mut ticks) = (0, 0);
     loop {
         match *run.state() {
-            State::Ended { value, kept } => return Outcome::Ended { value, steps, kept },
-            State::Faulted { statement } => return Outcome::Fault { statement, steps },
+            State::Ended { value, kept } => return Outcome::Ended { value, steps, kept, ticks },
+            State::Faulted { statement } => return Outcome::Fault { statement, steps, ticks },
             State::Before { statement, values } if steps == budget => {
-                return Outcome::Spent { statement, values };
+                return Outcome::Spent { statement, values, ticks };
             }
             State::Before { .. } => {}
         }
+        ticks += run.cost();
         run.step();
         steps += 1;
     }

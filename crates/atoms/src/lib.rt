@@ -184,7 +184,7 @@ fn numbered(m: usize, n: usize, out: &mut [u64])
 }
 
 // The same places.
-fn copy(from: &[u64], out: &mut [u64])
+pub fn copy(from: &[u64], out: &mut [u64])
     requires { ⌜ length (now from) ≡ length (now out) ⌝ }
     ensures { λ _. ⌜ ((j : ℕ) → member (now (out .exit)) j ≡ member (now (from .entry)) j) ⌝ }
 {

@@ -5,6 +5,7 @@ use Prim.Native.Nat.{ℕ, _+_, _≤_, _<_}
 use native.Mathlib.Omega.{arith}
 use lib.ListN.{length, getD, drop, length-drop}
 use borrow.Author.Count.{below-more}
+use Rattle.lines.specs.Lines.{LineOf, NoLine}
 use Rattle.lines.proofs.Texts.{no-line-empty, front-unique, spells-unique}
 use Rattle.lines.proofs.Walk.{Begins, text-done, line-inside, line-is}
 use Rattle.lines.proofs.Reading.{SoFar, none-yet, one-more, begins-here}
@@ -18,8 +19,15 @@ use Rattle.program.specs.declared.Refusal.{Refusal}
 use Rattle.program.specs.declared.Refusal.the-variants as refusal
 use Rattle.program.specs.Program.{text, Spells, at}
 use Rattle.program.specs.Reading.{Refused, number}
-use Rattle.program.proofs.Texts.{statements-unambiguous, line-of, no-line}
+use Rattle.program.proofs.Texts.{statements-unambiguous}
 use Rattle.blame.specs.Blame.{lineAt, Rule, FirstMisspelled, FirstBroken, NoneBroken, Blames, LineTold, misspelled, broken, none, NumberTold, Blamed}
+
+-- what the reader of a line told
+pub line-of : {t : List ℕ} {at : ℕ} {r : StatementRead} {s : Statement} {k : ℕ} → r ≡ Found s k → LineRead t at r → LineOf spell Valid t at s k
+line-of is l = rw is at l
+
+pub no-line : (t : List ℕ) (at : ℕ) {r : StatementRead} → r ≡ Misspelled → LineRead t at r → NoLine spell Valid (drop at t)
+no-line t at is l = rw is at l
 
 -- no line stands there: it is the first that isn't spelled
 pub first-misspelled : {t : List ℕ} {s p : ℕ} (so : SoFar spell Valid t s p) {a : StatementRead} → LineRead t p a → a ≡ Misspelled → p < length t → {k : ℕ} → k ≡ lineAt s

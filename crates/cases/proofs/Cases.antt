@@ -10,7 +10,9 @@ use lib.ListN.{length, drop}
 use Rattle.language.specs.Spelling.{variables}
 use Rattle.language.specs.Kept.{keptOf}
 use Rattle.tokens.specs.Parsing.{found}
+use Rattle.pricing.specs.Prices.{ours}
 use Rattle.machine.specs.Machine.{after}
+use Rattle.machine.specs.Ticks.{ticks}
 use Rattle.base.specs.Bytes.{bytes}
 use Rattle.cases.specs.Cases.{lines, P-text, Case, table, ends, spent, check, cases, Is, Each}
 use Rattle.cases.proofs.Taken.{P-program, P-taken}
@@ -32,16 +34,20 @@ from-four X f (a ∷ b ∷ c ∷ d ∷ r) e = f a b c d r
 -- what is left to compute
 abbrev Computes : Case → Type 0
 Computes (table t xs) = right P-program (P-taken .program) (bytes t) xs ≡ true
-Computes (ends input value zero) = ⊥
-Computes (ends input value (suc k)) = FromFour λ vs. Ending (after P-program vs input k) (after P-program vs input (suc k)) value (keptOf vs)
-Computes (spent input budget n us) = FromFour λ vs. Standing (after P-program vs input budget) n (us ++ drop (length us) vs)
+Computes (ends input value zero t) = ⊥
+Computes (ends input value (suc k) t) =
+    FromFour λ vs. Ending (after P-program vs input k) (after P-program vs input (suc k)) value (keptOf vs) × (t ≡ ticks ours P-program vs input (suc k))
+Computes (spent input budget n t us) =
+    FromFour λ vs. Standing (after P-program vs input budget) n (us ++ drop (length us) vs) × (t ≡ ticks ours P-program vs input budget)
 Computes (check ms out) = printed P-program (P-taken .program) (lines ms) ≡ found (lines out) []
 
 case-is : (c : Case) → Computes c → Is c
 case-is (table t xs) h = (P-program, P-taken, right-tabulates P-program (P-taken .program) (bytes t) xs h)
-case-is (ends input value zero) h = absurd h
-case-is (ends input value (suc k)) h = (P-program, P-taken, from-four _ (λ a b c d r. ending-answers P-program _ input k value _ (h a b c d r)))
-case-is (spent input budget n us) h = (P-program, P-taken, from-four _ (λ a b c d r. standing-answers P-program _ input budget n _ (h a b c d r)))
+case-is (ends input value zero t) h = absurd h
+case-is (ends input value (suc k) t) h =
+    (P-program, P-taken, from-four _ (λ a b c d r. let e = h a b c d r in ending-answers P-program _ input k value t _ (e .0) (e .1)))
+case-is (spent input budget n t us) h =
+    (P-program, P-taken, from-four _ (λ a b c d r. let e = h a b c d r in standing-answers P-program _ input budget n t _ (e .0) (e .1)))
 case-is (check ms out) h = printed-report P-text P-program P-taken (lines ms) (lines out) h
 
 each-is : (l : List Case) → Each Computes l → Each Is l
@@ -49,7 +55,7 @@ each-is [] h = tt
 each-is (c ∷ l) h = (case-is c (h .0), each-is l (h .1))
 
 pub cases-hold : Each Is cases
-unfolding lines P-program right after printed
+unfolding lines P-program right after ticks printed
 cases-hold =
     each-is cases
-    (refl, (refl, (refl, (refl, (refl, (refl, (refl, (refl, (λ a b c d r. (refl, refl), (λ a b c d r. (refl, refl), (λ a b c d r. (refl, refl), (refl, tt))))))))))))
+    (refl, (refl, (refl, (refl, (refl, (refl, (refl, (refl, (λ a b c d r. ((refl, refl), refl), (λ a b c d r. ((refl, refl), refl), (λ a b c d r. ((refl, refl), refl), (refl, tt))))))))))))

@@ -10,13 +10,13 @@ use Rattle.statement_reader.specs.Parsing.{parseOperand, parseOperator, parseEx
 use Rattle.tokens.proofs.Parse.{after-inv, afterOr-inv}
 use Rattle.marks.specs.declared.Mark.{Mark}
 use Rattle.marks.specs.Marks.{spellMark, text, AllValid}
-use Rattle.marks.specs.Parsing.{parseFront, parseTail, parseMark, parseMarkLine}
+use Rattle.marks.specs.Parsing.{parseFront, parseTail, parseKind, parseMarkLine}
 use Rattle.marks.specs.Reading.{most, Taken}
 use Rattle.marks.proofs.Spelling.{line-sound}
 
 -- the marks whose lines begin the text, at most n of them
 unfoldable pub parseMarks : ℕ → List ℕ → Parsed (List Mark)
-unfolding parseMarkLine parseMark parseTail parseFront parseExpression parseOperator parseOperand parseVariable parseConstant parseNegative parseNumber parseZero parseDigits digitOf parseWord
+unfolding parseMarkLine parseKind parseTail parseFront parseExpression parseOperator parseOperand parseVariable parseConstant parseNegative parseNumber parseZero parseDigits digitOf parseWord
 parseMarks zero t = found [] t
 parseMarks (suc n) t =
     afterOr (parseMarkLine t)

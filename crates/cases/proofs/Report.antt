@@ -12,7 +12,8 @@ use Rattle.program.specs.Program.{WellFormed, Taken}
 use Rattle.bits.specs.Row.{countBelow}
 use Rattle.marks.specs.declared.Mark.{Mark}
 use Rattle.marks.specs.Reading.{most}
-use Rattle.report.specs.Report.{countsLine, verdictLine, verdictLines, reportText, PrintsReport}
+use Rattle.report.specs.Report.{countsLine, verdictLine, verdictLines, judgedText, reportText, PrintsReport}
+use Rattle.price_text.specs.PriceText.{priceLine, priceLines, totalLines, priceText}
 use Rattle.cases.proofs.Marks.{parseMarks, marks-taken}
 use Rattle.cases.proofs.Verdicts.{verdictsOf, verdicts-computed}
 use Rattle.cases.proofs.Made.{made, made-rewritten}
@@ -20,8 +21,8 @@ use Rattle.cases.proofs.Made.{made, made-rewritten}
 module _ (P : List Statement) (w : WellFormed P) where
   -- what is printed for the marks
   unfoldable pub reported : List Mark → List ℕ
-  unfolding verdictsOf made countBelow reportText countsLine verdictLines verdictLine lines.text spell spellExpression spellOperand spellVariable signedDigits digits digitsBy
-  reported ms = let vs = verdictsOf P w ms in reportText ms vs (made P ms vs (length ms))
+  unfolding verdictsOf made countBelow reportText judgedText countsLine verdictLines verdictLine priceText priceLines priceLine totalLines lines.text spell spellExpression spellOperand spellVariable signedDigits digits digitsBy
+  reported ms = let vs = verdictsOf P w ms in reportText ms vs P (made P ms vs (length ms))
 
   -- for the marks that the text u begins with, and what follows them
   unfoldable pub printed : List ℕ → Parsed (List ℕ)

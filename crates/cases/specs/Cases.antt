@@ -12,6 +12,7 @@ use Rattle.language.specs.Spelling.{variables}
 use Rattle.language.specs.Kept.{keptOf}
 use Rattle.language.specs.declared.Statement.{Statement}
 use Rattle.program.specs.Program as program
+use Rattle.pricing.specs.Prices.{ours}
 use Rattle.machine.specs.declared.Answer.the-variants.{Ended, Spent}
 use Rattle.machine.specs.Answer.{Answers}
 use Rattle.bits.specs.Row.{bit}
@@ -44,15 +45,15 @@ P-text =
 pub data Case : Type 0 where
   -- a condition's text, and word 0 of each of its parts
   table : String → List ℕ → Case
-  -- an input, the value with which P's run ends, and the steps taken
-  ends : ℕ → ℤ → ℕ → Case
-  -- an input, a budget, the statement before which it is spent, and the values of `i0` and so on then; the others are the starting ones
-  spent : ℕ → ℕ → ℕ → List ℕ → Case
+  -- an input, the value with which P's run ends, and the steps and ticks taken
+  ends : ℕ → ℤ → ℕ → ℕ → Case
+  -- an input, a budget, the statement before which it is spent, the ticks taken, and the values of `i0` and so on then; the others are the starting ones
+  spent : ℕ → ℕ → ℕ → ℕ → List ℕ → Case
   -- the lines of `marks`, and those that the check program prints, where `given` is P
   check : List String → List String → Case
 
 -- "Word 0 on P: ..", "Input 0 ends with 7 after 6 steps. Input 2 ends with 9 after 12; budget 11 is spent.", "The check program reads P
--- .. and these lines ..: .. It prints ..". Document 01 gives the words of all parts for the first condition, and that of the last part for
+-- .. and these lines ..: .. It prints ..". Document 02: "For P and document 01's marks these are 24, 24 and 0." Document 01 gives the words of all parts for the first condition, and that of the last part for
 -- the others
 abbrev pub cases : List Case
 cases =
@@ -64,9 +65,9 @@ cases =
     ∷ table "EY entry" (1 ∷ 3 ∷ [])
     ∷ table "AM !def(i2)" (4 ∷ 251 ∷ 3 ∷ [])
     ∷ table "EM !def(i2)" (4 ∷ 251 ∷ 251 ∷ [])
-    ∷ ends 0 (pos 7) 6
-    ∷ ends 2 (pos 9) 12
-    ∷ spent 2 11 8 (0 ∷ 2 ∷ 7 ∷ 9 ∷ [])
+    ∷ ends 0 (pos 7) 6 18
+    ∷ ends 2 (pos 9) 12 36
+    ∷ spent 2 11 8 32 (0 ∷ 2 ∷ 7 ∷ 9 ∷ [])
     ∷ check
     ("4: mark(rpl, i2, 7)"
     ∷ "3: mark(rm, i2, 7)"
@@ -88,6 +89,17 @@ cases =
     ∷ "i0 := i0 - 1"
     ∷ "if i0 goto 4 else 8"
     ∷ "write i3"
+    ∷ "1 4 4"
+    ∷ "2 2 2"
+    ∷ "3 2 2"
+    ∷ "4 3 3"
+    ∷ "5 3 3"
+    ∷ "6 3 3"
+    ∷ "7 3 3"
+    ∷ "8 4 4"
+    ∷ "24"
+    ∷ "24"
+    ∷ "0"
     ∷ [])
     ∷ []
 
@@ -111,10 +123,10 @@ OnP X = (P : List Statement) × program.Taken P-text P × X P
 -- budget that is enough
 abbrev pub Is : Case → Type 0
 Is (table t ws) = OnP λ P. Tabulates P (bytes t) ws
-Is (ends input value steps) =
-    OnP λ P. (vs : List ℕ) → length vs ≡ variables → (budget : ℕ) → steps ≤ budget → Answers P vs input budget (Ended value steps) vs (keptOf vs)
-Is (spent input budget n us) =
-    OnP λ P. (vs : List ℕ) → length vs ≡ variables → Answers P vs input budget (Spent n) (us ++ drop (length us) vs) (keptOf vs)
+Is (ends input value steps t) =
+    OnP λ P. (vs : List ℕ) → length vs ≡ variables → (budget : ℕ) → steps ≤ budget → Answers ours P vs input budget (Ended value steps t) vs (keptOf vs)
+Is (spent input budget n t us) =
+    OnP λ P. (vs : List ℕ) → length vs ≡ variables → Answers ours P vs input budget (Spent n t) (us ++ drop (length us) vs) (keptOf vs)
 Is (check ms out) = PrintsReport P-text (lines ms) (lines out)
 
 -- X is true of each member of the list

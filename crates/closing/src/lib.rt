@@ -1,7 +1,7 @@
 // What is printed after the steps of two runs side by side: the outcome of each, and that they agree.
 ghost use Prim.Native.Nat.{_≤_};
 ghost use lib.ListN.{length};
-ghost use Rattle.closing.specs.Closing.{closing-room, RunAlike, Closes};
+ghost use Rattle.closing.specs.Closing.{closing-room, RunAlike, TraceAlike, Closes};
 use machine::VALUES;
 use run::RunAnswer;
 
@@ -16,6 +16,7 @@ pub fn write(
 ) -> usize
     requires { ⌜ closing-room ≤ length (now out) ⌝ }
     requires { ⌜ RunAlike (now program) (now new) values input budget ⌝ }
+    requires { ⌜ TraceAlike (now program) (now new) values input ⌝ }
     ensures { λ r. ⌜ Closes (now (program .entry)) (now (new .entry)) values input budget (now (out .entry)) (now (out .exit)) r ⌝ }
 {
     let one = run::run(program, values, input, budget);
@@ -34,5 +35,5 @@ pub fn write(
     let k2 = answer_line::write(out, k1, a, &kept);
     let k3 = statement_writer::word(out, k2, b"rewritten ");
     let k4 = answer_line::write(out, k3, b, &others);
-    statement_writer::word(out, k4, b"statements and outcome agree\n")
+    statement_writer::word(out, k4, b"statements, outcome and live variables agree\n")
 }

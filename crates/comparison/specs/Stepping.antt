@@ -1,4 +1,5 @@
--- What `steps` does with two programs: as many lines as the lent bytes have room for. By demand 3 both runs agree after each step.
+-- What `steps` does with two programs: as many lines as the lent bytes have room for, each after a test that the live variables agree. By
+-- demand 3 both runs stand before the same statement after each step, and the test never fails.
 use mathlib.Core.Path.{_≡_}
 use mathlib.Core.Logic.{_⊎_}
 use mathlib.Core.List.{List}
@@ -10,9 +11,10 @@ use Rattle.language.specs.Room.{variable-room, constant-room}
 use Rattle.statement_writer.specs.Writing.{Put}
 use Rattle.language.specs.declared.Statement.{Statement}
 use Rattle.machine.specs.Machine.{Final, before, ended, after}
-use Rattle.lockstep.specs.Lockstep.{Together}
+use Rattle.lockstep.specs.Lockstep.{Agree, Side, Together}
 use Rattle.desk.specs.Columns.{statement-columns}
 use Rattle.trace.specs.Stepping.{head-room}
+use Rattle.liveness.specs.Liveness.{LiveRows}
 use Rattle.comparison.specs.Lines.{bothLines}
 use Rattle.comparison.specs.declared.Progress.{Progress}
 
@@ -57,14 +59,18 @@ pub record Compared (P Q : List Statement) (start : List ℕ) (input budget k : 
   pub counted : r .done ≡ k + n
   pub put : Put o 0 (bothLines P Q start input k n) q (r .bytes)
   pub left : Left P Q start input (r .done) (r .ended) (r .at) vs ws
-  -- it stops at the budget, where the runs have ended, or where a line may have no room; with room for one it goes on
+  -- before each of these steps every variable that P may still use before defining it holds the same value in both
+  pub agreed : (i : ℕ) → i < n → Side (Agree P) (after P start input (k + i)) (after Q start input (k + i))
+  -- it stops at the budget, where the runs have ended, where a line may have no room, or where such a variable differs; with room for a line,
+  -- and where none differs, it goes on
   pub within : k ≤ budget → r .done ≤ budget
-  pub stops : r .ended ≡ false → (budget ≤ r .done) ⊎ (length o < r .bytes + line-room)
-  pub further : line-room ≤ length o → k < budget → k < r .done
+  pub differs : r .agree ≡ false → Side (Agree P) (after P start input (r .done)) (after Q start input (r .done)) → ⊥
+  pub stops : r .ended ≡ false → r .agree ≡ true → (budget ≤ r .done) ⊎ (length o < r .bytes + line-room)
+  pub further : line-room ≤ length o → r .agree ≡ true → k < budget → k < r .done
 
--- from place s and the values us and zs: whatever they are, the bytes written stand at the front of o and all others are kept; if both
--- runs stand there after k steps, and the programs run as demand 3 says, they are compared
-pub record Stepped (P Q : List Statement) (input budget k s : ℕ) (us zs o q vs ws : List ℕ) (r : Progress) : Type 0 where
+-- from place s and the values us and zs: whatever they are, the bytes written stand at the front of o and all others are kept; if the rows
+-- `live` are those of P, both runs stand there after k steps, and the programs run as demand 3 says, they are compared
+pub record Stepped (P Q : List Statement) (live : List ℕ) (input budget k s : ℕ) (us zs o q vs ws : List ℕ) (r : Progress) : Type 0 where
   pub kept : Put o 0 (take (r .bytes) q) q (r .bytes)
-  pub compared : InStep P Q → (start : List ℕ) → length start ≡ variables → BothStand P Q start input k s us zs
+  pub compared : InStep P Q → LiveRows P live → (start : List ℕ) → length start ≡ variables → BothStand P Q start input k s us zs
       → Compared P Q start input budget k o q vs ws r

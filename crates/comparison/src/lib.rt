@@ -1,4 +1,5 @@
-// Two runs side by side: the lines of their steps, as many at a time as the lent bytes have room for.
+// Two runs side by side: the lines of their steps, as many at a time as the lent bytes have room for. Before each step the variables that are
+// live there are tested to agree.
 ghost use mathlib.Core.Path.{_≡_};
 ghost use Prim.Native.Nat.{_≤_, _<_, _+_};
 ghost use lib.ListN.{length};
@@ -6,6 +7,7 @@ ghost use Rattle.language.specs.Spelling.{variables, Valid};
 ghost use Rattle.statement_writer.specs.Writing.{Put};
 ghost use Rattle.program.specs.Program.{most, Targets, WellFormed};
 ghost use Rattle.program.specs.Reading.{statements};
+ghost use Rattle.liveness.specs.Liveness.{live-words};
 ghost use Rattle.comparison.specs.Lines.{pairText, difference as differenceBytes, differences as differencesBytes, pairLine};
 ghost use Rattle.comparison.specs.Stepping.{pair-room, pairs-room, line-room, Stepped};
 use desk::columns::STATEMENT_COLUMNS;
@@ -84,17 +86,21 @@ fn line(
 }
 
 // The bytes written, the place and the steps done, and whether the runs have ended; then the place is that of the statement that ended them.
+// And whether the variables that are live in p agreed before each step; where they don't, the runs stop.
 pub struct Progress {
     pub bytes: usize,
     pub at: u32,
     pub done: u32,
     pub ended: bool,
+    pub agree: bool,
 }
 
-// Goes on with the runs of p and q, which stand before the statement at the place `at` after `done` steps.
+// Goes on with the runs of p and q, which stand before the statement at the place `at` after `done` steps. In `live` are the places at which
+// each variable is live in p.
 pub fn steps(
     p: Program,
     q: Program,
+    live: &[u64],
     at: u32,
     done: u32,
     input: u32,
@@ -107,7 +113,8 @@ pub fn steps(
     requires { ⌜ WellFormed (statements q) ⌝ }
     requires { ⌜ length (statements q) ≡ length (statements p) ⌝ }
     requires { ⌜ at < length (statements p) ⌝ }
-    ensures { λ r. ⌜ Stepped (statements p) (statements q) input budget done at (now (values .entry)) (now (others .entry)) (now (out .entry)) (now (out .exit)) (now (values .exit)) (now (others .exit)) r ⌝ }
+    requires { ⌜ length (now live) ≡ live-words ⌝ }
+    ensures { λ r. ⌜ Stepped (statements p) (statements q) (now (live .entry)) input budget done at (now (values .entry)) (now (others .entry)) (now (out .entry)) (now (out .exit)) (now (values .exit)) (now (others .exit)) r ⌝ }
 {
     let mut place = at;
     let mut k = done;
@@ -119,9 +126,19 @@ pub fn steps(
                 at: place,
                 done: k,
                 ended: false,
+                agree: true,
             };
         }
         let i = place as usize;
+        if !liveness::agree(live, i, &*values, &*others) {
+            return Progress {
+                bytes: to,
+                at: place,
+                done: k,
+                ended: false,
+                agree: false,
+            };
+        }
         let e = p.entries[i];
         let s = e.statement;
         let f = q.entries[i];
@@ -146,6 +163,7 @@ pub fn steps(
                     at: place,
                     done: k,
                     ended: true,
+                    agree: true,
                 };
             }
         }
@@ -155,5 +173,6 @@ pub fn steps(
         at: place,
         done: k,
         ended: false,
+        agree: true,
     }
 }

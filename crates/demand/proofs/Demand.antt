@@ -1,7 +1,9 @@
 -- Demand 3, one theorem. Given a program text and a marks text that are taken, whatever the list holds, the verdict bytes that document 01
--- defines, and the program with just the accepted marks made: a byte is 0 exactly where none of 11 to 14 applies, and that program is
+-- defines, and the program with just the accepted marks made: a byte is 0 exactly where none of 11 to 14 and 18 applies, and that program is
 -- itself taken. Whatever the starting values and the input are, after every number of steps its run and the given program's stand before
--- the same statement or have ended with the same value and the same kept ones, and under every budget that isn't refused both answer alike.
+-- the same statement, and every variable that the given program may still use before defining it holds the same value in both; or both have
+-- ended with the same value and the same kept ones, or with a fault at the same statement. Under every budget that isn't refused both answer
+-- alike.
 -- Assumes nothing.
 use mathlib.Core.Path.{_≡_, refl, subst}
 use mathlib.Core.List.{List}
@@ -11,13 +13,14 @@ use Rattle.language.specs.Spelling.{variables}
 use Rattle.language.specs.declared.Statement.{Statement}
 use Rattle.program.specs.Program.{text, Taken}
 use Rattle.program.proofs.RoundTrip.{taken-unique}
+use Rattle.pricing.specs.Prices.{ours}
 use Rattle.machine.specs.Answer.{Answers}
 use Rattle.machine.specs.declared.Answer.{Answer}
 use Rattle.marks.specs.Reading as marks
 use Rattle.marks.specs.declared.Mark.{Mark}
 use Rattle.rewriting.specs.Verdicts.{Widened, Verdicts, Rewritten}
 use Rattle.lockstep.specs.Lockstep.{Changed}
-use Rattle.lockstep.proofs.Lockstep.{together}
+use Rattle.lockstep.proofs.Lockstep.{lockstep, together}
 use Rattle.lockstep.proofs.Changed.{changed-wellformed}
 use Rattle.lockstep.proofs.Answers.{answers-alike}
 use Rattle.rewriting.proofs.Accepted.{accepted-judged, judged-accepted}
@@ -32,10 +35,10 @@ module _ {t : List ℕ} {P : List Statement} (taken : Taken t P) (start : List �
   -- a text that is taken gets none of 2 to 5, and an allowed budget not 15; the program that answers is the one that the text is taken as
   called-answers :
       (r : RunAnswer) (ws ks : List ℕ) → RunAnswers t start input budget r ws ks
-      → (a : Answer) × (r ≡ Finished a) × Answers P start input budget a ws ks
+      → (a : Answer) × (r ≡ Finished a) × Answers ours P start input budget a ws ks
   called-answers (Refused n) ws ks r = absurd (never-refused t budget (r .0) allowed taken)
   called-answers (Finished a) ws ks f =
-      (a, refl, subst (λ (Q : List Statement). Answers Q start input budget a ws ks) (taken-unique (f .taken) taken) (f .answers))
+      (a, refl, subst (λ (Q : List Statement). Answers ours Q start input budget a ws ks) (taken-unique (f .taken) taken) (f .answers))
 
 pub demand-3 :
     {t u : List ℕ} {P : List Statement} {ms : List Mark} → Taken t P → marks.Taken u ms
@@ -50,6 +53,7 @@ demand-3 {t} {u} {P} {ms} given listed vs judged Q r = record {
   rewritten = r;
   taken = taken;
   together = together (given .program) changed;
+  traces = lockstep (given .program) changed;
   alike = alike;
 }
   where
@@ -65,4 +69,4 @@ demand-3 {t} {u} {P} {ms} given listed vs judged Q r = record {
     alike start l input budget allowed a b ws us ks hs p q =
         let x = called-answers given start input budget allowed a ws ks p in
         let y = called-answers taken start input budget allowed b us hs q in
-        rw (x .1, y .1) (answers-alike (given .program) changed start l input budget (x .0) (y .0) ws us ks hs (x .2) (y .2))
+        rw (x .1, y .1) (answers-alike (given .program) changed start l input ours budget (x .0) (y .0) ws us ks hs (x .2) (y .2))

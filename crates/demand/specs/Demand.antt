@@ -1,6 +1,7 @@
 -- Demand 3, one claim about a program, its whole list of marks, refused marks among them, and its whole runs: for a program text and a
 -- marks text that are taken, the rewritten program is the given one with exactly the accepted marks made, is itself taken, and runs as
--- the given one does, after every number of steps and under every budget. Document 01, "What a contract says here".
+-- the given one does, after every number of steps and under every budget; before each step both hold the same in every variable that the
+-- given program may still use before defining it. Document 01, "What a contract says here"; document 02, "Traces side by side".
 use mathlib.Core.Path.{_≡_}
 use mathlib.Core.List.{List}
 use mathlib.Core.Logic.{_↔_}
@@ -15,7 +16,7 @@ use Rattle.marks.specs.declared.Mark.{Mark}
 use Rattle.marks.specs.Marks.{markAt}
 use Rattle.rewriting.specs.Verdicts.{Judged, Widened, Rewritten}
 use Rattle.rewriting.specs.declared.Verdict.the-variants.{Accepted}
-use Rattle.lockstep.specs.Lockstep.{Together, Alike}
+use Rattle.lockstep.specs.Lockstep.{Agree, Side, Together, Alike}
 use Rattle.run.specs.Run.{most-steps, RunAnswers}
 use Rattle.run.specs.declared.RunAnswer.{RunAnswer}
 use Rattle.run.specs.declared.RunAnswer.the-variants.{Refused, Finished}
@@ -34,13 +35,16 @@ pub record Demand3 (t u vs w : List ℕ) : Type 0 where
   -- "A program is taken where none of 2 to 5 applies to its text, a list of marks where neither 9 nor 10 does."
   pub given : Taken t P
   pub listed : marks.Taken u ms
-  -- "A mark is accepted where its verdict byte is 0, and that byte is 0 exactly where none of 11 to 14 applies"
+  -- "A mark is accepted where its verdict byte is 0, and that byte is 0 exactly where none of 11 to 14" and 18 "applies"
   pub accepted : (j : ℕ) → j < length ms → (getD vs j 0 ≡ 0) ↔ Judged (Widened P ms) P (take j ms) (markAt ms j) Accepted
   -- "The rewritten program is the new text .., and is itself a program that is taken."
   pub rewritten : Rewritten P ms vs Q
   pub taken : Taken w Q
   -- "After k steps, for every k from 0 on and beyond any budget, a run either stands before one statement or has ended with its value"
   pub together : (start : List ℕ) → length start ≡ variables → (input k : ℕ) → Together (after P start input k) (after Q start input k)
+  -- document 02: "from equal starts, every variable that the given program may still use before defining it shall hold the same value in both
+  -- before each step, as long as the run lasts"
+  pub traces : (start : List ℕ) → length start ≡ variables → (input k : ℕ) → Side (Agree P) (after P start input k) (after Q start input k)
   -- "Under every budget that isn't refused, the two runs answer the same value and the same steps, or 'spent' at the same statement";
   -- document 02: "given and rewritten programs must match in all nine"
   pub alike : (start : List ℕ) → length start ≡ variables → (input budget : ℕ) → budget ≤ most-steps → (a b : RunAnswer) (ws us ks hs : List ℕ)

@@ -17,12 +17,13 @@ pub record RunPlaces : Type 0 where
   pub statement : ℕ
   pub left : List ℕ
   pub kept : List ℕ
+  pub ticks : ℕ
 
 -- what a run's answer sets, with the values ws and the kept ones ks beside it; the rest stays
 abbrev pub placed : Answer → List ℕ → List ℕ → RunPlaces → RunPlaces
-placed (Ended v k) ws ks o = record { ended = 1; value = v; steps = k; statement = o .statement; left = o .left; kept = ks }
-placed (Fault n k) ws ks o = record { ended = 2; value = o .value; steps = k; statement = n; left = o .left; kept = o .kept }
-placed (Spent n) ws ks o = record { ended = 0; value = o .value; steps = o .steps; statement = n; left = ws; kept = o .kept }
+placed (Ended v k t) ws ks o = record { ended = 1; value = v; steps = k; statement = o .statement; left = o .left; kept = ks; ticks = t }
+placed (Fault n k t) ws ks o = record { ended = 2; value = o .value; steps = k; statement = n; left = o .left; kept = o .kept; ticks = t }
+placed (Spent n t) ws ks o = record { ended = 0; value = o .value; steps = o .steps; statement = n; left = ws; kept = o .kept; ticks = t }
 
 -- 0 is a result, any other number the refusal, which keeps all
 abbrev pub RunReturned : RunAnswer → List ℕ → List ℕ → ℕ → RunPlaces → RunPlaces → Type 0

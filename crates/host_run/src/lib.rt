@@ -16,8 +16,9 @@ pub fn export(
     statement: &mut u32,
     left: &mut [u32; VALUES],
     kept: &mut [u32; KEPT],
+    ticks: &mut u64,
 ) -> u8
-    ensures { λ r. ⌜ RunExported (now (program .entry)) (now (values .entry)) input budget r (record { ended = now (ended .entry); value = now (value .entry); steps = now (steps .entry); statement = now (statement .entry); left = now (left .entry); kept = now (kept .entry) }) (record { ended = now (ended .exit); value = now (value .exit); steps = now (steps .exit); statement = now (statement .exit); left = now (left .exit); kept = now (kept .exit) }) ⌝ }
+    ensures { λ r. ⌜ RunExported (now (program .entry)) (now (values .entry)) input budget r (record { ended = now (ended .entry); value = now (value .entry); steps = now (steps .entry); statement = now (statement .entry); left = now (left .entry); kept = now (kept .entry); ticks = now (ticks .entry) }) (record { ended = now (ended .exit); value = now (value .exit); steps = now (steps .exit); statement = now (statement .exit); left = now (left .exit); kept = now (kept .exit); ticks = now (ticks .exit) }) ⌝ }
 {
     let start = *values;
     let ran = run::run(program, start, input, budget);
@@ -28,23 +29,26 @@ pub fn export(
         RunAnswer::Refused(number) => number,
         RunAnswer::Finished(finished) => {
             match finished {
-                Answer::Ended(v, k) => {
+                Answer::Ended(v, k, t) => {
                     *ended = 1;
                     *value = v;
                     *steps = k;
                     *kept = eight;
+                    *ticks = t;
                     0
                 }
-                Answer::Fault(n, taken) => {
+                Answer::Fault(n, taken, t) => {
                     *ended = 2;
                     *statement = n;
                     *steps = taken;
+                    *ticks = t;
                     0
                 }
-                Answer::Spent(n) => {
+                Answer::Spent(n, t) => {
                     *ended = 0;
                     *statement = n;
                     *left = after;
+                    *ticks = t;
                     0
                 }
             }

@@ -9,6 +9,7 @@ use Rattle.language.specs.Spelling.{variables}
 use Rattle.language.specs.declared.Statement.{Statement}
 use Rattle.program.specs.Program.{WellFormed}
 use Rattle.machine.specs.Machine.{Final, State, before, ended, after}
+use Rattle.machine.specs.Ticks.{ticks}
 use Rattle.machine.specs.Answer.{Ends, Answers}
 use Rattle.machine.specs.declared.Answer.{Answer}
 use Rattle.machine.specs.declared.Answer.the-variants.{Ended, Fault, Spent}
@@ -28,11 +29,6 @@ ended-beside (before t vs) (ended u) v h e = absurd h
 ended-beside (ended u) (before r ws) v h e = absurd h
 ended-beside (ended u) (ended r) v h e = cc
 
-alike-self : (a : Answer) → Alike a a
-alike-self (Ended v k) = (refl, refl)
-alike-self (Fault n k) = (refl, refl)
-alike-self (Spent n) = refl
-
 module _ (P Q : List Statement) (vs : List ℕ) (input : ℕ) (beside : (k : ℕ) → Together (after P vs input k) (after Q vs input k)) where
   ends-beside : (k : ℕ) (v : Final) → Ends P vs input k v → Ends Q vs input k v
   ends-beside k v e =
@@ -46,17 +42,22 @@ module _ (P Q : List Statement) (vs : List ℕ) (input : ℕ) (beside : (k : ℕ
         over = ended-beside (after P vs input k) (after Q vs input k) v (beside k) (e .over);
       }
 
-  answers-beside : (budget : ℕ) (a : Answer) (ws ks : List ℕ) → Answers P vs input budget a ws ks → (us : List ℕ) × Answers Q vs input budget a us ks
-  answers-beside budget (Ended x k) ws ks (v, e, l, is, same) = (vs, (v, ends-beside k _ e, l, is, refl))
-  answers-beside budget (Fault n k) ws ks (s, e, l, is, same, kept) = (vs, (s, ends-beside k _ e, l, is, refl, kept))
-  answers-beside budget (Spent n) ws ks (s, is, stands, same) =
+  -- what the run beside answers, with ticks of its own
+  answers-beside :
+      (ps : List ℕ) (budget : ℕ) (a : Answer) (ws ks : List ℕ) → Answers ps P vs input budget a ws ks
+      → (b : Answer) × (us : List ℕ) × Answers ps Q vs input budget b us ks × Alike a b
+  answers-beside ps budget (Ended x k t) ws ks (v, e, l, is, same, paid) =
+      (Ended x k (ticks ps Q vs input k), vs, (v, ends-beside k _ e, l, is, refl, refl), (refl, refl))
+  answers-beside ps budget (Fault n k t) ws ks (s, e, l, is, same, kept, paid) =
+      (Fault n k (ticks ps Q vs input k), vs, (s, ends-beside k _ e, l, is, refl, kept, refl), (refl, refl))
+  answers-beside ps budget (Spent n t) ws ks (s, is, stands, same, paid) =
       let there = stands-beside (after P vs input budget) (after Q vs input budget) s ws (beside budget) stands in
-      (there .0, (s, is, there .1, same))
+      (Spent n (ticks ps Q vs input budget), there .0, (s, is, there .1, same, refl), refl)
 
 pub answers-alike :
-    {U : ℕ → ℕ → Type 0} {P Q : List Statement} → WellFormed P → Changed U P Q → (vs : List ℕ) → length vs ≡ variables → (input budget : ℕ)
-    (a b : Answer) (ws us ks hs : List ℕ) → Answers P vs input budget a ws ks → Answers Q vs input budget b us hs → Alike a b × (ks ≡ hs)
-answers-alike {U} {P} {Q} w changed vs l input budget a b ws us ks hs p q =
-    let there = answers-beside P Q vs input (together w changed vs l input) budget a ws ks p in
-    let one = answer-unique Q vs input budget a b (there .0) us ks hs (there .1) q in
-    (subst (Alike a) (one .0) (alike-self a), one .2)
+    {U : ℕ → ℕ → Type 0} {P Q : List Statement} → WellFormed P → Changed U P Q → (vs : List ℕ) → length vs ≡ variables → (input : ℕ) (ps : List ℕ) (budget : ℕ)
+    (a b : Answer) (ws us ks hs : List ℕ) → Answers ps P vs input budget a ws ks → Answers ps Q vs input budget b us hs → Alike a b × (ks ≡ hs)
+answers-alike {U} {P} {Q} w changed vs l input ps budget a b ws us ks hs p q =
+    let there = answers-beside P Q vs input (together w changed vs l input) ps budget a ws ks p in
+    let one = answer-unique Q vs input ps budget (there .0) b (there .1) us ks hs (there .2) q in
+    (subst (Alike a) (one .0) (there .3), one .2)

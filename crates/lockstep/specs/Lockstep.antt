@@ -49,14 +49,14 @@ abbrev pub Together : State → State → Type 0
 Together a b = Side (λ s vs ws. Unit) a b
 
 -- "the two runs answer the same value and the same steps, or 'spent' at the same statement; the 32 values told with 'spent' may differ"; document 02: "Two runs
--- compared must fault together, at the same statement"
+-- compared must fault together, at the same statement". Ticks aren't compared: a rewritten statement may cost something else
 abbrev pub Alike : Answer → Answer → Type 0
-Alike (Ended v k) (Ended w l) = (v ≡ w) × (k ≡ l)
-Alike (Ended v k) (Fault m l) = ⊥
-Alike (Ended v k) (Spent n) = ⊥
-Alike (Fault n k) (Ended w l) = ⊥
-Alike (Fault n k) (Fault m l) = (n ≡ m) × (k ≡ l)
-Alike (Fault n k) (Spent m) = ⊥
-Alike (Spent n) (Ended w l) = ⊥
-Alike (Spent n) (Fault m l) = ⊥
-Alike (Spent n) (Spent m) = n ≡ m
+Alike (Ended v k t) (Ended w l u) = (v ≡ w) × (k ≡ l)
+Alike (Ended v k t) (Fault m l u) = ⊥
+Alike (Ended v k t) (Spent n u) = ⊥
+Alike (Fault n k t) (Ended w l u) = ⊥
+Alike (Fault n k t) (Fault m l u) = (n ≡ m) × (k ≡ l)
+Alike (Fault n k t) (Spent m u) = ⊥
+Alike (Spent n t) (Ended w l u) = ⊥
+Alike (Spent n t) (Fault m l u) = ⊥
+Alike (Spent n t) (Spent m u) = n ≡ m

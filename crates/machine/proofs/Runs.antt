@@ -15,6 +15,9 @@ use Rattle.program.specs.declared.Program.{Program}
 use Rattle.program.proofs.Held.{held, at-held}
 use Rattle.machine.specs.Machine.{Final, written, faulted, State, before, ended, after, value, stored, perform, stepFrom}
 use Rattle.base.specs.Pick.{pick}
+use Rattle.pricing.specs.Prices.{column}
+use Rattle.pricing.proofs.Columns.{column-at}
+use Rattle.machine.specs.Ticks.{ticks}
 use Rattle.machine.specs.Answer.{stateOf, Ends}
 use Rattle.machine.specs.declared.Evaluated.{Evaluated}
 use Rattle.machine.specs.declared.Evaluated.the-variants.{Value, Fault}
@@ -29,6 +32,11 @@ pub record Stands (P : List Statement) (vs : List ℕ) (input k s : ℕ) (ws : L
 pub stands-first : (P : List Statement) (vs : List ℕ) (input : ℕ) → WellFormed P → Stands P vs input 0 0 vs
 unfolding after
 stands-first P vs input w = record { inside = omega (arith, w .counted .0); state = refl }
+
+-- before the first step nothing is paid
+pub none-paid : (ps : List ℕ) (P : List Statement) (vs : List ℕ) (input : ℕ) → 0 ≡ ticks ps P vs input 0
+unfolding ticks
+none-paid ps P vs input = refl
 
 -- a statement in its place leads only to places of the program
 pub perform-inside :
@@ -59,6 +67,13 @@ fault-here (Assign y v) input s t vs e = go (value vs v) e
     go Fault f = cc
 fault-here (Branch y n m) input s t vs e = absurd (let z : _≡_ {A = ℕ} 0 1 = cc in omega arith)
 fault-here Skip input s t vs e = absurd (let z : _≡_ {A = ℕ} 0 1 = cc in omega arith)
+
+-- the ticks of one step more, by the column of all prices
+pub step-paid :
+    {P : List Statement} {vs : List ℕ} {input k s : ℕ} {ws : List ℕ} → WellFormed P → Stands P vs input k s ws
+    → (ps : List ℕ) {prices : List ℕ} {t : ℕ} → prices ≡ column ps P → t ≡ ticks ps P vs input k → t + getD prices s 0 ≡ ticks ps P vs input (k + 1)
+unfolding ticks
+step-paid {P = P} {s = s} w here ps found e = rw (add-one, here .state, found, e, column-at ps P (w .counted .1) s (here .inside))
 
 -- one step more, where `told` is what `step` says of its answer n and the values us that it leaves
 module _ (p : Program) (vs : List ℕ) (input k s : ℕ) (ws us : List ℕ) (n : Next)

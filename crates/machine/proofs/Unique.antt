@@ -9,6 +9,7 @@ use mir.Syntax.{w32}
 use mir.Val.{toZ}
 use Rattle.language.specs.declared.Statement.{Statement}
 use Rattle.machine.specs.Machine.{Final, written, faulted, before, ended, after, stepFrom}
+use Rattle.machine.specs.Ticks.{ticks}
 use Rattle.machine.specs.Answer.{Ends, Answers}
 use Rattle.machine.specs.declared.Answer.{Answer}
 use Rattle.machine.specs.declared.Answer.the-variants.{Ended, Fault, Spent}
@@ -47,29 +48,32 @@ module _ (P : List Statement) (vs : List ℕ) (input : ℕ) where
   end-not-spent k v budget s ws a h b = omega (arith, stands-before-end budget k s v ws b (a .over))
 
   pub answer-unique :
-      (budget : ℕ) (a b : Answer) (ws us ks hs : List ℕ)
-      → Answers P vs input budget a ws ks → Answers P vs input budget b us hs → (a ≡ b) × (ws ≡ us) × (ks ≡ hs)
-  answer-unique budget (Ended x k) (Ended y j) ws us ks hs p q =
+      (ps : List ℕ) (budget : ℕ) (a b : Answer) (ws us ks hs : List ℕ)
+      → Answers ps P vs input budget a ws ks → Answers ps P vs input budget b us hs → (a ≡ b) × (ws ≡ us) × (ks ≡ hs)
+  answer-unique ps budget (Ended x k t) (Ended y j u) ws us ks hs p q =
       let e = end-unique k j _ _ (p .1) (q .1) in
       let same : p .0 ≡ q .0 = cc in
-      (ap₂ Ended (p .3 ∙ ap (toZ w32) same ∙ sym (q .3)) (e .0), p .4 ∙ sym (q .4), cc)
-  answer-unique budget (Ended x k) (Fault n j) ws us ks hs p q =
+      let value : x ≡ y = p .3 ∙ ap (toZ w32) same ∙ sym (q .3) in
+      let paid : t ≡ u = p .5 ∙ ap (ticks ps P vs input) (e .0) ∙ sym (q .5) in
+      (cc (value, e .0, paid), p .4 ∙ sym (q .4), cc)
+  answer-unique ps budget (Ended x k t) (Fault n j u) ws us ks hs p q =
       let e : written (p .0) ks ≡ faulted (q .0) = end-unique k j _ _ (p .1) (q .1) .1 in
       absurd (let z : _≡_ {A = ℕ} 0 1 = cc in omega arith)
-  answer-unique budget (Fault n k) (Ended y j) ws us ks hs p q =
+  answer-unique ps budget (Fault n k t) (Ended y j u) ws us ks hs p q =
       let e : faulted (p .0) ≡ written (q .0) hs = end-unique k j _ _ (p .1) (q .1) .1 in
       absurd (let z : _≡_ {A = ℕ} 0 1 = cc in omega arith)
-  answer-unique budget (Fault n k) (Fault m j) ws us ks hs p q =
+  answer-unique ps budget (Fault n k t) (Fault m j u) ws us ks hs p q =
       let e = end-unique k j _ _ (p .1) (q .1) in
       let same : p .0 ≡ q .0 = cc in
       let f : n ≡ m = omega (arith, p .3, q .3, same) in
-      (ap₂ Fault f (e .0), p .4 ∙ sym (q .4), p .5 ∙ sym (q .5))
-  answer-unique budget (Fault n k) (Spent m) ws us ks hs p q = absurd (end-not-spent k _ budget (q .0) us (p .1) (p .2) (q .2))
-  answer-unique budget (Spent n) (Fault m j) ws us ks hs p q = absurd (end-not-spent j _ budget (p .0) ws (q .1) (q .2) (p .2))
-  answer-unique budget (Ended x k) (Spent m) ws us ks hs p q = absurd (end-not-spent k _ budget (q .0) us (p .1) (p .2) (q .2))
-  answer-unique budget (Spent n) (Ended y j) ws us ks hs p q = absurd (end-not-spent j _ budget (p .0) ws (q .1) (q .2) (p .2))
-  answer-unique budget (Spent n) (Spent m) ws us ks hs p q =
+      let paid : t ≡ u = p .6 ∙ ap (ticks ps P vs input) (e .0) ∙ sym (q .6) in
+      (cc (f, e .0, paid), p .4 ∙ sym (q .4), p .5 ∙ sym (q .5))
+  answer-unique ps budget (Fault n k t) (Spent m u) ws us ks hs p q = absurd (end-not-spent k _ budget (q .0) us (p .1) (p .2) (q .2))
+  answer-unique ps budget (Spent n t) (Fault m j u) ws us ks hs p q = absurd (end-not-spent j _ budget (p .0) ws (q .1) (q .2) (p .2))
+  answer-unique ps budget (Ended x k t) (Spent m u) ws us ks hs p q = absurd (end-not-spent k _ budget (q .0) us (p .1) (p .2) (q .2))
+  answer-unique ps budget (Spent n t) (Ended y j u) ws us ks hs p q = absurd (end-not-spent j _ budget (p .0) ws (q .1) (q .2) (p .2))
+  answer-unique ps budget (Spent n t) (Spent m u) ws us ks hs p q =
       let e : before (p .0) ws ≡ before (q .0) us = sym (p .2) ∙ q .2 in
       let s : p .0 ≡ q .0 = cc in
       let f : n ≡ m = omega (arith, p .1, q .1) in
-      (ap Spent f, cc, p .3 ∙ sym (q .3))
+      (ap₂ Spent f (p .4 ∙ sym (q .4)), cc, p .3 ∙ sym (q .3))

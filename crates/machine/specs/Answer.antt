@@ -8,6 +8,7 @@ use mir.Val.{toZ}
 use Rattle.language.specs.Kept.{keptOf}
 use Rattle.language.specs.declared.Statement.{Statement}
 use Rattle.machine.specs.Machine.{Final, written, faulted, State, before, ended, after}
+use Rattle.machine.specs.Ticks.{ticks}
 use Rattle.machine.specs.declared.Next.{Next}
 use Rattle.machine.specs.declared.Next.the-variants.{Goto, Finish}
 use Rattle.machine.specs.declared.Next.the-variants as next
@@ -31,10 +32,12 @@ pub record Ends (P : List Statement) (vs : List ℕ) (input k : ℕ) (v : Final)
 
 -- "answers the value, signed, and the steps taken if it ends within them; otherwise it answers 'spent', with the statement and 32
 -- values after that many steps". ws are the values beside the answer: those, or else the starting ones. ks are the kept ones beside it:
--- those at the end where the run ended, else those of the start. Document 02: "'fault', the statement and the steps, that step counted"
-abbrev pub Answers : List Statement → List ℕ → ℕ → ℕ → Answer → List ℕ → List ℕ → Type 0
-Answers P vs input budget (Ended value steps) ws ks =
-    (v : ℕ) × Ends P vs input steps (written v ks) × (steps ≤ budget) × (value ≡ toZ w32 v) × (ws ≡ vs)
-Answers P vs input budget (Fault n steps) ws ks =
-    (s : ℕ) × Ends P vs input steps (faulted s) × (steps ≤ budget) × (n ≡ s + 1) × (ws ≡ vs) × (ks ≡ keptOf vs)
-Answers P vs input budget (Spent n) ws ks = (s : ℕ) × (n ≡ s + 1) × (after P vs input budget ≡ before s ws) × (ks ≡ keptOf vs)
+-- those at the end where the run ended, else those of the start. Document 02: "'fault', the statement and the steps, that step counted"; "A run's answer gains the
+-- ticks of the statements that it performed": t, under the table of prices ps
+abbrev pub Answers : List ℕ → List Statement → List ℕ → ℕ → ℕ → Answer → List ℕ → List ℕ → Type 0
+Answers ps P vs input budget (Ended value steps t) ws ks =
+    (v : ℕ) × Ends P vs input steps (written v ks) × (steps ≤ budget) × (value ≡ toZ w32 v) × (ws ≡ vs) × (t ≡ ticks ps P vs input steps)
+Answers ps P vs input budget (Fault n steps t) ws ks =
+    (s : ℕ) × Ends P vs input steps (faulted s) × (steps ≤ budget) × (n ≡ s + 1) × (ws ≡ vs) × (ks ≡ keptOf vs) × (t ≡ ticks ps P vs input steps)
+Answers ps P vs input budget (Spent n t) ws ks =
+    (s : ℕ) × (n ≡ s + 1) × (after P vs input budget ≡ before s ws) × (ks ≡ keptOf vs) × (t ≡ ticks ps P vs input budget)

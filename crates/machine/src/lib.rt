@@ -9,7 +9,7 @@ ghost use lib.Dec.{eqb};
 ghost use lib.Signed.{ltZ, quotZ};
 ghost use Rattle.language.specs.Spelling.{ValidOperand, ValidExpression, Valid};
 ghost use Rattle.program.specs.Program.{most, Targets, WellFormed};
-ghost use Rattle.program.specs.Reading.{statements};
+ghost use Rattle.program.specs.Reading.{statements, Held};
 ghost use Rattle.language.specs.Kept.{kept-count, keptOf};
 ghost use Rattle.machine.specs.Machine.{apply, faults, given as givenBy, operandValue, value, perform};
 ghost use Rattle.machine.specs.Answer.{stateOf, Answers};
@@ -19,6 +19,7 @@ use language::KEPT;
 use language::Operand;
 use language::Operator;
 use language::Statement;
+use pricing::KINDS;
 use program::Program;
 
 // One value for each variable.
@@ -38,11 +39,11 @@ pub enum Next {
 }
 
 // Ended: the value, signed, and the steps. Fault: the number of the statement that divides by zero, and the steps, that one counted. Spent: the
-// number of the statement that would be next.
+// number of the statement that would be next. Last in each: the ticks of the steps taken.
 pub enum Answer {
-    Ended(i32, u32),
-    Fault(u32, u32),
-    Spent(u32),
+    Ended(i32, u32, u64),
+    Fault(u32, u32, u64),
+    Spent(u32, u64),
 }
 
 // The values are those after the last step where the answer is `Spent`, else the starting ones. The kept ones are those at the end where the
@@ -229,33 +230,44 @@ pub fn kept_of(values: [u32; VALUES]) -> [u32; KEPT]
     kept
 }
 
-pub fn run(program: Program, start: [u32; VALUES], input: u32, budget: u32) -> Outcome
+// Runs the program for at most `budget` steps, each at its statement's price.
+pub fn run(
+    program: Program,
+    start: [u32; VALUES],
+    input: u32,
+    budget: u32,
+    table: [u32; KINDS],
+) -> Outcome
     requires { ⌜ WellFormed (statements program) ⌝ }
-    ensures { λ r. ⌜ Answers (statements program) start input budget (r .answer) (r .values) (r .kept) ⌝ }
+    requires { ⌜ Held program ⌝ }
+    ensures { λ r. ⌜ Answers table (statements program) start input budget (r .answer) (r .values) (r .kept) ⌝ }
 {
+    let prices = pricing::prices_of(program, &table);
     let mut values = start;
     let mut at: u32 = 0;
     let mut steps: u32 = 0;
+    let mut ticks: u64 = 0;
     while steps < budget {
         let i = at as usize;
         let e = program.entries[i];
         let s = e.statement;
         let next = step(s, at, input, &mut values);
         steps += 1;
+        ticks += prices[i] as u64;
         match next {
             Next::Goto(t) => {
                 at = t;
             }
             Next::Finish(v) => {
                 return Outcome {
-                    answer: Answer::Ended(signed(v), steps),
+                    answer: Answer::Ended(signed(v), steps, ticks),
                     values: start,
                     kept: kept_of(values),
                 };
             }
             Next::Fault(t) => {
                 return Outcome {
-                    answer: Answer::Fault(t + 1, steps),
+                    answer: Answer::Fault(t + 1, steps, ticks),
                     values: start,
                     kept: kept_of(start),
                 };
@@ -263,7 +275,7 @@ pub fn run(program: Program, start: [u32; VALUES], input: u32, budget: u32) -> O
         }
     }
     Outcome {
-        answer: Answer::Spent(at + 1),
+        answer: Answer::Spent(at + 1, ticks),
         values: values,
         kept: kept_of(start),
     }

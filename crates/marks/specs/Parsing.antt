@@ -1,17 +1,18 @@
 -- A proof device: what each reader of marks finds at the front of a text, the readers' common language. It promises nothing by itself:
 -- proofs/Spelling.antt holds it to the spelling, both ways round.
+use mathlib.Core.Bool.{Bool, true, false}
 use mathlib.Core.List.{List, [], _∷_}
 use Prim.Native.Nat.{ℕ}
+use lib.Dec.{eqb}
 use lib.ListN.{drop}
-use Rattle.base.specs.Bytes.{bytes}
+use Rattle.base.specs.Bytes.{byte}
+use Rattle.base.specs.Pick.{pick}
 use Rattle.language.specs.declared.Expression.{Expression}
-use Rattle.tokens.specs.Parsing.{Parsed, found, misspelled, after, either, parseWord, parseStatementNumber, parseVariable}
+use Rattle.tokens.specs.Parsing.{Parsed, found, misspelled, after, parseWord, parseStatementNumber, parseVariable}
 use Rattle.statement_reader.specs.Parsing.{parseOperand, parseExpression}
 use Rattle.marks.specs.Marks.{mark-word, rm-word, rpl-word, cse-word, comma-word}
 use Rattle.marks.specs.declared.Mark.{Mark}
 use Rattle.marks.specs.declared.Mark.the-variants.{Rm, Rpl, Cse}
-use Rattle.marks.specs.declared.read.ComputedRead.{ComputedRead}
-use Rattle.marks.specs.declared.read.ComputedRead.the-variants as computed
 use Rattle.marks.specs.declared.read.MarkRead.{MarkRead}
 use Rattle.marks.specs.declared.read.MarkRead.the-variants.{Found, Misspelled}
 
@@ -23,49 +24,49 @@ parseFront w l =
     after (parseWord comma-word u) λ _ v.
     found x v
 
--- the word w, a variable, `, `, what p reads, and `)`: the mark that f makes of them
+-- a mark's end: its `)` and its byte 10
+abbrev pub end-word : List ℕ
+end-word = byte ")" ∷ 10 ∷ []
+
+-- the word w, a variable, `, `, what p reads, and the end: the mark that f makes of them
 unfoldable pub parseTail : {A : Type 0} → List ℕ → (List ℕ → Parsed A) → (ℕ → A → Mark) → List ℕ → Parsed Mark
 parseTail w p f l =
     after (parseFront w l) λ x t.
     after (p t) λ a u.
-    after (parseWord (bytes ")") u) λ _ v.
+    after (parseWord end-word u) λ _ v.
     found (f x a) v
 
-abbrev pub parseRm : ℕ → List ℕ → Parsed Mark
-parseRm n l = parseTail rm-word parseExpression (Rm n) l
+-- the mark of a variable and an expression: a `cse` or an `rm`
+abbrev pub computedMark : Bool → ℕ → ℕ → Expression → Mark
+computedMark true n x e = Cse n x e
+computedMark false n x e = Rm n x e
+
+abbrev pub parseComputed : List ℕ → Bool → ℕ → List ℕ → Parsed Mark
+parseComputed w b n l = parseTail w parseExpression (computedMark b n) l
 
 abbrev pub parseRpl : ℕ → List ℕ → Parsed Mark
 parseRpl n l = parseTail rpl-word parseOperand (Rpl n) l
 
-abbrev pub parseCse : ℕ → List ℕ → Parsed Mark
-parseCse n l = parseTail cse-word parseExpression (Cse n) l
+-- a mark on statement n by the second byte of its kind: `rm`, `rpl` or `cse`
+abbrev pub bySecond : ℕ → ℕ → List ℕ → Parsed Mark
+bySecond c n l = pick (eqb c (byte "m")) (parseComputed rm-word false n l) (pick (eqb c (byte "p")) (parseRpl n l) (parseComputed cse-word true n l))
 
-unfoldable pub parseMark : List ℕ → Parsed Mark
-parseMark l =
-    after (parseStatementNumber l) λ n t.
-    after (parseWord mark-word t) λ _ u.
-    either (parseRm n u) (either (parseRpl n u) (parseCse n u))
+unfoldable pub parseKind : ℕ → List ℕ → Parsed Mark
+parseKind n [] = misspelled
+parseKind n (a ∷ []) = misspelled
+parseKind n (a ∷ c ∷ l) = bySecond c n (a ∷ c ∷ l)
 
 -- a mark with its byte 10
 unfoldable pub parseMarkLine : List ℕ → Parsed Mark
 parseMarkLine l =
-    after (parseMark l) λ m t.
-    after (parseWord (10 ∷ []) t) λ _ u.
-    found m u
+    after (parseStatementNumber l) λ n t.
+    after (parseWord mark-word t) λ _ u.
+    parseKind n u
 
 -- what a reader's answer says of the text
 abbrev pub parsedMark : List ℕ → MarkRead → Parsed Mark
 parsedMark s (Found m k) = found m (drop k s)
 parsedMark s Misspelled = misspelled
-
--- the same of a reader of a variable and an expression, and the mark that f makes of them
-abbrev pub parsedComputed : List ℕ → (ℕ → Expression → Mark) → ComputedRead → Parsed Mark
-parsedComputed s f (computed.Found x e k) = found (f x e) (drop k s)
-parsedComputed s f computed.Misspelled = misspelled
-
-abbrev pub computedEnd : ComputedRead → ℕ
-computedEnd (computed.Found x e k) = k
-computedEnd computed.Misspelled = 0
 
 -- the position after the mark
 abbrev pub markEnd : MarkRead → ℕ

@@ -1,20 +1,17 @@
 // The readers of marks: each takes what stands at a position of a text, and answers the position after it.
 ghost use mathlib.Core.Path.{_≡_};
 ghost use mathlib.Core.List.{List};
-ghost use Prim.Native.Nat.{ℕ, _≤_};
+ghost use Prim.Native.Nat.{_≤_};
 ghost use lib.ListN.{length, drop};
-ghost use Rattle.tokens.specs.Parsing.{parsedVariable, variableEnd};
-ghost use Rattle.language.specs.declared.Expression.{Expression as ExpressionOf};
-ghost use Rattle.statement_reader.specs.Parsing.{parseExpression};
+ghost use Rattle.tokens.specs.Parsing.{parseWord, parsedWord, wordEnd, parsedVariable, variableEnd};
 ghost use Rattle.marks.specs.Reading.{beginOf, Taken, MarkLineRead, ListRead, SpanRead};
 ghost use Rattle.marks.specs.declared.Mark.{Mark as MarkOf};
-ghost use Rattle.marks.specs.Parsing.{parseFront, parseTail, parseRm, parseRpl, parseCse, parseMark, parseMarkLine, parsedMark, parsedComputed, computedEnd, markEnd};
+ghost use Rattle.marks.specs.Parsing.{parseFront, end-word, parseComputed, parseRpl, parseKind, parseMarkLine, parsedMark, markEnd};
 use crate::Checked;
 use crate::MOST;
 use crate::Mark;
 use crate::Refusal;
 use crate::Span;
-use language::Expression;
 use statement_reader::ExpressionRead;
 use statement_reader::OperandRead;
 use tokens::NumberRead;
@@ -23,12 +20,6 @@ use tokens::WordRead;
 
 pub enum MarkRead {
     Found(Mark, usize),
-    Misspelled,
-}
-
-// A variable and an expression.
-pub enum ComputedRead {
-    Found(u8, Expression, usize),
     Misspelled,
 }
 
@@ -49,43 +40,32 @@ fn front(s: &[u8], at: usize, w: &[u8]) -> VariableRead
     VariableRead::Found(x, k2)
 }
 
-// The word w, the variable, `, `, the expression and `)`.
-fn computed(s: &[u8], at: usize, w: &[u8]) -> ComputedRead
-    ensures { λ r. ⌜ ((f : ℕ → ExpressionOf → MarkOf) → parsedComputed (now (s .entry)) f r ≡ parseTail (now (w .entry)) parseExpression f (drop at (now (s .entry)))) ⌝ }
-    ensures { λ r. ⌜ computedEnd r ≤ length (now (s .entry)) ⌝ }
+// The `)` and the byte 10 at the end of a mark's line.
+fn ended(s: &[u8], at: usize) -> WordRead
+    ensures { λ r. ⌜ parsedWord (now (s .entry)) r ≡ parseWord end-word (drop at (now (s .entry))) ⌝ }
+    ensures { λ r. ⌜ wordEnd r ≤ length (now (s .entry)) ⌝ }
+{
+    tokens::word(s, at, b")\n")
+}
+
+// `rm, X, E)` or, where it computes again, `cse, T, E)` of a mark on statement n: its word is w.
+fn computed(s: &[u8], at: usize, w: &[u8], n: u32, again: bool) -> MarkRead
+    ensures { λ r. ⌜ parsedMark (now (s .entry)) r ≡ parseComputed (now (w .entry)) again n (drop at (now (s .entry))) ⌝ }
+    ensures { λ r. ⌜ markEnd r ≤ length (now (s .entry)) ⌝ }
 {
     let VariableRead::Found(x, k) = front(s, at, w) else {
-        return ComputedRead::Misspelled;
+        return MarkRead::Misspelled;
     };
     let ExpressionRead::Found(e, k1) = statement_reader::expression(s, k) else {
-        return ComputedRead::Misspelled;
-    };
-    let WordRead::Found(k2) = tokens::word(s, k1, b")") else {
-        return ComputedRead::Misspelled;
-    };
-    ComputedRead::Found(x, e, k2)
-}
-
-// `rm, X, E)` of a mark on statement n.
-fn rm(s: &[u8], at: usize, n: u32) -> MarkRead
-    ensures { λ r. ⌜ parsedMark (now (s .entry)) r ≡ parseRm n (drop at (now (s .entry))) ⌝ }
-    ensures { λ r. ⌜ markEnd r ≤ length (now (s .entry)) ⌝ }
-{
-    let ComputedRead::Found(x, e, k) = computed(s, at, b"rm, ") else {
         return MarkRead::Misspelled;
     };
-    MarkRead::Found(Mark::Rm(n, x, e), k)
-}
-
-// `cse, T, E)` of a mark on statement n.
-fn cse(s: &[u8], at: usize, n: u32) -> MarkRead
-    ensures { λ r. ⌜ parsedMark (now (s .entry)) r ≡ parseCse n (drop at (now (s .entry))) ⌝ }
-    ensures { λ r. ⌜ markEnd r ≤ length (now (s .entry)) ⌝ }
-{
-    let ComputedRead::Found(t, e, k) = computed(s, at, b"cse, ") else {
+    let WordRead::Found(k2) = ended(s, k1) else {
         return MarkRead::Misspelled;
     };
-    MarkRead::Found(Mark::Cse(n, t, e), k)
+    if again {
+        return MarkRead::Found(Mark::Cse(n, x, e), k2);
+    }
+    MarkRead::Found(Mark::Rm(n, x, e), k2)
 }
 
 // `rpl, X, A)` of a mark on statement n.
@@ -99,14 +79,32 @@ fn rpl(s: &[u8], at: usize, n: u32) -> MarkRead
     let OperandRead::Found(a, k1) = statement_reader::operand(s, k) else {
         return MarkRead::Misspelled;
     };
-    let WordRead::Found(k2) = tokens::word(s, k1, b")") else {
+    let WordRead::Found(k2) = ended(s, k1) else {
         return MarkRead::Misspelled;
     };
     MarkRead::Found(Mark::Rpl(n, x, a), k2)
 }
 
+// What follows `mark(` of a mark on statement n, by the second byte of its kind.
+fn kind(s: &[u8], at: usize, n: u32) -> MarkRead
+    requires { ⌜ at ≤ length (now s) ⌝ }
+    ensures { λ r. ⌜ parsedMark (now (s .entry)) r ≡ parseKind n (drop at (now (s .entry))) ⌝ }
+    ensures { λ r. ⌜ markEnd r ≤ length (now (s .entry)) ⌝ }
+{
+    if s.len() - at < 2 {
+        return MarkRead::Misspelled;
+    }
+    let c = s[at + 1];
+    match c {
+        b'm' => computed(s, at, b"rm, ", n, false),
+        b'p' => rpl(s, at, n),
+        _ => computed(s, at, b"cse, ", n, true),
+    }
+}
+
+// A mark and its byte 10.
 fn mark(s: &[u8], at: usize) -> MarkRead
-    ensures { λ r. ⌜ parsedMark (now (s .entry)) r ≡ parseMark (drop at (now (s .entry))) ⌝ }
+    ensures { λ r. ⌜ parsedMark (now (s .entry)) r ≡ parseMarkLine (drop at (now (s .entry))) ⌝ }
     ensures { λ r. ⌜ markEnd r ≤ length (now (s .entry)) ⌝ }
 {
     let NumberRead::Found(n, k) = tokens::statement_number(s, at) else {
@@ -115,34 +113,14 @@ fn mark(s: &[u8], at: usize) -> MarkRead
     let WordRead::Found(k1) = tokens::word(s, k, b": mark(") else {
         return MarkRead::Misspelled;
     };
-    let MarkRead::Found(m, k2) = rm(s, k1, n) else {
-        let MarkRead::Found(o, k3) = rpl(s, k1, n) else {
-            return cse(s, k1, n);
-        };
-        return MarkRead::Found(o, k3);
-    };
-    MarkRead::Found(m, k2)
-}
-
-// A mark and its byte 10.
-fn ended_mark(s: &[u8], at: usize) -> MarkRead
-    ensures { λ r. ⌜ parsedMark (now (s .entry)) r ≡ parseMarkLine (drop at (now (s .entry))) ⌝ }
-    ensures { λ r. ⌜ markEnd r ≤ length (now (s .entry)) ⌝ }
-{
-    let MarkRead::Found(m, k) = mark(s, at) else {
-        return MarkRead::Misspelled;
-    };
-    let WordRead::Found(k1) = tokens::word(s, k, b"\n") else {
-        return MarkRead::Misspelled;
-    };
-    MarkRead::Found(m, k1)
+    kind(s, k1, n)
 }
 
 // The line at the position: the valid mark that it spells and the position after its byte 10, or that it spells none.
 pub fn line(s: &[u8], at: usize) -> MarkRead
     ensures { λ r. ⌜ MarkLineRead (now (s .entry)) at r ⌝ }
 {
-    ended_mark(s, at)
+    mark(s, at)
 }
 
 // The number of marks that the text lists, or the first refusal that applies: every line is read, also beyond 256.

@@ -30,9 +30,9 @@ valueLines (suc n) vs = valueLines n vs ++ (valueText n (getD vs n 0) ++ 10 ∷ 
 
 -- the values are told with 'spent'
 unfoldable pub answerValues : Answer → List ℕ → List ℕ
-answerValues (Ended v k) ws = []
-answerValues (Fault n k) ws = []
-answerValues (Spent n) ws = valueLines variables ws
+answerValues (Ended v k t) ws = []
+answerValues (Fault n k t) ws = []
+answerValues (Spent n t) ws = valueLines variables ws
 
 -- how a run that isn't refused went, with the values ws and the kept ones ks beside the answer
 unfoldable pub answerText : Answer → List ℕ → List ℕ → List ℕ

@@ -45,9 +45,9 @@ fn answer_text(out: &mut [u8], a: Answer, values: &[u32; VALUES], kept: &[u32; K
 {
     let k = answer_line::write(out, 0, a, kept);
     match a {
-        Answer::Ended(_, _) => k,
-        Answer::Fault(_, _) => k,
-        Answer::Spent(_) => value_lines(out, k, values),
+        Answer::Ended(_, _, _) => k,
+        Answer::Fault(_, _, _) => k,
+        Answer::Spent(_, _) => value_lines(out, k, values),
     }
 }
 

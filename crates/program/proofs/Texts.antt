@@ -10,11 +10,14 @@ use lib.Seq.{take-all, take-suc-set, take-append-le}
 use Rattle.lines.specs.Lines.{LineOf, NoLine}
 use Rattle.lines.proofs.Texts.{Unambiguous}
 use Rattle.language.specs.Spelling.{spell, Valid}
-use Rattle.statement_reader.specs.Reading.{LineRead}
+use Rattle.tokens.specs.Parsing.{parseWord, parsedWord, wordEnd}
+use Rattle.tokens.specs.declared.WordRead.{WordRead}
+use Rattle.tokens.specs.declared.WordRead.the-variants as word
+use Rattle.statement_reader.specs.Parsing.{parsedStatement, parseStatement, parseLine}
 use Rattle.language.specs.declared.Statement.{Statement}
 use Rattle.statement_reader.specs.declared.StatementRead.{StatementRead}
 use Rattle.statement_reader.specs.declared.StatementRead.the-variants.{Found, Misspelled}
-use Rattle.statement_reader.proofs.Lines.{line-unique}
+use Rattle.statement_reader.proofs.Lines.{line-unique, line-right}
 use Rattle.program.specs.declared.Entry.{Entry}
 use Rattle.program.specs.declared.Refusal.{Refusal}
 use Rattle.program.specs.Program.{Spells, fewest, most, Counted, Placed, Aimed, Taken}
@@ -25,12 +28,20 @@ use Rattle.program.proofs.Held.{statements-entries}
 pub statements-unambiguous : Unambiguous spell Valid
 statements-unambiguous = record { same = line-unique }
 
--- what the reader of a line told
-pub line-of : {t : List ℕ} {at : ℕ} {r : StatementRead} {s : Statement} {k : ℕ} → r ≡ Found s k → LineRead t at r → LineOf spell Valid t at s k
-line-of is l = rw is at l
+-- what the readers of a statement and of its byte 10 told
+module _ (t : List ℕ) (at : ℕ) {r : StatementRead} (told : parsedStatement t r ≡ parseStatement (drop at t)) where
+  pub no-statement : r ≡ Misspelled → NoLine spell Valid (drop at t)
+  unfolding parseLine
+  no-statement is = line-right t at Misspelled (omega arith) (rw (← told, is))
 
-pub no-line : (t : List ℕ) (at : ℕ) {r : StatementRead} → r ≡ Misspelled → LineRead t at r → NoLine spell Valid (drop at t)
-no-line t at is l = rw is at l
+  module _ {e : Statement} {k : ℕ} (is : r ≡ Found e k) {w : WordRead} (ended : parsedWord t w ≡ parseWord (10 ∷ []) (drop k t)) where
+    pub no-end : w ≡ word.Misspelled → NoLine spell Valid (drop at t)
+    unfolding parseLine
+    no-end nothing = line-right t at Misspelled (omega arith) (rw (← told, is, ← ended, nothing))
+
+    pub line-of : {j : ℕ} → w ≡ word.Found j → wordEnd w ≤ length t → LineOf spell Valid t at e j
+    unfolding parseLine
+    line-of {j} ends h = line-right t at (Found e j) (rw ends at h) (rw (← told, is, ← ended, ends))
 
 map-append : (P Q : List Statement) → map entry (P ++ Q) ≡ map entry P ++ map entry Q
 map-append [] Q = refl

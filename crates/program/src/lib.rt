@@ -1,13 +1,15 @@
 // Programs: a text read whole, with refusals 2 to 5, and a program written back.
 ghost use mathlib.Core.Path.{_≡_};
+ghost use mathlib.Core.Bool.{false};
 ghost use Prim.Native.Nat.{_≤_, _+_};
 ghost use lib.ListN.{length, replicate};
-ghost use Rattle.program.specs.Program.{text, most, Inner, InPlace, Placed, IsTarget, Targets, Aimed};
+ghost use Rattle.program.specs.Program.{text, most, Inner, InPlace, IsTarget, Targets};
 ghost use Rattle.base.specs.Decides.{Decides};
 ghost use Rattle.program.specs.Reading.{entry, statements, Held, LinesRead, ProgramRead, number};
 ghost use Rattle.statement_writer.specs.Writing.{Put};
 use language::Statement;
 use statement_reader::StatementRead;
+use tokens::WordRead;
 
 // A program has 2 to 256 statements.
 pub const FEWEST: usize = 2;
@@ -66,6 +68,17 @@ fn blank() -> [Entry; MOST]
     }; MOST]
 }
 
+// What is told of a text with a misspelled line, however many lines stand before it.
+fn misspelled(before: usize, entries: [Entry; MOST]) -> Lines
+    ensures { λ r. ⌜ r .spelled ≡ false ⌝ }
+{
+    Lines {
+        spelled: false,
+        count: before,
+        entries: entries,
+    }
+}
+
 // Every line is read, also beyond the 256 that are kept.
 fn read_lines(s: &[u8]) -> Lines
     ensures { λ r. ⌜ LinesRead (now (s .entry)) (r .spelled) (r .count) (r .entries) ⌝ }
@@ -74,18 +87,17 @@ fn read_lines(s: &[u8]) -> Lines
     let mut count: usize = 0;
     let mut at: usize = 0;
     while at < s.len() {
-        let StatementRead::Found(e, k) = statement_reader::line(s, at) else {
-            return Lines {
-                spelled: false,
-                count: 0,
-                entries: entries,
-            };
+        let StatementRead::Found(e, k) = statement_reader::statement(s, at) else {
+            return misspelled(count, entries);
+        };
+        let WordRead::Found(next) = tokens::word(s, k, b"\n") else {
+            return misspelled(count, entries);
         };
         if count < MOST {
             entries[count] = Entry { statement: e };
         }
         count += 1;
-        at = k;
+        at = next;
     }
     Lines {
         spelled: true,
@@ -130,24 +142,6 @@ pub fn in_place(e: Statement, s: usize, n: usize) -> bool
     }
 }
 
-fn all_in_place(p: Program) -> bool
-    requires { ⌜ Held p ⌝ }
-    ensures { λ r. ⌜ Decides r (Placed (statements p)) ⌝ }
-{
-    let entries = p.entries;
-    let n = p.count;
-    let mut s: usize = 0;
-    while s < n {
-        let e = entries[s];
-        let t = e.statement;
-        if !in_place(t, s, n) {
-            return false;
-        }
-        s += 1;
-    }
-    true
-}
-
 fn is_target(t: u32, n: usize) -> bool
     ensures { λ r. ⌜ Decides r (IsTarget n t) ⌝ }
 {
@@ -175,67 +169,61 @@ pub fn is_aimed(e: Statement, n: usize) -> bool
     }
 }
 
-fn all_aimed(p: Program) -> bool
-    requires { ⌜ Held p ⌝ }
-    ensures { λ r. ⌜ Decides r (Aimed (statements p)) ⌝ }
-{
-    let entries = p.entries;
-    let n = p.count;
-    let mut s: usize = 0;
-    while s < n {
-        let e = entries[s];
-        let t = e.statement;
-        if !is_aimed(t, n) {
-            return false;
-        }
-        s += 1;
-    }
-    true
-}
-
 // A refusal, beside a program without statements.
-fn refused(r: Refusal) -> Reading
+fn refused(r: Refusal, entries: [Entry; MOST]) -> Reading
     ensures { λ q. ⌜ q .answer ≡ Answer.Refused r ⌝ }
     ensures { λ q. ⌜ q .program .count ≡ 0 ⌝ }
 {
     Reading {
         answer: Answer::Refused(r),
         program: Program {
-            entries: blank(),
+            entries: entries,
             count: 0,
         },
     }
 }
 
-// The program whose lines the text is, or the first refusal that applies.
+// The program whose lines the text is, or the first refusal that applies. Placements and targets are looked at here, where the entries are:
+// lent to a function they would be copied.
 pub fn read(s: &[u8]) -> Reading
     ensures { λ r. ⌜ ProgramRead (now (s .entry)) (r .answer) (r .program) ⌝ }
 {
     let lines = read_lines(s);
     let entries = lines.entries;
     let count = lines.count;
-    let p = Program {
-        entries: entries,
-        count: count,
-    };
     if !lines.spelled {
-        return refused(Refusal::Misspelled);
+        return refused(Refusal::Misspelled, entries);
     }
     if count < FEWEST {
-        return refused(Refusal::LineCount);
+        return refused(Refusal::LineCount, entries);
     }
     if MOST < count {
-        return refused(Refusal::LineCount);
+        return refused(Refusal::LineCount, entries);
     }
-    if !all_in_place(p) {
-        return refused(Refusal::Placement);
+    let mut i: usize = 0;
+    while i < count {
+        let e = entries[i];
+        let t = e.statement;
+        if !in_place(t, i, count) {
+            return refused(Refusal::Placement, entries);
+        }
+        i += 1;
     }
-    if !all_aimed(p) {
-        return refused(Refusal::Target);
+    let mut j: usize = 0;
+    while j < count {
+        let e = entries[j];
+        let t = e.statement;
+        if !is_aimed(t, count) {
+            return refused(Refusal::Target, entries);
+        }
+        j += 1;
     }
     Reading {
         answer: Answer::Taken,
-        program: p,
+        program: Program {
+            entries: entries,
+            count: count,
+        },
     }
 }
 
@@ -256,12 +244,11 @@ pub fn write(p: Program, out: &mut [u8]) -> usize
     requires { ⌜ length (text (statements p)) ≤ length (now out) ⌝ }
     ensures { λ r. ⌜ Put (now (out .entry)) 0 (text (statements p)) (now (out .exit)) r ⌝ }
 {
-    let entries = p.entries;
     let n = p.count;
     let mut at: usize = 0;
     let mut s: usize = 0;
     while s < n {
-        let e = entries[s];
+        let e = p.entries[s];
         let t = e.statement;
         at = statement_writer::line(out, at, t);
         s += 1;

@@ -18,22 +18,33 @@ use Rattle.condition.specs.Texts.{Taken}
 use Rattle.marks.specs.Marks.{ValidMark}
 use Rattle.marks.specs.declared.Mark.{Mark}
 use Rattle.marks.specs.declared.Mark.the-variants.{Rm, Rpl, Cse}
-use Rattle.lockstep.specs.Rules.{unneeded, copiedBefore, computedBefore, published}
-use Rattle.published.specs.Published.{sureText, published-room, published-most}
+use Rattle.lockstep.specs.Rules.{live, unneeded, copiedBefore, computedBefore, published}
+use Rattle.published.specs.Published.{sureText, published-room, live-room, published-most}
 
--- the words between the variables: `!EX E[!def(`, `) U use(`, `)]`
-abbrev pub unneeded-open : List ℕ
-unneeded-open = 33 ∷ 69 ∷ 88 ∷ 32 ∷ 69 ∷ 91 ∷ 33 ∷ 100 ∷ 101 ∷ 102 ∷ 40 ∷ []
+-- the words around the variables: `E[!def(`, `) U use(`, `)]`
+abbrev pub live-open : List ℕ
+live-open = bytes "E[!def("
 
 abbrev pub until-use : List ℕ
-until-use = 41 ∷ 32 ∷ 85 ∷ 32 ∷ 117 ∷ 115 ∷ 101 ∷ 40 ∷ []
+until-use = bytes ") U use("
 
 abbrev pub close : List ℕ
-close = 41 ∷ 93 ∷ []
+close = bytes ")]"
 
-pub unneeded-text : (x : ℕ) → spellCondition (unneeded x) ≡ unneeded-open ++ (spellVariable x ++ (until-use ++ (spellVariable x ++ close)))
+pub live-text : (x : ℕ) → spellCondition (live x) ≡ live-open ++ (spellVariable x ++ (until-use ++ (spellVariable x ++ close)))
+unfolding spellCondition spellAtom
+live-text x = simp append-assoc
+
+-- `!EX `
+abbrev pub not-next : List ℕ
+not-next = bytes "!EX "
+
+pub unneeded-text : (x : ℕ) → spellCondition (unneeded x) ≡ not-next ++ spellCondition (live x)
 unfolding spellCondition spellAtom
 unneeded-text x = simp append-assoc
+
+pub live-short : (x : ℕ) → ValidVariable x → length (spellCondition (live x)) ≤ live-room
+live-short x v = let l = variable-most x v in rw (live-text x) (simp length-append (omega arith))
 
 -- `stmt(`; `(stmt(`, `) & trans(`, `))]`
 abbrev pub stmt-open : List ℕ
@@ -77,7 +88,7 @@ published-parts (Rpl n x a) = omega arith
 published-parts (Cse n t e) = omega arith
 
 pub published-short : (m : Mark) → ValidMark m → length (spellCondition (published m)) ≤ published-room
-published-short (Rm n x e) v = let l = variable-most x (v .1) in rw (unneeded-text x) (simp length-append (omega arith))
+published-short (Rm n x e) v = let l = live-short x (v .1) in rw (unneeded-text x) (simp length-append (omega arith))
 published-short (Rpl n x a) v =
     let l = lengths-most x (Single a) (v .1) (v .2) in
     rw (copied-text x a) (simp length-append (omega arith))

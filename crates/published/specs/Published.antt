@@ -1,9 +1,10 @@
--- Proof devices: the front that two published conditions share, the room for a published condition's text, the code's PUBLISHED_ROOM, and
--- the most parts that one has. No sentence of document 01 stands here.
+-- Proof devices: the front that two published conditions share, the room for a published condition's text and for that of a variable's
+-- liveness, the code's PUBLISHED_ROOM and LIVE_ROOM, and the most parts that one has. No sentence of document 01 stands here.
 use mathlib.Core.List.{List, _++_}
 use Prim.Native.Nat.{ℕ, _+_}
 use Rattle.base.specs.Bytes.{bytes}
 use Rattle.language.specs.Spelling.{spellVariable, spellExpression}
+use Rattle.language.specs.Room.{variable-room}
 use Rattle.language.specs.declared.Expression.{Expression}
 
 -- `AY A[((!def(X) & trans(E)) & !entry) B `
@@ -12,6 +13,10 @@ sureText x e = bytes "AY A[((!def(" ++ (spellVariable x ++ (bytes ") & trans(" +
 
 abbrev pub published-room : ℕ
 published-room = 160
+
+-- `E[!def(X) U use(X)]`
+abbrev pub live-room : ℕ
+live-room = 7 + (variable-room + (8 + (variable-room + 2)))
 
 -- those of `AY A[((!def(T) & trans(E)) & !entry) B (stmt(T := E) & trans(E))]`
 abbrev pub published-most : ℕ

@@ -13,11 +13,9 @@ use Rattle.truth.specs.Truth.{SatBy}
 use Rattle.table.specs.Table.{part-words}
 use Rattle.marks.specs.declared.Mark.{Mark}
 use Rattle.lockstep.specs.Rules.{published}
+use Rattle.published.specs.Published.{published-most}
 
--- the parts of a published condition and their words, the code's PUBLISHED_PARTS and PUBLISHED_WORDS
-abbrev pub published-most : ℕ
-published-most = 12
-
+-- the words of a published condition's parts, the code's PUBLISHED_WORDS
 abbrev pub published-words : ℕ
 published-words = part-words * published-most
 

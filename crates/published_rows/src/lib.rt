@@ -39,7 +39,7 @@ fn blank_rows() -> [u64; PUBLISHED_WORDS]
 
 // The places at which the condition with this text is true, of the n statements that the facts and the graph are of, variables used as
 // the rows have it: it is read and tabulated as any other.
-fn row_of(
+pub fn row_of(
     text: &[u8],
     n: usize,
     rows: &[u64],

@@ -1,4 +1,4 @@
--- A report has room in report-room bytes, whatever the program and the list. Assumes nothing.
+-- The counts, the verdicts and the new text have room in judged-room bytes, whatever the program and the list. Assumes nothing.
 use mathlib.Core.Path.{_≡_}
 use mathlib.Core.List.{List, [], _∷_}
 use Prim.Native.Nat.{ℕ, suc, _+_, _*_, _^_, _≤_, _<_}
@@ -19,7 +19,7 @@ use Rattle.rewriting.specs.declared.Verdict.{Verdict}
 use Rattle.rewriting.specs.declared.Verdict.the-variants.{Accepted, Missing, Repeated, Unfit, MayFault, Unmet}
 use Rattle.rewriting.specs.Verdicts.{number, Verdicts, acceptedCount}
 use Rattle.judge.specs.Judge.{text-bytes}
-use Rattle.report.specs.Report.{countsLine, verdictLine, verdictLines, reportText, count-digits, verdict-digits, counts-room, verdict-room, report-room}
+use Rattle.report.specs.Report.{countsLine, verdictLine, verdictLines, judgedText, count-digits, verdict-digits, counts-room, verdict-room, judged-room}
 use Rattle.report.proofs.Lines.{counts-length, verdict-length}
 
 counts-most : (m a : ℕ) → m ≤ most → a ≤ m → length (countsLine m a) ≤ counts-room
@@ -49,10 +49,10 @@ number-small Unfit = omega arith
 number-small MayFault = omega arith
 number-small Unmet = omega arith
 
-pub report-most : (P : List Statement) (ms : List Mark) (vs : List ℕ) (Q : List Statement) {u : List ℕ} → Taken u ms → Verdicts P ms vs → length (text Q) ≤ text-bytes
-    → length (reportText ms vs Q) ≤ report-room
-unfolding reportText
-report-most P ms vs Q t j q =
+pub judged-most : (P : List Statement) (ms : List Mark) (vs : List ℕ) (Q : List Statement) {u : List ℕ} → Taken u ms → Verdicts P ms vs → length (text Q) ≤ text-bytes
+    → length (judgedText ms vs Q) ≤ judged-room
+unfolding judgedText
+judged-most P ms vs Q t j q =
     let a = counts-most (length ms) (acceptedCount ms vs) (t .few) (count-le (λ i. eqb (getD vs i 0) 0) (length ms)) in
     let b = verdicts-most ms vs (t .spells .valid) (λ i h. let e = j i h in rw (e .2) (number-small (e .0))) in
     simp length-append (omega (arith, t .few, q))

@@ -1,5 +1,5 @@
 -- What is printed for a program and a list is one text only. Assumes nothing.
-use mathlib.Core.Path.{_≡_, refl, ap, sym, _∙_}
+use mathlib.Core.Path.{_≡_, refl, ap, ap₂, sym, _∙_}
 use mathlib.Core.Logic.{inl, inr}
 use mathlib.Core.List.{List, [], _∷_}
 use Prim.Native.Nat.{ℕ, suc, _+_, _<_}
@@ -16,7 +16,7 @@ use Rattle.marks.specs.declared.Mark.{Mark}
 use Rattle.marks.proofs.Lists as marks-lists
 use Rattle.rewriting.specs.Verdicts.{Verdicts, Rewritten}
 use Rattle.rewriting.proofs.Unique.{verdicts-agree, accepted-agree, rewritten-agree}
-use Rattle.report.specs.Report.{refusedLine, verdictLines, reportText, Refuses, PrintsReport, Output}
+use Rattle.report.specs.Report.{refusedLine, verdictLines, judgedText, reportText, Refuses, PrintsReport, Output}
 
 module _ (t u : List ℕ) where
   refuses-unique : {n k : ℕ} → Refuses t u n → Refuses t u k → n ≡ k
@@ -38,8 +38,8 @@ lines-agree (m ∷ ms) vs us h =
     rw (h 0 (omega arith), rest)
 
 module _ (P : List Statement) (ms : List Mark) (vs us : List ℕ) (a : Verdicts P ms vs) (b : Verdicts P ms us) where
-  report-agree : {Q R : List Statement} → Rewritten P ms vs Q → Rewritten P ms us R → reportText ms vs Q ≡ reportText ms us R
-  unfolding reportText
+  report-agree : {Q R : List Statement} → Rewritten P ms vs Q → Rewritten P ms us R → reportText ms vs P Q ≡ reportText ms us P R
+  unfolding reportText judgedText
   report-agree q r = rw (accepted-agree P ms vs us a b, lines-agree ms vs us (verdicts-agree P ms vs us a b), rewritten-agree P ms vs us a b q r)
 
 report-unique : {t u w x : List ℕ} → PrintsReport t u w → PrintsReport t u x → w ≡ x
@@ -48,7 +48,8 @@ report-unique a b =
     let m = marks-lists.taken-unique (b .marks) (a .marks) in
     let judged : Verdicts (a .P) (a .ms) (b .vs) = rw (← p, ← m) (b .judged) in
     let rewritten : Rewritten (a .P) (a .ms) (b .vs) (b .Q) = rw (← p, ← m) (b .rewritten) in
-    a .lines ∙ report-agree (a .P) (a .ms) (a .vs) (b .vs) (a .judged) judged (a .rewritten) rewritten ∙ ap (λ (ms : List Mark). reportText ms (b .vs) (b .Q)) (sym m) ∙ sym (b .lines)
+    a .lines ∙ report-agree (a .P) (a .ms) (a .vs) (b .vs) (a .judged) judged (a .rewritten) rewritten
+    ∙ ap₂ (λ (ms : List Mark) (P : List Statement). reportText ms (b .vs) P (b .Q)) (sym m) (sym p) ∙ sym (b .lines)
 
 pub output-unique : (t u : List ℕ) {w x : List ℕ} → Output t u w → Output t u x → w ≡ x
 output-unique t u (inl a) (inl b) = a .line ∙ ap refusedLine (refuses-unique t u (a .refuses) (b .refuses)) ∙ sym (b .line)

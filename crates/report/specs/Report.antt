@@ -18,6 +18,8 @@ use Rattle.marks.specs.declared.Mark.{Mark}
 use Rattle.marks.specs.declared.Refusal as marks-refusal
 use Rattle.rewriting.specs.Verdicts.{Verdicts, acceptedCount, Rewritten}
 use Rattle.judge.specs.Judge.{text-bytes}
+use Rattle.pricing.specs.Prices.{ours}
+use Rattle.price_text.specs.PriceText.{priceText, price-text-room}
 use Rattle.report.specs.declared.Reported.{Reported}
 use Rattle.report.specs.declared.Reported.the-variants.{Written, Refused, NoRoom}
 
@@ -47,8 +49,12 @@ verdictLines [] vs = []
 verdictLines (m ∷ ms) vs = verdictLine (names m) (getD vs 0 0) ++ verdictLines ms (drop 1 vs)
 
 -- "It prints the counts, each mark's statement and verdict, then the new program"
-unfoldable pub reportText : List Mark → List ℕ → List Statement → List ℕ
-reportText ms vs Q = countsLine (length ms) (acceptedCount ms vs) ++ (verdictLines ms vs ++ text Q)
+unfoldable pub judgedText : List Mark → List ℕ → List Statement → List ℕ
+judgedText ms vs Q = countsLine (length ms) (acceptedCount ms vs) ++ (verdictLines ms vs ++ text Q)
+
+-- document 02: "The check program prints it after the new program", by our prices
+unfoldable pub reportText : List Mark → List ℕ → List Statement → List Statement → List ℕ
+reportText ms vs P Q = judgedText ms vs Q ++ priceText ours P Q
 
 -- "Order: .. 2 to 5, then .. 9 and 10": the number of the first that applies to the program text t and the marks text u
 abbrev pub Refuses : List ℕ → List ℕ → ℕ → Type 0
@@ -72,7 +78,7 @@ pub record PrintsReport (t u w : List ℕ) : Type 0 where
   pub marks : marks.Taken u ms
   pub judged : Verdicts P ms vs
   pub rewritten : Rewritten P ms vs Q
-  pub lines : w ≡ reportText ms vs Q
+  pub lines : w ≡ reportText ms vs P Q
 
 -- w is what the check program prints for the program text t and the marks text u
 abbrev pub Output : List ℕ → List ℕ → List ℕ → Type 0
@@ -92,9 +98,12 @@ counts-room = 6 + (count-digits + (10 + (count-digits + 1)))
 abbrev pub verdict-room : ℕ
 verdict-room = number-digits + (1 + (verdict-digits + 1))
 
--- room for every output: the counts, a line for each mark, and the new text
+-- room for the counts, a line for each mark, and the new text; and for every output, the prices after them
+abbrev pub judged-room : ℕ
+judged-room = counts-room + (marks.most * verdict-room + text-bytes)
+
 abbrev pub report-room : ℕ
-report-room = counts-room + (marks.most * verdict-room + text-bytes)
+report-room = judged-room + price-text-room
 
 -- such an output stands at the front of the lent bytes o, all others are kept, and n is its length
 pub record Printed (Says : List ℕ → Type 0) (o q : List ℕ) (n : ℕ) : Type 0 where

@@ -14,6 +14,7 @@ use judge::JudgeAnswer;
 use judge::TEXT_BYTES;
 use language::NUMBER_DIGITS;
 use marks::read::MarkRead;
+use price_text::PRICE_TEXT_ROOM;
 
 // The digits of the number of marks, and of a verdict.
 const COUNT_DIGITS: usize = 3;
@@ -24,7 +25,10 @@ const COUNTS_ROOM: usize = 6 + COUNT_DIGITS + 10 + COUNT_DIGITS + 1;
 
 const VERDICT_ROOM: usize = NUMBER_DIGITS + 1 + VERDICT_DIGITS + 1;
 
-pub const REPORT_ROOM: usize = COUNTS_ROOM + marks::MOST * VERDICT_ROOM + TEXT_BYTES;
+pub const REPORT_ROOM: usize = COUNTS_ROOM
+    + marks::MOST * VERDICT_ROOM
+    + TEXT_BYTES
+    + PRICE_TEXT_ROOM;
 
 // Written: the number of bytes of the report. Refused: the same of the line of a refused call. NoRoom: under REPORT_ROOM bytes are lent.
 pub enum Reported {
@@ -123,7 +127,10 @@ pub fn report(given: &[u8], marks: &[u8], out: &mut [u8]) -> Reported
         JudgeAnswer::Refused(n) => Reported::Refused(write_refused(out, n)),
         JudgeAnswer::Finished(count, accepted, bytes) => {
             let end = bytes as usize;
-            Reported::Written(write_report(out, count, accepted, marks, &verdicts, &text[..end]))
+            let k = write_report(out, count, accepted, marks, &verdicts, &text[..end]);
+            let table = pricing::ours();
+            let list = price_list::list(given, &text[..end], &table);
+            Reported::Written(price_text::write(out, k, list))
         }
     }
 }

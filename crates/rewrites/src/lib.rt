@@ -4,9 +4,11 @@ ghost use Rattle.host_tabulate.specs.Places.{TabulateExported};
 ghost use Rattle.host_judge.specs.Places.{JudgeExported};
 ghost use Rattle.host_review.specs.Places.{ReviewExported};
 ghost use Rattle.host_mark_line.specs.Places.{MarkLineExported};
+ghost use Rattle.host_report.specs.Places.{ReportExported};
 ghost use Rattle.host_join.specs.Places.{JoinExported};
 use language::KEPT;
 use machine::VALUES;
+use program::MOST;
 use sharing::MOST_LINES;
 
 #[no_mangle]
@@ -21,8 +23,9 @@ pub extern "C" fn rewrites_run(
     statement: &mut u32,
     left: &mut [u32; VALUES],
     kept: &mut [u32; KEPT],
+    ticks: &mut u64,
 ) -> u8
-    ensures { λ r. ⌜ RunExported (now (program .entry)) (now (values .entry)) input budget r (record { ended = now (ended .entry); value = now (value .entry); steps = now (steps .entry); statement = now (statement .entry); left = now (left .entry); kept = now (kept .entry) }) (record { ended = now (ended .exit); value = now (value .exit); steps = now (steps .exit); statement = now (statement .exit); left = now (left .exit); kept = now (kept .exit) }) ⌝ }
+    ensures { λ r. ⌜ RunExported (now (program .entry)) (now (values .entry)) input budget r (record { ended = now (ended .entry); value = now (value .entry); steps = now (steps .entry); statement = now (statement .entry); left = now (left .entry); kept = now (kept .entry); ticks = now (ticks .entry) }) (record { ended = now (ended .exit); value = now (value .exit); steps = now (steps .exit); statement = now (statement .exit); left = now (left .exit); kept = now (kept .exit); ticks = now (ticks .exit) }) ⌝ }
 {
     host_run::export(
         program,
@@ -35,6 +38,7 @@ pub extern "C" fn rewrites_run(
         statement,
         left,
         kept,
+        ticks,
     )
 }
 
@@ -91,6 +95,31 @@ pub extern "C" fn rewrites_review(
         parts,
         satisfied,
         first,
+    )
+}
+
+#[no_mangle]
+pub extern "C" fn rewrites_report(
+    program: &[u8],
+    marks: &[u8],
+    before: &mut [u32; MOST],
+    after: &mut [u32; MOST],
+    statements: &mut u32,
+    given: &mut u32,
+    rewritten: &mut u32,
+    saved: &mut i32,
+) -> u8
+    ensures { λ r. ⌜ ReportExported (now (program .entry)) (now (marks .entry)) r (record { before = now (before .entry); after = now (after .entry); statements = now (statements .entry); given = now (given .entry); rewritten = now (rewritten .entry); saved = now (saved .entry) }) (record { before = now (before .exit); after = now (after .exit); statements = now (statements .exit); given = now (given .exit); rewritten = now (rewritten .exit); saved = now (saved .exit) }) ⌝ }
+{
+    host_report::export(
+        program,
+        marks,
+        before,
+        after,
+        statements,
+        given,
+        rewritten,
+        saved,
     )
 }
 

@@ -9,6 +9,7 @@ use Rattle.program.specs.Program.{Taken}
 use Rattle.program.specs.Reading as program
 use Rattle.program.proofs.RoundTrip.{taken-unique}
 use Rattle.program.proofs.Unique.{refused-unique, taken-refused}
+use Rattle.pricing.specs.Prices.{ours}
 use Rattle.machine.specs.Answer.{Answers}
 use Rattle.machine.specs.declared.Answer.{Answer}
 use Rattle.machine.proofs.Unique.{answer-unique}
@@ -34,8 +35,8 @@ module _ (t vs : List ℕ) (input budget : ℕ) where
       (a b : Answer) (ws us ks hs : List ℕ)
       → RunFinished t vs input budget a ws ks → RunFinished t vs input budget b us hs → (a ≡ b) × (ws ≡ us) × (ks ≡ hs)
   run-finished a b ws us ks hs f g =
-      answer-unique (f .P) vs input budget a b ws us ks hs (f .answers)
-      (subst (λ (Q : List Statement). Answers Q vs input budget b us hs) (taken-unique (g .taken) (f .taken)) (g .answers))
+      answer-unique (f .P) vs input ours budget a b ws us ks hs (f .answers)
+      (subst (λ (Q : List Statement). Answers ours Q vs input budget b us hs) (taken-unique (g .taken) (f .taken)) (g .answers))
 
   -- a call of `run` has one answer, and one list of values and of kept ones beside it
   pub run-unique :

@@ -8,6 +8,7 @@ use Rattle.language.specs.declared.Statement.{Statement}
 use Rattle.program.specs.declared.Refusal.{Refusal}
 use Rattle.program.specs.Program.{Taken}
 use Rattle.program.specs.Reading as program
+use Rattle.pricing.specs.Prices.{ours}
 use Rattle.machine.specs.declared.Answer.{Answer}
 use Rattle.machine.specs.Answer.{Answers}
 use Rattle.run.specs.declared.RunAnswer.{RunAnswer}
@@ -27,12 +28,12 @@ RunRefused t budget n =
     ((most-steps < budget) × (n ≡ budget-number))
     ⊎ ((budget ≤ most-steps) × (r : Refusal) × program.Refused t r × (n ≡ program.number r))
 
--- none applies: the text is taken as a program, whose run answers a, with the values ws and the kept ones ks beside it
+-- none applies: the text is taken as a program, whose run answers a, its ticks by our prices, with the values ws and the kept ones ks beside it
 pub record RunFinished (t vs : List ℕ) (input budget : ℕ) (a : Answer) (ws ks : List ℕ) : Type 0 where
   pub P : List Statement
   pub allowed : budget ≤ most-steps
   pub taken : Taken t P
-  pub answers : Answers P vs input budget a ws ks
+  pub answers : Answers ours P vs input budget a ws ks
 
 -- the answer, the 32 values and the kept ones beside it, which are the starting ones where the call is refused
 abbrev pub RunAnswers : List ℕ → List ℕ → ℕ → ℕ → RunAnswer → List ℕ → List ℕ → Type 0

@@ -5,6 +5,7 @@ use mathlib.Core.List.{List, _++_}
 use Prim.Native.Nat.{ℕ, _<_}
 use native.Mathlib.Omega.{arith}
 use lib.ListN.{length, getD, take}
+use Rattle.language.specs.Spelling.{variables}
 use Rattle.language.specs.declared.Statement.{Statement}
 use Rattle.statement_writer.proofs.Puts.{put-front}
 use Rattle.program.specs.Program.{text}
@@ -21,7 +22,7 @@ use Rattle.judge.specs.Judge.{Room, Lent, JudgeRefused, JudgeFinished}
 use Rattle.demand.specs.Demand.{Demand3}
 use Rattle.start.specs.Start.{StartTaken}
 use Rattle.start.proofs.Unique.{start-unique}
-use Rattle.closing.specs.Closing.{closingText, Closes}
+use Rattle.closing.specs.Closing.{closingText, TraceAlike, Closes}
 use Rattle.side_by_side.specs.SideBySide.{AllTold, Comparison, atStage, HandedAt, stays, Prints}
 use Rattle.side_by_side.specs.declared.Stage.the-variants.{Closing, Ended}
 use Rattle.side_by_side.specs.declared.Position.{Position}
@@ -51,6 +52,10 @@ demand-text {us = us} d e =
     let rewritten : Rewritten (d .P) (d .ms) us (e .Q) = rw (p, k) (e .rewritten) in
     d .taken .lines ∙ ap text (made-unique (d .accepted) accepted (d .rewritten) rewritten) ∙ sym (e .taken .lines)
 
+-- what demand 3 says of the steps from one start
+pub trace-alike : {t m vs x : List ℕ} → Demand3 t m vs x → (values : List ℕ) → length values ≡ variables → (input : ℕ) → TraceAlike t x values input
+trace-alike d values l input P Q one two k = rw (taken-unique one (d .given), taken-unique two (d .taken)) (d .traces values l input k)
+
 module _ (t m u : List ℕ) (p : Position) {input budget : ℕ} {values : List ℕ} (here : p .stage ≡ Closing) (start : StartTaken u input budget values) where
   -- both outcomes, of the new text that was run side by side
   compares : {o q : List ℕ} {lent left : Lent} {count accepted bytes n : ℕ} {b : List ℕ} → AllTold t m u b
@@ -70,6 +75,7 @@ module _ (t m u : List ℕ) (p : Position) {input budget : ℕ} {values : List �
         one = rw (s .0, s .1, s .2) (c .one);
         two = rw (x, s .0, s .1, s .2) (c .two);
         alike = c .alike;
+        traces = a .runs .demand .traces (a .runs .values) (a .runs .start .size) (a .runs .input);
         text = ap (λ (k : List ℕ). k ++ closingText (c .given) (c .rewritten) (c .ks)) (a .text);
       }
 

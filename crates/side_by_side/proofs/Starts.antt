@@ -13,13 +13,14 @@ use Rattle.marks.proofs.Lists.{taken-unique}
 use Rattle.rewriting.specs.Verdicts.{acceptedCount}
 use Rattle.judge.specs.Judge.{Lent, JudgeFinished}
 use Rattle.report.specs.Report.{countsLine}
-use Rattle.report.proofs.Reports.{new-within}
+use Rattle.priced.proofs.Reports.{new-within}
 use Rattle.desk.specs.Refusals.{refusalText}
 use Rattle.start_refusal.specs.StartRefusal.{startText}
 use Rattle.start.specs.Start.{StartTaken, StartRead}
 use Rattle.start.specs.declared.Answer.{Answer}
 use Rattle.start.specs.declared.Answer.the-variants.{Taken, Few, Many, Line}
 use Rattle.start.proofs.Unique.{answer-unique}
+use Rattle.liveness.specs.Liveness.{LiveIn}
 use Rattle.comparison.specs.Lines.{bothLines}
 use Rattle.heading.specs.Heading.{HeadRefused, HeadJudged}
 use Rattle.side_by_side.specs.SideBySide.{Refuses, atStage, HandedAt, aheadAt, stays, Kept, Prints}
@@ -102,11 +103,11 @@ judged-kept {left = left} {bytes = bytes} f =
     }
 
 -- both runs stand before the first statement
-abbrev pub firstStep : List ℕ → ℕ → Position
-firstStep values bytes = record { stage = Steps; at = 0; done = 0; values = values; others = values; bytes = bytes }
+abbrev pub firstStep : List ℕ → ℕ → List ℕ → Position
+firstStep values bytes live = record { stage = Steps; at = 0; done = 0; values = values; others = values; bytes = bytes; live = live }
 
 module _ (t m u : List ℕ) {w v o q : List ℕ} {n bytes input budget : ℕ} {values : List ℕ} (start : StartTaken u input budget values)
-    (h : HeadJudged t m budget w v o q n bytes) where
+    (h : HeadJudged t m budget w v o q n bytes) {live : List ℕ} (found : LiveIn t live) where
   abbrev marked : List ℕ
   marked = countsLine (length (h .judged .demand .ms)) (acceptedCount (h .judged .demand .ms) (h .left .verdicts))
 
@@ -116,14 +117,14 @@ module _ (t m u : List ℕ) {w v o q : List ℕ} {n bytes input budget : ℕ} {v
       let e = taken-unique (f .marks) (f .demand .listed) in
       rw (f .counted, f .taken, e)
 
-  judged-prints : Prints t m u (atStage Begin) (h .lent .new) (h .left .new) o q (record { bytes = n; next = firstStep values bytes })
+  judged-prints : Prints t m u (atStage Begin) (h .lent .new) (h .left .new) o q (record { bytes = n; next = firstStep values bytes live })
   unfolding bothLines
   judged-prints =
       let f = h .judged in
       let d = f .demand in
       let x = stands-first (d .P) values input (d .given .program) in
       let y = stands-first (d .Q) values input (d .taken .program) in
-      printed t m u (atStage Begin) (h .lent .new) (h .left .new) (record { bytes = n; next = firstStep values bytes }) marked
+      printed t m u (atStage Begin) (h .lent .new) (h .left .new) (record { bytes = n; next = firstStep values bytes live }) marked
       (piece-put (h .put) (h .fits)) (put-front (h .put) (h .fits) ∙ counts-told) (judged-kept f) (omega arith)
       (λ b g. (
         record {
@@ -131,10 +132,11 @@ module _ (t m u : List ℕ) {w v o q : List ℕ} {n bytes input budget : ℕ} {v
           runs = record { input = input; budget = budget; values = values; start = start; allowed = h .allowed; verdicts = h .left .verdicts; demand = d };
           done = omega arith;
           stand = record { inside = x .inside; given = x .state; rewritten = y .state };
+          live = found .taken (d .P) (d .given);
           text = rw (g .1, append-nil marked);
         },
         omega arith,
       ))
 
-  pub judged-heading : {r : Piece} → r ≡ record { bytes = n; next = firstStep values bytes } → Prints t m u (atStage Begin) w v o q r
+  pub judged-heading : {r : Piece} → r ≡ record { bytes = n; next = firstStep values bytes live } → Prints t m u (atStage Begin) w v o q r
   judged-heading is = rw (is, ← h .before, ← h .after) judged-prints

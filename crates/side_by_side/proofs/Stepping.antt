@@ -6,6 +6,7 @@ use mathlib.Core.Bool.{true, false}
 use Prim.Native.Nat.{ℕ, zero, suc, _+_, _-_, _≤_, _<_}
 use native.Mathlib.Omega.{arith}
 use lib.ListN.{length, take}
+use Rattle.base.proofs.Bools.{split, clash}
 use Rattle.language.specs.declared.Statement.{Statement}
 use Rattle.statement_writer.proofs.Puts.{put-front}
 use Rattle.program.specs.Program.{Taken}
@@ -23,7 +24,7 @@ use Rattle.comparison.specs.Lines.{bothLines}
 use Rattle.comparison.specs.Stepping.{line-room, BothEnded, Compared, Stepped}
 use Rattle.comparison.specs.declared.Progress.{Progress}
 use Rattle.side_by_side.specs.SideBySide.{Runs, linesText, StepsTold, AllTold, atStage, stays, Prints}
-use Rattle.side_by_side.specs.declared.Stage.the-variants.{Steps, Closing}
+use Rattle.side_by_side.specs.declared.Stage.the-variants.{Steps, Closing, Refused}
 use Rattle.side_by_side.specs.declared.Position.{Position}
 use Rattle.side_by_side.specs.declared.Piece.{Piece}
 use Rattle.side_by_side.proofs.Pieces.{none-kept, kept-within, handed-at, stays-prints, printed}
@@ -57,14 +58,14 @@ linesOf r n = bothLines (r .demand .P) (r .demand .Q) (r .values) (r .input) 0 n
 join : (c x y : List ℕ) {b z k : List ℕ} → b ≡ c ++ x → k ≡ y → x ++ y ≡ z → b ++ k ≡ c ++ z
 join c x y e f g = rw (e, f, append-assoc, g)
 
-stepped-of : {P Q R S : List Statement} {i j b d k s : ℕ} {us zs o q vs ws : List ℕ} {r : Progress} → R ≡ P → S ≡ Q → j ≡ i → d ≡ b
-    → Stepped P Q i b k s us zs o q vs ws r → Stepped R S j d k s us zs o q vs ws r
+stepped-of : {P Q R S : List Statement} {live : List ℕ} {i j b d k s : ℕ} {us zs o q vs ws : List ℕ} {r : Progress} → R ≡ P → S ≡ Q → j ≡ i → d ≡ b
+    → Stepped P Q live i b k s us zs o q vs ws r → Stepped R S live j d k s us zs o q vs ws r
 stepped-of e f g h x = rw (e, f, g, h) x
 
 -- a piece of lines, where P and Q are the programs that were read
 module _ (t m u : List ℕ) (p : Position) (w : List ℕ) {o q : List ℕ} {P Q : List Statement} {input budget : ℕ} {values vs ws : List ℕ} {r : Progress}
     (here : p .stage ≡ Steps) (start : StartTaken u input budget values) (one : Taken t P) (two : Taken (take (p .bytes) w) Q)
-    (walk : Stepped P Q input budget (p .done) (p .at) (p .values) (p .others) o q vs ws r) where
+    (walk : Stepped P Q (p .live) input budget (p .done) (p .at) (p .values) (p .others) o q vs ws r) where
   module _ {b : List ℕ} (s : StepsTold t m u p w b) where
     same-budget : s .runs .budget ≡ budget
     same-budget = start-unique (s .runs .start) start .1
@@ -73,7 +74,15 @@ module _ (t m u : List ℕ) (p : Position) (w : List ℕ) {o q : List ℕ} {P Q 
     compared =
         let d = s .runs .demand in
         let e = start-unique (s .runs .start) start in
-        stepped-of (taken-unique (d .given) one) (taken-unique (d .taken) two) (e .0) (e .1) walk .compared (d .together) (s .runs .values) (s .runs .start .size) (s .stand)
+        stepped-of (taken-unique (d .given) one) (taken-unique (d .taken) two) (e .0) (e .1) walk .compared (d .together) (s .live) (s .runs .values) (s .runs .start .size) (s .stand)
+
+    -- live variables agree
+    agrees : r .agree ≡ true
+    agrees = by (split (r .agree))
+      where
+        by : (r .agree ≡ true) ⊎ (r .agree ≡ false) → r .agree ≡ true
+        by (inl e) = e
+        by (inr e) = absurd (compared .differs e (s .runs .demand .traces (s .runs .values) (s .runs .start .size) (s .runs .input) (r .done)))
 
     lines-told : b ++ take (r .bytes) q ≡ linesText (s .runs) (r .done)
     lines-told =
@@ -87,8 +96,8 @@ module _ (t m u : List ℕ) (p : Position) (w : List ℕ) {o q : List ℕ} {P Q 
         (lines-append (d .P) (d .Q) v i (p .done) (c .n) ∙ ap (bothLines (d .P) (d .Q) v i 0) (sym (c .counted)))
 
     steps-told : r .ended ≡ false
-        → StepsTold t m u (record { stage = Steps; at = r .at; done = r .done; values = vs; others = ws; bytes = p .bytes }) w (b ++ take (r .bytes) q)
-    steps-told e = record { within = s .within; runs = s .runs; done = compared .within (s .done); stand = rw e at (compared .left); text = lines-told }
+        → StepsTold t m u (record { stage = Steps; at = r .at; done = r .done; values = vs; others = ws; bytes = p .bytes; live = p .live }) w (b ++ take (r .bytes) q)
+    steps-told e = record { within = s .within; runs = s .runs; done = compared .within (s .done); stand = rw e at (compared .left); live = s .live; text = lines-told }
 
     no-lines-left : (r .ended ≡ true) ⊎ (budget ≤ r .done)
         → linesOf (s .runs) (r .done) ≡ linesOf (s .runs) (s .runs .budget)
@@ -105,13 +114,13 @@ module _ (t m u : List ℕ) (p : Position) (w : List ℕ) {o q : List ℕ} {P Q 
     falls : r .ended ≡ false → r .done < budget → line-room ≤ length o → (p .done < r .done) × (r .done ≤ s .runs .budget)
     falls e l room =
         let c = compared in
-        (c .further room (omega (arith, same-budget, c .counted)), c .within (s .done))
+        (c .further room agrees (omega (arith, same-budget, c .counted)), c .within (s .done))
 
-  pub more-steps : {z : Piece} → z ≡ record { bytes = r .bytes; next = record { stage = Steps; at = r .at; done = r .done; values = vs; others = ws; bytes = p .bytes } }
+  pub more-steps : {z : Piece} → z ≡ record { bytes = r .bytes; next = record { stage = Steps; at = r .at; done = r .done; values = vs; others = ws; bytes = p .bytes; live = p .live } }
       → r .ended ≡ false → r .done < budget → line-room ≤ length o → Prints t m u p w w o q z
   more-steps is e l room =
       rw is
-      (printed t m u p w w (record { bytes = r .bytes; next = record { stage = Steps; at = r .at; done = r .done; values = vs; others = ws; bytes = p .bytes } })
+      (printed t m u p w w (record { bytes = r .bytes; next = record { stage = Steps; at = r .at; done = r .done; values = vs; others = ws; bytes = p .bytes; live = p .live } })
       (take (r .bytes) q) (walk .kept) refl (none-kept w) (rw here (omega arith))
       (λ b h.
       let s : StepsTold t m u p w b = handed-at t m u p w b here h in
@@ -122,6 +131,12 @@ module _ (t m u : List ℕ) (p : Position) (w : List ℕ) {o q : List ℕ} {P Q 
       rw is
       (printed t m u p w w (record { bytes = r .bytes; next = atStage Closing }) (take (r .bytes) q) (walk .kept) refl (none-kept w) (rw here (omega arith))
       (λ b h. let s : StepsTold t m u p w b = handed-at t m u p w b here h in ((refl, all-told s e), rw here (omega arith))))
+
+  pub never-apart : {z : Piece} → z ≡ record { bytes = r .bytes; next = atStage Refused } → r .agree ≡ false → Prints t m u p w w o q z
+  never-apart is e =
+      rw is
+      (printed t m u p w w (record { bytes = r .bytes; next = atStage Refused }) (take (r .bytes) q) (walk .kept) refl (none-kept w) (rw here (omega arith))
+      (λ b h. clash (agrees (handed-at t m u p w b here h)) e))
 
 -- at which positions no lines are told
 module _ (t m u : List ℕ) (p : Position) (w : List ℕ) {o : List ℕ} {z : Piece} (here : p .stage ≡ Steps) (is : z ≡ stays p) where

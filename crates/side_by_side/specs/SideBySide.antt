@@ -9,7 +9,8 @@ use Rattle.language.specs.Spelling.{variables}
 use Rattle.statement_writer.specs.Writing.{Put}
 use Rattle.rewriting.specs.Verdicts.{acceptedCount}
 use Rattle.machine.specs.declared.Answer.{Answer}
-use Rattle.lockstep.specs.Lockstep.{Alike}
+use Rattle.machine.specs.Machine.{after}
+use Rattle.lockstep.specs.Lockstep.{Agree, Side, Alike}
 use Rattle.run.specs.Run.{most-steps, RunFinished}
 use Rattle.judge.specs.Judge.{text-bytes}
 use Rattle.demand.specs.Demand.{Demand3}
@@ -20,6 +21,7 @@ use Rattle.start_refusal.specs.StartRefusal.{startText}
 use Rattle.start.specs.Start.{StartTaken, StartRead}
 use Rattle.start.specs.declared.Answer as start
 use Rattle.start.specs.declared.Answer.the-variants.{Taken, Few, Many, Line}
+use Rattle.liveness.specs.Liveness.{live-words, LiveRows}
 use Rattle.comparison.specs.Lines.{bothLines}
 use Rattle.comparison.specs.Stepping.{line-room, BothStand}
 use Rattle.heading.specs.Heading.{RefusedWith}
@@ -46,7 +48,7 @@ linesText r n =
     ++ bothLines (r .demand .P) (r .demand .Q) (r .values) (r .input) 0 n
 
 -- b is all that is printed where nothing is refused: the counts, the lines of all steps within the budget, and both outcomes, which agree and
--- keep the same
+-- keep the same; before each step every variable that the given program may still use before defining it holds the same value in both
 pub record Comparison (t m u b : List ℕ) : Type 0 where
   pub x : List ℕ
   pub runs : Runs t m u x
@@ -58,6 +60,8 @@ pub record Comparison (t m u b : List ℕ) : Type 0 where
   pub one : RunFinished t (runs .values) (runs .input) (runs .budget) given us ks
   pub two : RunFinished x (runs .values) (runs .input) (runs .budget) rewritten ws ks
   pub alike : Alike given rewritten
+  pub traces : (k : ℕ)
+      → Side (Agree (runs .demand .P)) (after (runs .demand .P) (runs .values) (runs .input) k) (after (runs .demand .Q) (runs .values) (runs .input) k)
   pub text : b ≡ linesText runs (runs .budget) ++ closingText given rewritten ks
 
 -- b tells the refusal of the budget, the program or the marks
@@ -90,15 +94,16 @@ Output t m u b = Refusal t m u b ⊎ Comparison t m u b
 
 -- the position at a stage at which neither run stands
 abbrev pub atStage : Stage → Position
-atStage s = record { stage = s; at = 0; done = 0; values = replicate variables 0; others = replicate variables 0; bytes = 0 }
+atStage s = record { stage = s; at = 0; done = 0; values = replicate variables 0; others = replicate variables 0; bytes = 0; live = replicate live-words 0 }
 
 -- b has the lines of the steps done, the rewritten program's text is at the front of the lent bytes w, and the position says where both
--- runs stand
+-- runs stand, and where each variable is live in the given program
 pub record StepsTold (t m u : List ℕ) (p : Position) (w b : List ℕ) : Type 0 where
   pub within : p .bytes ≤ length w
   pub runs : Runs t m u (take (p .bytes) w)
   pub done : p .done ≤ runs .budget
   pub stand : BothStand (runs .demand .P) (runs .demand .Q) (runs .values) (runs .input) (p .done) (p .at) (p .values) (p .others)
+  pub live : LiveRows (runs .demand .P) (p .live)
   pub text : b ≡ linesText runs (p .done)
 
 -- b has the lines of all steps

@@ -13,6 +13,7 @@ ghost use Rattle.side_by_side.specs.SideBySide.{side-by-side-room, atSta
 use heading::Heading;
 use judge::JudgeAnswer;
 use judge::TEXT_BYTES;
+use liveness::LIVE_WORDS;
 use machine::VALUES;
 use program::Program;
 use run::MOST_STEPS;
@@ -32,7 +33,8 @@ pub enum Stage {
 }
 
 // Where printing stands. In `Steps` both runs stand before the statement at the place `at` after `done` steps, with their values, and
-// `bytes` is the length of the rewritten program's text; in any other stage all of these are 0.
+// `bytes` is the length of the rewritten program's text, and `live` has where each variable is live in the given one; in any other stage all
+// of these are 0.
 pub struct Position {
     pub stage: Stage,
     pub at: u32,
@@ -40,6 +42,7 @@ pub struct Position {
     pub values: [u32; VALUES],
     pub others: [u32; VALUES],
     pub bytes: usize,
+    pub live: [u64; LIVE_WORDS],
 }
 
 // The number of bytes of a piece, and where printing stands after it.
@@ -52,6 +55,7 @@ fn at_stage(stage: Stage) -> Position
     ensures { λ r. ⌜ r ≡ atStage stage ⌝ }
 {
     let none = start::no_values();
+    let live = liveness::blank();
     Position {
         stage: stage,
         at: 0,
@@ -59,6 +63,7 @@ fn at_stage(stage: Stage) -> Position
         values: none,
         others: none,
         bytes: 0,
+        live: live,
     }
 }
 
@@ -108,7 +113,7 @@ fn refused(a: Answer, from: Position, out: &mut [u8]) -> Piece
     }
 }
 
-// The refusal of the budget, the program or the marks; or the counts.
+// The refusal of the budget, the program or the marks; or the counts, and where each variable is live.
 fn heading(
     program: &[u8],
     marks: &[u8],
@@ -124,22 +129,26 @@ fn heading(
     let head = heading::write(program, marks, budget, new, out);
     match head {
         Heading::Refused(n) => told(n, Stage::Refused),
-        Heading::Judged(n, bytes) => Piece {
-            bytes: n,
-            next: Position {
-                stage: Stage::Steps,
-                at: 0,
-                done: 0,
-                values: values,
-                others: values,
-                bytes: bytes,
-            },
-        },
+        Heading::Judged(n, bytes) => {
+            let live = liveness::find(program);
+            Piece {
+                bytes: n,
+                next: Position {
+                    stage: Stage::Steps,
+                    at: 0,
+                    done: 0,
+                    values: values,
+                    others: values,
+                    bytes: bytes,
+                    live: live,
+                },
+            }
+        }
         Heading::NoRoom => told(0, Stage::Begin),
     }
 }
 
-// The lines of further steps of p and q, from the position on.
+// The lines of further steps of p and q, from the position on. Live variables always agree: a run in which they didn't would end there.
 fn step_lines(
     p: Program,
     q: Program,
@@ -158,9 +167,11 @@ fn step_lines(
 {
     let mut values = from.values;
     let mut others = from.others;
+    let live = from.live;
     let r = comparison::steps(
         p,
         q,
+        &live,
         from.at,
         from.done,
         input,
@@ -169,6 +180,9 @@ fn step_lines(
         &mut others,
         out,
     );
+    if !r.agree {
+        return told(r.bytes, Stage::Refused);
+    }
     if r.ended {
         return told(r.bytes, Stage::Closing);
     }
@@ -184,6 +198,7 @@ fn step_lines(
             values: values,
             others: others,
             bytes: from.bytes,
+            live: live,
         },
     }
 }

@@ -6,7 +6,7 @@ use mathlib.Core.Logic.{⊎-elim}
 use Prim.Native.Nat.{ℕ, zero, suc, _+_, _-_, _*_, _/_, _%_, _≤_, _<_}
 use native.Mathlib.Omega.{arith}
 use lib.Dec.{ltb, eqb}
-use borrow.Author.Tests.{lt-ltb, ltb-true, eqb-true}
+use borrow.Author.Tests.{lt-ltb, ltb-true, eqb-true, ne-eqb}
 use Rattle.language.specs.declared.Operand.{Operand}
 use Rattle.language.specs.declared.Operand.the-variants.{Variable, Constant}
 use Rattle.language.specs.declared.Operator.{Operator}
@@ -25,7 +25,7 @@ use Rattle.statement_reader.specs.declared.StatementRead.{StatementRead}
 use Rattle.statement_reader.specs.declared.StatementRead.the-variants as statement
 use Rattle.tokens.proofs.Numbers.{NoDigit, number-sound, number-complete, variable-sound, variable-complete}
 use Rattle.tokens.proofs.Constants.{constant-sound, constant-complete}
-use Rattle.tokens.proofs.Steps.{at-byte}
+use Rattle.tokens.proofs.Steps.{at-end, at-byte}
 use Rattle.tokens.proofs.Parse.{after-inv, afterOr-inv, where-inv, either-inv, pick-inv, skip-sound}
 
 -- what is spelled is read
@@ -244,3 +244,22 @@ line-right s at statement.Misspelled w h = λ e rest v t. let z : _≡_ {A = ℕ
 pub statement-first : (s : List ℕ) (k : ℕ) → k < length s → parseStatement (drop k s) ≡ byFirst (getD s k 0) (drop k s)
 unfolding parseStatement
 statement-first s k h = rw (at-byte s k h)
+
+-- an operand too: a variable begins with `i`, and no constant does
+either-none : {A : Type 0} (p : Parsed A) → either p misspelled ≡ p
+either-none (found a t) = refl
+either-none misspelled = refl
+
+module _ (s : List ℕ) (k : ℕ) where
+  pub operand-none : length s ≤ k → parseOperand (drop k s) ≡ misspelled
+  unfolding parseOperand parseConstant parseVariable parseNumber parseWord
+  operand-none h = rw (at-end s k h)
+
+  module _ (h : k < length s) where
+    pub operand-variable : getD s k 0 ≡ 105 → parseOperand (drop k s) ≡ after (parseVariable (drop k s)) λ x t. found (Variable x) t
+    unfolding parseOperand parseConstant parseNumber parseWord digitOf
+    operand-variable e = rw (at-byte s k h, e)
+
+    pub operand-constant : (getD s k 0 ≡ 105 → ⊥) → parseOperand (drop k s) ≡ after (parseConstant (drop k s)) λ n t. found (Constant n) t
+    unfolding parseOperand parseVariable parseWord
+    operand-constant d = rw (at-byte s k h, ne-eqb _ 105 d) (either-none (after (parseConstant (getD s k 0 ∷ drop (k + 1) s)) λ n t. found (Constant n) t))

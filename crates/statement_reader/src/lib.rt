@@ -32,15 +32,22 @@ pub enum StatementRead {
     Misspelled,
 }
 
+// A variable begins with `i`, and no constant does.
 pub fn operand(s: &[u8], at: usize) -> OperandRead
     ensures { λ r. ⌜ parsedOperand (now (s .entry)) r ≡ parseOperand (drop at (now (s .entry))) ⌝ }
     ensures { λ r. ⌜ operandEnd r ≤ length (now (s .entry)) ⌝ }
 {
-    let NumberRead::Found(n, k) = tokens::constant(s, at) else {
+    if s.len() <= at {
+        return OperandRead::Misspelled;
+    }
+    if s[at] == b'i' {
         let VariableRead::Found(x, j) = tokens::variable(s, at) else {
             return OperandRead::Misspelled;
         };
         return OperandRead::Found(Operand::Variable(x), j);
+    }
+    let NumberRead::Found(n, k) = tokens::constant(s, at) else {
+        return OperandRead::Misspelled;
     };
     OperandRead::Found(Operand::Constant(n), k)
 }

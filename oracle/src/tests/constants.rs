@@ -184,7 +184,7 @@ fn ends(program: &str, input: u32) -> (i32, u32) {
     let plain = machine::run(text.as_bytes(), [0; 32], input, 100);
     assert_eq!(tuned::run(text.as_bytes(), &[0; 32], input, 100), plain);
     match plain {
-        Ok(Outcome::Ended { value, steps, kept: ZEROS }) => (value, steps),
+        Ok(Outcome::Ended { value, steps, kept: ZEROS, .. }) => (value, steps),
         other => panic!("{other:?}"),
     }
 }
@@ -264,10 +264,13 @@ fn longest_program_and_report() {
     let list = "2147483647: mark(rpl, i31, -2147483648)\n".repeat(256);
     let report = check(text.as_bytes(), list.as_bytes());
     let first = "marks 256 accepted 0\n";
-    assert_eq!(report, [first, &"2147483647 11\n".repeat(256), &text].concat().into_bytes());
+    let middle: String = (2..256).map(|n| format!("{n} 3 3\n")).collect();
+    let prices = format!("1 4 4\n{middle}256 4 4\n770\n770\n0\n");
+    let pieces = [first, &"2147483647 11\n".repeat(256), &text, &prices];
+    assert_eq!(report, pieces.concat().into_bytes());
     let most = "marks 256 accepted 256\n".len() + 256 * "2147483647 11\n".len() + 8_704;
     assert_eq!(most, 12_311);
-    assert!(report.len() <= most);
+    assert!(report.len() - prices.len() <= most);
 }
 
 #[test]
@@ -309,14 +312,14 @@ fn columns_of_the_desk() {
         "      1    1  read i0                           i0 = -5\n\
          \x20     2    2  i10 := -2147483648 + -2147483648\n\
          \x20     3    3  write i10                       \n\
-         ended 0 steps 3 kept 0 0 0 0 0 0 0 0\n"
+         ended 0 steps 3 ticks 11 kept 0 0 0 0 0 0 0 0\n"
     );
     assert_eq!(
         desk::compare(text.as_bytes(), b"2: mark(rm, i10, -2147483648)\n", b"-5\n2\n"),
         "marks 1 accepted 0\n\
          \x20     1    1  read i0                           read i0                         \n\
          \x20     2    2  i10 := -2147483648 + -2147483648  i10 := -2147483648 + -2147483648\n\
-         given spent at 3\nrewritten spent at 3\nstatements and outcome agree\n"
+         given spent at 3 ticks 7\nrewritten spent at 3 ticks 7\nstatements, outcome and live variables agree\n"
     );
 }
 
@@ -340,7 +343,7 @@ fn bits_and_their_spelling() {
         assert_eq!(program.statements()[1], Statement::Assign(0, constant(bits)));
         assert_eq!(
             tuned::run(text.as_bytes(), &[0; 32], 0, 3),
-            Ok(Outcome::Ended { value: bits as i32, steps: 3, kept: ZEROS })
+            Ok(Outcome::Ended { value: bits as i32, steps: 3, kept: ZEROS, ticks: 10 })
         );
     }
 }

@@ -16,8 +16,8 @@ fn text(statements: &[&str]) -> String {
     statements.iter().map(|statement| format!("{statement}\n")).collect()
 }
 
-fn fault(statement: u32, steps: u32) -> Outcome {
-    Outcome::Fault { statement, steps }
+fn fault(statement: u32, steps: u32, ticks: u64) -> Outcome {
+    Outcome::Fault { statement, steps, ticks }
 }
 
 #[test]
@@ -125,7 +125,7 @@ fn quotients_are_signed_and_rounded_toward_zero() {
         (-1, -1, 1),
         (100, 7, 14),
     ] {
-        let ended = Outcome::Ended { value: expected, steps: 3, kept: ZEROS };
+        let ended = Outcome::Ended { value: expected, steps: 3, kept: ZEROS, ticks: 32 };
         assert_eq!(quotient(a, b), ended, "{a} / {b}");
     }
 }
@@ -149,7 +149,7 @@ fn quotients_leave_a_remainder_of_the_dividends_sign() {
                 assert!(rest.abs() < i64::from(b).abs(), "{a} / {b} = {value}");
                 assert!(rest == 0 || (rest < 0) == (a < 0), "{a} / {b} = {value}");
             }
-            outcome => assert_eq!((outcome, b), (fault(2, 2), 0), "{a} / {b}"),
+            outcome => assert_eq!((outcome, b), (fault(2, 2, 28), 0), "{a} / {b}"),
         }
     }
 }
@@ -157,16 +157,17 @@ fn quotients_leave_a_remainder_of_the_dividends_sign() {
 #[test]
 fn a_zero_divisor_ends_the_run() {
     for a in [5, 0, -5, i32::MIN, i32::MAX] {
-        assert_eq!(quotient(a, 0), fault(2, 2), "{a} / 0");
+        assert_eq!(quotient(a, 0), fault(2, 2, 28), "{a} / 0");
     }
     let program = text(&["read i0", "i1 := 10 / i0", "write i1"]);
     let values: Values = std::array::from_fn(|x| 1000 + x as u32);
     let mut left = values;
-    assert_eq!(ran(&program, values, 0, 0), Outcome::Spent { statement: 1, values });
+    assert_eq!(ran(&program, values, 0, 0), Outcome::Spent { statement: 1, values, ticks: 0 });
     left[0] = 0;
-    assert_eq!(ran(&program, values, 0, 1), Outcome::Spent { statement: 2, values: left });
+    let spent = Outcome::Spent { statement: 2, values: left, ticks: 4 };
+    assert_eq!(ran(&program, values, 0, 1), spent);
     for budget in [2, 3, 4, 1_000_000] {
-        assert_eq!(ran(&program, values, 0, budget), fault(2, 2), "budget {budget}");
+        assert_eq!(ran(&program, values, 0, budget), fault(2, 2, 28), "budget {budget}");
     }
     assert!(matches!(ran(&program, values, 4, 3), Outcome::Ended { value: 2, steps: 3, .. }));
 }
@@ -176,14 +177,14 @@ fn steps_are_counted_up_to_the_fault() {
     // Two rounds of three steps end with i0 = 0.
     let program =
         text(&["read i0", "i1 := 10 / i0", "i0 := i0 - 1", "if i1 goto 2 else 2", "write i1"]);
-    assert_eq!(ran(&program, [0; 32], 2, 100), fault(2, 8));
-    assert_eq!(ran(&program, [0; 32], 2, 8), fault(2, 8));
+    assert_eq!(ran(&program, [0; 32], 2, 100), fault(2, 8, 88));
+    assert_eq!(ran(&program, [0; 32], 2, 8), fault(2, 8, 88));
     assert!(matches!(ran(&program, [0; 32], 2, 7), Outcome::Spent { statement: 2, .. }));
     // What no step reaches doesn't fault.
     let past =
         text(&["read i0", "if i0 goto 4 else 3", "i1 := 1 / 0", "i2 := i1 / i1", "write i0"]);
-    assert_eq!(ran(&past, [0; 32], 0, 100), fault(3, 3));
-    assert_eq!(ran(&past, [0; 32], 1, 100), fault(4, 3));
+    assert_eq!(ran(&past, [0; 32], 0, 100), fault(3, 3, 31));
+    assert_eq!(ran(&past, [0; 32], 1, 100), fault(4, 3, 31));
     let mut values = [0; 32];
     values[1] = 9;
     assert!(matches!(ran(&past, values, 1, 100), Outcome::Ended { value: 1, steps: 4, .. }));
@@ -280,8 +281,8 @@ fn replacing_in_a_division_is_as_in_any_expression() {
     let (verdicts, new) = all_judged(&program, "3: mark(rpl, i1, 0)\n2: mark(rm, i1, 0)\n");
     assert_eq!((verdicts, &new), (vec![0, 14], &program.replace("i0 / i1", "i0 / 0")));
     for budget in [3, 4, 100] {
-        assert_eq!(ran(&program, [0; 32], 5, budget), fault(3, 3));
-        assert_eq!(ran(&new, [0; 32], 5, budget), fault(3, 3));
+        assert_eq!(ran(&program, [0; 32], 5, budget), fault(3, 3, 30));
+        assert_eq!(ran(&new, [0; 32], 5, budget), fault(3, 3, 30));
     }
     // `rpl` never gets 18.
     let program = text(&["read i0", "i1 := i3", "i2 := i1 / i1", "write i2"]);
@@ -317,15 +318,15 @@ fn conditions_take_a_division_as_any_assignment() {
 fn desk_lines_tell_of_faults() {
     let program = text(&["read i0", "i1 := 10 / i0", "write i1"]);
     let run = |start: &str, trace| desk::run(program.as_bytes(), start.as_bytes(), trace);
-    assert_eq!(run("0\n2\n", false), "fault at 2 steps 2\n");
-    assert_eq!(run("0\n1000000\n", false), "fault at 2 steps 2\n");
-    assert!(run("0\n1\n", false).starts_with("spent at 2\ni0 = 0\n"));
-    assert_eq!(run("3\n9\n", false), "ended 3 steps 3 kept 0 0 0 0 0 0 0 0\n");
+    assert_eq!(run("0\n2\n", false), "fault at 2 steps 2 ticks 28\n");
+    assert_eq!(run("0\n1000000\n", false), "fault at 2 steps 2 ticks 28\n");
+    assert!(run("0\n1\n", false).starts_with("spent at 2 ticks 4\ni0 = 0\n"));
+    assert_eq!(run("3\n9\n", false), "ended 3 steps 3 ticks 32 kept 0 0 0 0 0 0 0 0\n");
     assert_eq!(
         run("0\n9\n7\n7\n", true),
         "      1    1  read i0                           i0 = 0\n\
          \x20     2    2  i1 := 10 / i0                   \n\
-         fault at 2 steps 2\n"
+         fault at 2 steps 2 ticks 28\n"
     );
     let given = text(&["read i0", "i3 := 9", "i1 := 0", "i2 := i0 / i1", "write i2"]);
     let list = b"2: mark(rm, i3, 9)\n4: mark(rpl, i1, 0)\n";
@@ -336,11 +337,13 @@ fn desk_lines_tell_of_faults() {
          \x20     2    2  i3 := 9                           skip                              i3 9 0\n\
          \x20     3    3  i1 := 0                           i1 := 0                           i3 9 0\n\
          \x20     4    4  i2 := i0 / i1                     i2 := i0 / 0                      i3 9 0\n\
-         given fault at 4 steps 4\nrewritten fault at 4 steps 4\nstatements and outcome agree\n"
+         given fault at 4 steps 4 ticks 32\nrewritten fault at 4 steps 4 ticks 31\nstatements, outcome and live variables agree\n"
     );
-    assert!(desk::compare(given.as_bytes(), list, b"5\n3\n")
-        .ends_with("given spent at 4\nrewritten spent at 4\nstatements and outcome agree\n"));
-    let report = format!("marks 1 accepted 0\n2 18\n{program}");
+    assert!(desk::compare(given.as_bytes(), list, b"5\n3\n").ends_with(
+        "given spent at 4 ticks 8\nrewritten spent at 4 ticks 7\nstatements, outcome and live variables agree\n"
+    ));
+    let prices = "1 4 4\n2 24 24\n3 4 4\n32\n32\n0\n";
+    let report = format!("marks 1 accepted 0\n2 18\n{program}{prices}");
     assert_eq!(check(program.as_bytes(), b"2: mark(rm, i1, 10 / i0)\n"), report.as_bytes());
 }
 

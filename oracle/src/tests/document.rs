@@ -1,6 +1,6 @@
 //! The cases of the defining document.
 
-use super::{condition_refusal, judged, lines, refusal, skips, whole, words, P, ZEROS};
+use super::{condition_refusal, judged, lines, refusal, skips, whole, words, P, P_PRICES, ZEROS};
 use crate::check::check;
 use crate::condition::tabulate;
 use crate::machine::{run, Outcome};
@@ -36,13 +36,13 @@ fn answers_of_tables_of_p() {
 #[test]
 fn runs_of_p() {
     let p = P.as_bytes();
-    let ended = |value, steps| Ok(Outcome::Ended { value, steps, kept: ZEROS });
-    assert_eq!(run(p, [0; 32], 0, 1_000_000), ended(7, 6));
-    assert_eq!(run(p, [0; 32], 2, 1_000_000), ended(9, 12));
-    assert_eq!(run(p, [0; 32], 2, 12), ended(9, 12));
+    let ended = |value, steps, ticks| Ok(Outcome::Ended { value, steps, kept: ZEROS, ticks });
+    assert_eq!(run(p, [0; 32], 0, 1_000_000), ended(7, 6, 18));
+    assert_eq!(run(p, [0; 32], 2, 1_000_000), ended(9, 12, 36));
+    assert_eq!(run(p, [0; 32], 2, 12), ended(9, 12, 36));
     match run(p, [0; 32], 2, 11) {
-        Ok(Outcome::Spent { statement, values }) => {
-            assert_eq!(statement, 8);
+        Ok(Outcome::Spent { statement, values, ticks }) => {
+            assert_eq!((statement, ticks), (8, 32));
             assert_eq!(values[..5], [0, 2, 7, 9, 0]);
         }
         other => panic!("{other:?}"),
@@ -52,7 +52,8 @@ fn runs_of_p() {
 #[test]
 fn check_of_p() {
     let expected = "marks 5 accepted 1\n4 0\n3 14\n4 12\n6 13\n9 11\nread i0\ni1 := i0\ni2 := 7\n\
-                    i3 := i1 + 7\nif i0 goto 6 else 8\ni0 := i0 - 1\nif i0 goto 4 else 8\nwrite i3\n";
+                    i3 := i1 + 7\nif i0 goto 6 else 8\ni0 := i0 - 1\nif i0 goto 4 else 8\nwrite i3\n\
+                    1 4 4\n2 2 2\n3 2 2\n4 3 3\n5 3 3\n6 3 3\n7 3 3\n8 4 4\n24\n24\n0\n";
     assert_eq!(check(P.as_bytes(), MARKS.as_bytes()), expected.as_bytes());
     let (mut verdicts, mut text) = ([0; 256], [0; 8_704]);
     let answer = judge(P.as_bytes(), MARKS.as_bytes(), &mut verdicts, &mut text);
@@ -68,7 +69,8 @@ fn edges() {
     assert_eq!(condition_refusal(&format!("{}true", "!".repeat(63))), 0);
     assert_eq!(condition_refusal(&format!("{}true", "!".repeat(64))), 8);
     assert_eq!(judged(P, ""), (vec![], P.to_string()));
-    assert_eq!(check(P.as_bytes(), b""), format!("marks 0 accepted 0\n{P}").as_bytes());
+    let report = format!("marks 0 accepted 0\n{P}{P_PRICES}");
+    assert_eq!(check(P.as_bytes(), b""), report.as_bytes());
 }
 
 #[test]
@@ -79,7 +81,7 @@ fn arithmetic() {
         values[2] = i2;
         let text = format!("read i0\ni0 := {right}\nwrite i0\n");
         match run(text.as_bytes(), values, 5, 3) {
-            Ok(Outcome::Ended { value, steps: 3, kept: ZEROS }) => value,
+            Ok(Outcome::Ended { value, steps: 3, kept: ZEROS, .. }) => value,
             other => panic!("{other:?}"),
         }
     };

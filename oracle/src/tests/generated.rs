@@ -7,6 +7,7 @@ use crate::condition::{tabulate, Atom, Checker, Condition, Demand, Direction, Pa
 use crate::generate::{self, Random};
 use crate::machine::{first_difference, kept_of, run, run_program, Outcome, Run, State};
 use crate::marks::{self, judge, Judge, Kind};
+use crate::pricing::report;
 use crate::program::{Expression, Operand, Operator, Program, Statement};
 use crate::steps::Steps;
 
@@ -241,7 +242,8 @@ fn steps_agree_with_their_definition() {
 #[test]
 fn given_and_rewritten_program_agree_step_by_step() {
     let random = &mut Random::new(4);
-    let (mut removed, mut replaced, mut reused, mut would_matter, mut faults) = (0, 0, 0, 0, 0);
+    let (mut removed, mut replaced, mut reused, mut would_matter) = (0, 0, 0, 0);
+    let (mut faults, mut cheaper) = (0, 0);
     let mut verdicts_seen = [0_usize; 19];
     for _ in 0..4_000 {
         let size = generate::size(random);
@@ -273,18 +275,13 @@ fn given_and_rewritten_program_agree_step_by_step() {
                 "{given}{rewritten}"
             );
             let budget = generate::budget(random) % 1_000;
-            match (
-                run_program(&given, values, input, budget),
-                run_program(&rewritten, values, input, budget),
-            ) {
-                (Outcome::Spent { statement: a, .. }, Outcome::Spent { statement: b, .. }) => {
-                    assert_eq!(a, b)
-                }
-                (one, other) => {
-                    assert_eq!(one, other);
-                    faults += usize::from(matches!(one, Outcome::Fault { .. }));
-                }
-            }
+            let one = run_program(&given, values, input, budget);
+            let other = run_program(&rewritten, values, input, budget);
+            assert!(one.is_alike(&other), "{one:?} {other:?}");
+            // No mark makes a statement dearer, by our prices.
+            assert!(one.ticks() >= other.ticks(), "{given}{rewritten}");
+            cheaper += usize::from(one.ticks() > other.ticks());
+            faults += usize::from(matches!(one, Outcome::Fault { .. }));
         }
         // With one refused mark made all the same, runs often differ.
         let refused_one = list.iter().zip(&verdicts).find(|(_, &verdict)| verdict == 14);
@@ -297,9 +294,9 @@ fn given_and_rewritten_program_agree_step_by_step() {
             would_matter += usize::from(differs);
         }
     }
-    println!("removed {removed} replaced {replaced} reused {reused} would matter {would_matter} faults {faults} verdicts {verdicts_seen:?}");
+    println!("removed {removed} replaced {replaced} reused {reused} would matter {would_matter} faults {faults} cheaper {cheaper} verdicts {verdicts_seen:?}");
     assert!(removed > 4_000 && replaced > 4_000 && reused > 1_000);
-    assert!(would_matter > 200 && faults > 500);
+    assert!(would_matter > 200 && faults > 500 && cheaper > 500);
     assert!(verdicts_seen[11..=14].iter().all(|&seen| seen > 500) && verdicts_seen[18] > 100);
 }
 
@@ -423,27 +420,29 @@ fn runs_are_their_steps() {
         let (values, input) = (generate::values(random), generate::word(random));
         let budget = random.below(80) as u32;
         let mut walk = Run::start(&program, values, input);
-        let (mut taken, mut before) = (0, values);
+        let (mut taken, mut before, mut ticks) = (0, values, 0);
         while let State::Before { values, .. } = *walk.state() {
             if taken == budget {
                 break;
             }
             before = values;
+            ticks += walk.cost();
             walk.step();
             taken += 1;
         }
         let wanted = match *walk.state() {
-            State::Before { statement, values } => Outcome::Spent { statement, values },
+            State::Before { statement, values } => Outcome::Spent { statement, values, ticks },
             State::Ended { value, kept } => {
                 // The last step changes no value.
                 assert_eq!(kept, kept_of(&before));
-                Outcome::Ended { value, steps: taken, kept }
+                Outcome::Ended { value, steps: taken, kept, ticks }
             }
-            State::Faulted { statement } => Outcome::Fault { statement, steps: taken },
+            State::Faulted { statement } => Outcome::Fault { statement, steps: taken, ticks },
         };
         assert_eq!(run(&program.text(), values, input, budget), Ok(wanted));
         ended += usize::from(matches!(wanted, Outcome::Ended { .. }));
         let last = *walk.state();
+        assert_eq!(walk.cost() == 0, !matches!(last, State::Before { .. }));
         walk.step();
         assert!(matches!(last, State::Before { .. }) || *walk.state() == last);
     }
@@ -508,12 +507,13 @@ fn refused_calls_keep_what_is_lent() {
                 let output = check(&text, &list);
                 let first = format!("marks {count} accepted {accepted}\n");
                 assert!(output.starts_with(first.as_bytes()));
-                assert!(output.ends_with(&new_text[..bytes as usize]));
+                let prices = report(&text, &list).expect("what is judged is priced").text();
+                let before = output.len() - prices.len();
+                assert_eq!(output[before..], *prices.as_bytes());
+                assert!(output[..before].ends_with(&new_text[..bytes as usize]));
                 let lines = output.iter().filter(|&&byte| byte == b'\n').count();
-                assert_eq!(
-                    lines,
-                    1 + count as usize + text.iter().filter(|&&byte| byte == b'\n').count()
-                );
+                let statements = text.iter().filter(|&&byte| byte == b'\n').count();
+                assert_eq!(lines, 1 + count as usize + 2 * statements + 3);
             }
         }
     }

@@ -10,7 +10,9 @@ mod kept;
 mod mark_lines;
 mod naive;
 mod open_points;
+mod pricing;
 mod review;
+mod traces;
 mod tuned;
 
 use crate::condition;
@@ -21,6 +23,9 @@ use crate::program::{Program, KEPT};
 /// The document's program P.
 const P: &str = "read i0\ni1 := i0\ni2 := 7\ni3 := i1 + i2\nif i0 goto 6 else 8\ni0 := i0 - 1\n\
                  if i0 goto 4 else 8\nwrite i3\n";
+
+/// What the report on P tells where no mark changes a price.
+const P_PRICES: &str = "1 4 4\n2 2 2\n3 2 2\n4 3 3\n5 3 3\n6 3 3\n7 3 3\n8 4 4\n24\n24\n0\n";
 
 /// What is kept where no statement and no start sets it.
 const ZEROS: Kept = [0; KEPT];

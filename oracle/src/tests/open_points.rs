@@ -1,6 +1,6 @@
 //! Points that the defining document leaves open, as they were decided.
 
-use super::{condition_refusal, judged, lines, refusal, skips, whole, words, P};
+use super::{condition_refusal, judged, lines, refusal, skips, whole, words, P, P_PRICES};
 use crate::check::{check, said};
 use crate::machine::{run, Outcome};
 use crate::marks;
@@ -454,15 +454,16 @@ fn budgets() {
     values[0] = 3;
     values[31] = u32::MAX;
     let p = P.as_bytes();
-    assert_eq!(run(p, values, 9, 0), Ok(Outcome::Spent { statement: 1, values }));
+    assert_eq!(run(p, values, 9, 0), Ok(Outcome::Spent { statement: 1, values, ticks: 0 }));
     let after_one = {
         let mut values = values;
         values[0] = 9;
         values
     };
-    assert_eq!(run(p, values, 9, 1), Ok(Outcome::Spent { statement: 2, values: after_one }));
+    let spent = Outcome::Spent { statement: 2, values: after_one, ticks: 4 };
+    assert_eq!(run(p, values, 9, 1), Ok(spent));
     let kept = [0, 0, 0, 0, 0, 0, 0, u32::MAX];
-    assert_eq!(run(p, values, 0, 6), Ok(Outcome::Ended { value: 7, steps: 6, kept }));
+    assert_eq!(run(p, values, 0, 6), Ok(Outcome::Ended { value: 7, steps: 6, kept, ticks: 18 }));
     assert!(matches!(run(p, values, 0, 5), Ok(Outcome::Spent { statement: 8, .. })));
     assert_eq!(run(b"rubbish", values, 0, 1_000_001), Err(15));
     assert_eq!(run(b"rubbish", values, 0, u32::MAX), Err(15));
@@ -470,7 +471,10 @@ fn budgets() {
     // A run that could go on for ever.
     let endless = lines("read i0 / i1 := i1 + 1 / if i0 goto 2 else 4 / write i1");
     match run(endless.as_bytes(), [0; 32], 1, 1_000_000) {
-        Ok(Outcome::Spent { statement: 3, values }) => assert_eq!(values[1], 500_000),
+        Ok(Outcome::Spent { statement: 3, values, ticks }) => {
+            // The input's step, 500,000 sums and one `if` less.
+            assert_eq!((values[1], ticks), (500_000, 4 + 3 * 999_999));
+        }
         other => panic!("{other:?}"),
     }
 }
@@ -478,7 +482,8 @@ fn budgets() {
 #[test]
 fn files_of_the_check_program() {
     assert_eq!(check(b"", b""), b"refused 3\n");
-    assert_eq!(check(P.as_bytes(), b""), format!("marks 0 accepted 0\n{P}").as_bytes());
+    let report = format!("marks 0 accepted 0\n{P}{P_PRICES}");
+    assert_eq!(check(P.as_bytes(), b""), report.as_bytes());
     // 65,535 bytes are read, and a longer file prints nothing, whatever it holds.
     assert_eq!(check(&"skip\n".repeat(13_107).into_bytes(), b""), b"refused 3\n");
     let longer = [skips(30_000), "i1 := 1\n".repeat(8_192), "rubbish\n".repeat(8_192)];

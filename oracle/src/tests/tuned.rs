@@ -4,7 +4,8 @@ use crate::condition::tabulate;
 use crate::generate::{self, Random};
 use crate::machine::run;
 use crate::marks::{self, judge};
-use crate::program::Program;
+use crate::pricing;
+use crate::program::{Program, MOST_LINES};
 use crate::tuned;
 
 /// A program's text, damaged or of pieces in some cases.
@@ -95,4 +96,37 @@ fn tuned_judgements_are_the_plain_ones() {
             );
         }
     }
+}
+
+/// Both answers and all places lent to the tuned call, which keeps those past the statements.
+#[test]
+fn tuned_reports_are_the_plain_ones() {
+    let random = &mut Random::new(70);
+    let mut refused = 0;
+    for _ in 0..10_000 {
+        let size = generate::size(random);
+        let program = generate::program(random, size);
+        let text = program_text(random, &program);
+        let count = random.between(0, size.min(60)) + random.pick(&[0, 0, 0, 0, 200]);
+        let list = marks::text(&generate::marks(random, &program, count));
+        let list = match random.below(20) {
+            0 => generate::mark_soup(random),
+            1..=3 => generate::damage(random, &list),
+            _ => list,
+        };
+        let (mut before, mut after) = ([7; MOST_LINES], [8; MOST_LINES]);
+        let answer = tuned::report(&text, &list, &mut before, &mut after);
+        let (mut wanted_before, mut wanted_after) = ([7; MOST_LINES], [8; MOST_LINES]);
+        let wanted = pricing::report(&text, &list).map(|report| {
+            let count = report.before.len();
+            wanted_before[..count].copy_from_slice(&report.before);
+            wanted_after[..count].copy_from_slice(&report.after);
+            (count as u32, report.given, report.rewritten, report.saved)
+        });
+        let shown = || format!("{} {}", text.escape_ascii(), list.escape_ascii());
+        assert_eq!(answer, wanted, "{}", shown());
+        assert!(before == wanted_before && after == wanted_after, "{}", shown());
+        refused += usize::from(answer.is_err());
+    }
+    assert!((1_000..5_000).contains(&refused), "{refused}");
 }

@@ -6,7 +6,8 @@ use super::tabulate::Rows;
 use super::write::Writer;
 use crate::condition::Direction;
 use crate::marks::{Kind, Mark, TEXT_BYTES, VERDICT_BYTES};
-use crate::program::{Expression, Operand, Operator, Statement};
+use crate::pricing::{price, OURS};
+use crate::program::{Expression, Operand, Operator, Statement, MOST_LINES};
 
 /// What verdicts are found from.
 struct Judge {
@@ -199,21 +200,17 @@ fn make(mark: &Mark, statement: &mut Statement) {
 /// Stands for the verdict of an `rm` until each `cse` is judged.
 const UNDECIDED: u8 = 255;
 
+/// Judges a list on a program, and makes the accepted marks; the number of marks and of accepted ones.
 #[inline(always)]
-fn judge_with(
-    program: &[u8],
+fn rewrite(
+    program: &mut Program,
     marks: &[u8],
     verdicts: &mut [u8],
-    text: &mut [u8],
     is_true: impl Fn(&Judge, &Program, &Mark, u8) -> bool,
-) -> Result<(u32, u32, u32), u8> {
-    if verdicts.len() < VERDICT_BYTES || text.len() < TEXT_BYTES {
-        return Err(1);
-    }
-    let mut program = Program::read(program)?;
+) -> Result<(u32, u32), u8> {
     let mut list = List::empty();
     list.read(marks)?;
-    let mut judge = Judge { flow: Flow::new(&program), rows: Rows::new(&program) };
+    let mut judge = Judge { flow: Flow::new(program), rows: Rows::new(program) };
     let (mut named, mut accepted) = ([0; 4], 0);
     for (mark, verdict) in list.marks().iter().zip(verdicts.iter_mut()) {
         let count = judge.flow.count as u32;
@@ -231,7 +228,7 @@ fn judge_with(
                     18
                 } else if matches!(mark.kind, Kind::Remove(_)) {
                     UNDECIDED
-                } else if is_true(&judge, &program, mark, at) {
+                } else if is_true(&judge, program, mark, at) {
                     accepted += 1;
                     // Other kinds don't ask for uses.
                     if matches!(mark.kind, Kind::Reuse(_)) {
@@ -246,7 +243,7 @@ fn judge_with(
     }
     for (mark, verdict) in list.marks().iter().zip(verdicts.iter_mut()) {
         if *verdict == UNDECIDED {
-            let is_true = is_true(&judge, &program, mark, (mark.number - 1) as u8);
+            let is_true = is_true(&judge, program, mark, (mark.number - 1) as u8);
             accepted += u32::from(is_true);
             *verdict = if is_true { 0 } else { 14 };
         }
@@ -256,9 +253,34 @@ fn judge_with(
             make(mark, &mut program.statements_mut()[mark.number as usize - 1]);
         }
     }
+    Ok((list.marks().len() as u32, accepted))
+}
+
+#[inline(always)]
+fn judge_with(
+    program: &[u8],
+    marks: &[u8],
+    verdicts: &mut [u8],
+    text: &mut [u8],
+    is_true: impl Fn(&Judge, &Program, &Mark, u8) -> bool,
+) -> Result<(u32, u32, u32), u8> {
+    if verdicts.len() < VERDICT_BYTES || text.len() < TEXT_BYTES {
+        return Err(1);
+    }
+    let mut program = Program::read(program)?;
+    let (count, accepted) = rewrite(&mut program, marks, verdicts, is_true)?;
     let mut writer = Writer::new(text);
     program.statements().iter().for_each(|statement| writer.statement(statement));
-    Ok((list.marks().len() as u32, accepted, writer.written()))
+    Ok((count, accepted, writer.written()))
+}
+
+/// Whether a mark's condition is true at its statement, by a search from there.
+fn is_met(judge: &Judge, program: &Program, mark: &Mark, at: u8) -> bool {
+    match mark.kind {
+        Kind::Remove(_) => judge.is_dead(mark.variable, at),
+        Kind::Replace(a) => judge.is_held(program, Copied(mark.variable, a), at),
+        Kind::Reuse(e) => judge.is_held(program, Computed(mark.variable, e), at),
+    }
 }
 
 /// The call: fills verdicts and new text; the number of marks, of accepted ones and of bytes of new text, or the
@@ -269,11 +291,35 @@ pub fn judge(
     verdicts: &mut [u8],
     text: &mut [u8],
 ) -> Result<(u32, u32, u32), u8> {
-    judge_with(program, marks, verdicts, text, |judge, program, mark, at| match mark.kind {
-        Kind::Remove(_) => judge.is_dead(mark.variable, at),
-        Kind::Replace(a) => judge.is_held(program, Copied(mark.variable, a), at),
-        Kind::Reuse(e) => judge.is_held(program, Computed(mark.variable, e), at),
-    })
+    judge_with(program, marks, verdicts, text, is_met)
+}
+
+/// Puts the price of each statement, and tells their sum.
+fn put_prices(program: &Program, prices: &mut [u32; MOST_LINES]) -> u32 {
+    let mut total = 0;
+    for (place, statement) in prices.iter_mut().zip(program.statements()) {
+        *place = price(&OURS, statement);
+        total += *place;
+    }
+    total
+}
+
+/// The call: fills the prices of the given and of the rewritten program; the number of statements, both totals, and given
+/// less rewritten, or the refusal, 2 to 5, 9 or 10.
+pub fn report(
+    program: &[u8],
+    marks: &[u8],
+    before: &mut [u32; MOST_LINES],
+    after: &mut [u32; MOST_LINES],
+) -> Result<(u32, u32, u32, i32), u8> {
+    let mut program = Program::read(program)?;
+    let count = program.statements().len();
+    let mut prices = [0; MOST_LINES];
+    let given = put_prices(&program, &mut prices);
+    rewrite(&mut program, marks, &mut [0; VERDICT_BYTES], is_met)?;
+    before[..count].copy_from_slice(&prices[..count]);
+    let rewritten = put_prices(&program, after);
+    Ok((count as u32, given, rewritten, given as i32 - rewritten as i32))
 }
 
 /// The same, with each mark's condition labelled at every statement.

@@ -11,7 +11,7 @@ mod tabulate;
 mod write;
 
 pub use join::join;
-pub use judge::{judge, judge_by_labels};
+pub use judge::{judge, judge_by_labels, report};
 pub use review::review;
 pub use run::run;
 pub use tabulate::tabulate;

@@ -2,6 +2,7 @@
 
 use super::read::Program;
 use crate::machine::{kept_of, Outcome, Values, LARGEST_BUDGET, VALUES};
+use crate::pricing::{price, OURS};
 use crate::program::{Expression, Operand, Operator, Statement, MOST_LINES};
 
 #[derive(Clone, Copy)]
@@ -24,6 +25,7 @@ enum Code {
 struct Instruction {
     code: Code,
     x: u8,
+    price: u16,
     a: u16,
     b: u16,
 }
@@ -49,11 +51,12 @@ impl Machine {
     }
 
     fn new(program: &Program, values: &Values) -> Machine {
-        let skip = Instruction { code: Code::Skip, x: 0, a: 0, b: 0 };
+        let none = Instruction { code: Code::Skip, x: 0, price: 0, a: 0, b: 0 };
         let mut machine =
-            Machine { instructions: [skip; MOST_LINES], values: [0; PLACES], used: VALUES as u16 };
+            Machine { instructions: [none; MOST_LINES], values: [0; PLACES], used: VALUES as u16 };
         machine.values[..VALUES].copy_from_slice(values);
         for (at, statement) in program.statements().iter().enumerate() {
+            let skip = Instruction { price: price(&OURS, statement) as u16, ..none };
             machine.instructions[at] = match *statement {
                 Statement::Read(x) => Instruction { code: Code::Read, x, ..skip },
                 Statement::Write(x) => Instruction { code: Code::Write, x, ..skip },
@@ -63,9 +66,10 @@ impl Machine {
                     x: tested,
                     a: (then - 1) as u16,
                     b: (other - 1) as u16,
+                    ..skip
                 },
                 Statement::Assign(x, Expression::Single(a)) => {
-                    Instruction { code: Code::Copy, x, a: machine.place(a), b: 0 }
+                    Instruction { code: Code::Copy, x, a: machine.place(a), ..skip }
                 }
                 Statement::Assign(x, Expression::Pair(a, operator, b)) => {
                     let code = match operator {
@@ -76,7 +80,7 @@ impl Machine {
                         Operator::Less => Code::Less,
                         Operator::Equal => Code::Equal,
                     };
-                    Instruction { code, x, a: machine.place(a), b: machine.place(b) }
+                    Instruction { code, x, a: machine.place(a), b: machine.place(b), ..skip }
                 }
             };
         }
@@ -96,9 +100,10 @@ impl Machine {
     }
 
     fn run(&mut self, input: u32, budget: u32) -> Outcome {
-        let mut at = 0;
+        let (mut at, mut ticks) = (0, 0);
         for steps in 1..=budget {
-            let Instruction { code, x, a, b } = self.instructions[at % MOST_LINES];
+            let Instruction { code, x, price, a, b } = self.instructions[at % MOST_LINES];
+            ticks += u64::from(price);
             let value = match code {
                 Code::Read => input,
                 Code::Copy => self.value(a),
@@ -108,7 +113,7 @@ impl Machine {
                 Code::Divide => {
                     let divisor = self.value(b) as i32;
                     if divisor == 0 {
-                        return Outcome::Fault { statement: at as u32 + 1, steps };
+                        return Outcome::Fault { statement: at as u32 + 1, steps, ticks };
                     }
                     (self.value(a) as i32).wrapping_div(divisor) as u32
                 }
@@ -124,13 +129,14 @@ impl Machine {
                 }
                 Code::Write => {
                     let value = self.values[usize::from(x)] as i32;
-                    return Outcome::Ended { value, steps, kept: kept_of(&self.variables()) };
+                    let kept = kept_of(&self.variables());
+                    return Outcome::Ended { value, steps, kept, ticks };
                 }
             };
             self.values[usize::from(x)] = value;
             at += 1;
         }
-        Outcome::Spent { statement: at as u32 + 1, values: self.variables() }
+        Outcome::Spent { statement: at as u32 + 1, values: self.variables(), ticks }
     }
 }
 

@@ -6,8 +6,7 @@ use borrow.Author.Needs.{needs}
 use Rattle.lines.proofs.Walk.{line-further}
 use Rattle.lines.proofs.Reading.{SoFar, none-yet, one-more, whole}
 use Rattle.language.specs.Spelling.{spell, Valid}
-use Rattle.program.proofs.Texts.{line-of}
-use Rattle.blame.proofs.Blames.{first-misspelled}
+use Rattle.blame.proofs.Blames.{line-of, first-misspelled}
 use Rattle.blame.proofs.count_lines.Statement.{statement}
 use Rattle.blame.proofs.count_lines.Tie as tie
 

@@ -7,10 +7,10 @@ use borrow.Author.Needs.{needs}
 use borrow.Author.Tests.{not-true, not-false}
 use Rattle.lines.proofs.Walk.{line-further}
 use Rattle.lines.proofs.Reading.{no-lines}
-use Rattle.program.proofs.Texts.{statements-unambiguous, line-of, no-line}
+use Rattle.program.proofs.Texts.{statements-unambiguous}
 use Rattle.base.proofs.Decides.{decided-true, decided-false}
 use Rattle.blame.specs.Blame.{broken, none}
-use Rattle.blame.proofs.Blames.{Good, good-none, good-more, none-broken, first-broken}
+use Rattle.blame.proofs.Blames.{line-of, no-line, Good, good-none, good-more, none-broken, first-broken}
 use Rattle.blame.proofs.first_broken.Statement.{statement}
 use Rattle.blame.proofs.first_broken.Tie as tie
 

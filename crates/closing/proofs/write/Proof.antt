@@ -14,7 +14,7 @@ known : (c : tie.After-run2) → RunsAlike (c .before .before .run .result .answ
 known c =
     let one = c .before .before .run in
     let two = c .run2 in
-    c .before .before .before .before .before .before .pre .1 (one .result .answer) (two .result .answer) (one .result .values) (two .result .values)
+    c .before .before .before .before .before .before .pre .1 .0 (one .result .answer) (two .result .answer) (one .result .values) (two .result .values)
     (one .result .kept) (two .result .kept) (one .ensures) (two .ensures)
 
 -- so both are finished
@@ -65,6 +65,7 @@ returns-3 c =
       one = rw (a .1) at (one .ensures);
       two = rw (b .1, ← same .1) at (runs .run2 .ensures);
       alike = rw (a .1, b .1) at (same .0);
+      traces = runs .before .before .before .before .before .before .pre .1 .1;
       fits = omega (arith, p .after, k .before .before .before .before .before .before .before .before .before .before .before .before .before .before .before .before .pre .0, w1 .after, line-most (a .0 .0), w2 .1, w3 .after, line-most (b .0 .0), w4 .1, w5 .after);
       put = p;
     }

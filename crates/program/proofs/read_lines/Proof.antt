@@ -14,7 +14,7 @@ use Rattle.language.specs.declared.Statement.the-variants.{Skip}
 use Rattle.program.specs.declared.Entry.{Entry}
 use Rattle.program.specs.Program.{most}
 use Rattle.program.specs.Reading.{entry}
-use Rattle.program.proofs.Texts.{statements-unambiguous, line-of, no-line, kept-more, kept-same}
+use Rattle.program.proofs.Texts.{statements-unambiguous, no-statement, no-end, line-of, kept-more, kept-same}
 use Rattle.program.proofs.read_lines.Statement.{statement}
 use Rattle.program.proofs.read_lines.Tie as tie
 
@@ -24,10 +24,10 @@ record SoFar (t : List ℕ) (es : List Entry) (n at : ℕ) : Type 0 where
   room : length es ≡ most
 
 abbrev Inv-loop : tie.InvT-loop
-Inv-loop s entries₀ count₀ at₀ entries count at = SoFar s entries count at
+Inv-loop s entries₀ count₀ at₀ end entries count at = SoFar s entries count at
 
 abbrev μ-loop : tie.MeasureT-loop
-μ-loop s entries₀ count₀ at₀ entries count at = length s - at
+μ-loop s entries₀ count₀ at₀ end entries count at = length s - at
 
 loop-holds : tie.Need-loop-holds Inv-loop μ-loop
 unfolding reading.none-yet
@@ -35,8 +35,17 @@ loop-holds c = record { lines = reading.none-yet spell Valid _; kept = refl; roo
 
 returns : tie.Need-returns Inv-loop μ-loop
 returns c =
-    let h = c .before .before .before .before in
-    reading.no-lines (h .loop .inv .lines) statements-unambiguous (no-line _ (h .loop .at) (c .enum-told .given .1) (c .before .before .line .ensures)) (c .before .before .before .loop-test .taken)
+    let h = c .before .before .before .before .before in
+    let none = no-statement _ (h .loop .at) (c .before .before .before .statement .ensures .0) (c .before .enum-told .given .1) in
+    rw (c .misspelled .ensures) (reading.no-lines (h .loop .inv .lines) statements-unambiguous none (c .before .before .before .before .loop-test .taken))
+
+returns-2 : tie.Need-returns-2 Inv-loop μ-loop
+returns-2 c =
+    let w = c .before .before .before in
+    let e = w .before .before .before in
+    let h = e .before .before .before .before in
+    let none = no-end _ (h .loop .at) (e .before .before .statement .ensures .0) (e .e .given .1) (w .word .ensures .0) (c .before .enum-told2 .given .1) in
+    rw (c .misspelled2 .ensures) (reading.no-lines (h .loop .inv .lines) statements-unambiguous none (e .before .before .before .loop-test .taken))
 
 mul-entries : tie.Need-mul-entries Inv-loop μ-loop
 mul-entries c = omega arith
@@ -45,19 +54,24 @@ array-set-from-entries : tie.Need-array-set-from-entries Inv-loop μ-loop
 array-set-from-entries c = omega arith
 
 add-count : tie.Need-add-count Inv-loop μ-loop
-add-count c = omega (arith, c .before .before .before .before .before .before .loop .inv .lines .paid)
+add-count c = omega (arith, c .before .before .before .before .before .before .before .before .before .before .before .loop .inv .lines .paid)
 
 loop-less : tie.Need-loop-less Inv-loop μ-loop
-loop-less c = line-further (line-of (c .before .before .e .given .1) (c .before .before .before .before .line .ensures))
+loop-less c =
+    let w = c .before .before .before .before in
+    let e = w .before .before .before in
+    line-further (line-of _ (e .before .before .before .before .loop .at) (e .before .before .statement .ensures .0) (e .e .given .1) (w .word .ensures .0) (c .before .before .next .given .1) (w .word .ensures .1 (omega arith)))
 
 loop-again : tie.Need-loop-again Inv-loop μ-loop
 unfolding reading.one-more
 loop-again c =
-    let h = c .before .before .before .before .before .before in
+    let w = c .before .before .before .before in
+    let p = w .before .before .before in
+    let h = p .before .before .before .before in
     let i = h .loop .inv in
-    let e = c .before .before .e .given in
+    let e = p .e .given in
     record {
-      lines = reading.one-more (i .lines) (line-of (e .1) (c .before .before .before .before .line .ensures));
+      lines = reading.one-more (i .lines) (line-of _ (h .loop .at) (p .before .before .statement .ensures .0) (e .1) (w .word .ensures .0) (c .before .before .next .given .1) (w .word .ensures .1 (omega arith)));
       kept =
           ⊎-elim
           (λ w. rw (w .1) (kept-more (h .loop .entries) (h .loop .count) (i .lines .read) (e .0 .0) (i .room) (i .lines .counted) (i .kept) (w .0 .taken)))
@@ -66,8 +80,8 @@ loop-again c =
       room = ⊎-elim (λ w. ap length (w .1) ∙ length-set (h .loop .entries) (h .loop .count) (entry (e .0 .0)) ∙ i .room) (λ w. ap length (w .1) ∙ i .room) (c .if1 .came);
     }
 
-returns-2 : tie.Need-returns-2 Inv-loop μ-loop
-returns-2 c =
+returns-3 : tie.Need-returns-3 Inv-loop μ-loop
+returns-3 c =
     let i = c .before .loop .inv in
     record { P = i .lines .read; spells = reading.whole (i .lines) (c .loop-test .left); counted = i .lines .counted; kept = i .kept; room = i .room }
 
@@ -82,10 +96,17 @@ read-lines-spec =
     (λ c κs. search needs)
     (λ c. search needs)
     (λ c. search needs)
+    (λ c κs. search needs)
     returns
+    (λ c. search needs)
+    (λ c κs. search needs)
+    (λ c. search needs)
+    (λ c. search needs)
+    (λ c κs. search needs)
+    returns-2
     mul-entries
     array-set-from-entries
     add-count
     loop-less
     loop-again
-    returns-2)
+    returns-3)

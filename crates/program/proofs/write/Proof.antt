@@ -48,22 +48,22 @@ module _ {o : List ℕ} {es : List Entry} {n : ℕ} {q : List ℕ} {k s : ℕ} (
       room line (i .put) f
 
 abbrev Inv-loop : tie.InvT-loop
-Inv-loop out₀ entries n at₀ s₀ out at s = Inv out₀ entries n out at s
+Inv-loop out₀ p n at₀ s₀ out at s = Inv out₀ (p .entries) n out at s
 
 abbrev μ-loop : tie.MeasureT-loop
-μ-loop out₀ entries n at₀ s₀ out at s = n - s
+μ-loop out₀ p n at₀ s₀ out at s = n - s
 
 loop-holds : tie.Need-loop-holds Inv-loop μ-loop
 unfolding lines.text
 loop-holds c =
-    let p = c .before .before .pre in
+    let p = c .before .pre in
     record { room = p .0 .room; few = p .0 .few; fits = p .1; within = omega arith; put = record { text = refl; after = refl } }
 
 mul-e : tie.Need-mul-e Inv-loop μ-loop
 mul-e c = search needs
 
-array-copy-out-e : tie.Need-array-copy-out-e Inv-loop μ-loop
-array-copy-out-e c = search needs
+element-copy-out-e : tie.Need-element-copy-out-e Inv-loop μ-loop
+element-copy-out-e c = search needs
 
 line-requires : tie.Need-line-requires Inv-loop μ-loop
 line-requires c κs = line-room (c .before .before .before .loop .inv) (c .before .before .loop-test .taken)
@@ -79,8 +79,8 @@ same-length c = ap length (c .before .loop .inv .put .text) ∙ simp length-sets
 returns : tie.Need-returns Inv-loop μ-loop
 returns c =
     let i = c .before .loop .inv in
-    let n = c .before .before .before .before .args .p .count in
-    let es = c .before .before .before .before .args .p .entries in
+    let n = c .before .before .before .args .t1 .count in
+    let es = c .before .before .before .args .t1 .entries in
     let l : length (listed es n) ≡ n = length-held es n (omega arith) in
     rw (take-all (c .before .loop .s) (listed es n) (omega arith)) at (i .put)
 
@@ -92,7 +92,7 @@ write-spec =
     μ-loop
     loop-holds
     mul-e
-    array-copy-out-e
+    element-copy-out-e
     line-requires
     (λ c. search needs)
     (λ c. search needs)

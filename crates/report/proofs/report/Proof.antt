@@ -1,5 +1,7 @@
 -- `report` meets its contract: each answer of `judge` is printed. Assumes nothing.
-use Rattle.report.proofs.Reports.{answer-refused, answer-finished, refused-room, refused-printed, new-within, report-fits, finished-printed}
+use Rattle.report.proofs.Reports.{answer-refused, answer-finished, refused-room, refused-printed, report-fits, made-list, list-ready, prices-room, finished-printed}
+use Rattle.priced.proofs.Reports.{new-within, both-taken}
+use Rattle.pricing.proofs.Fair.{ours-fair}
 use Rattle.report.specs.Report.{Refuses}
 use Rattle.judge.specs.Judge.{Lent, JudgeFinished}
 use lib.Seq.{length-take-le}
@@ -47,6 +49,21 @@ slice-aggregate-write-report-2 c = sym (length-take-le _ _ (new-within (finished
 write-report-requires : tie.Need-write-report-requires
 write-report-requires c κs = report-fits (finished (c .before .before .before .before)) _ (omega arith)
 
+array-share-prefix-text-2 : tie.Need-array-share-prefix-text-2
+array-share-prefix-text-2 c = new-within (finished (c .before .before .before .before .before .before .before .before))
+
+slice-aggregate-list : tie.Need-slice-aggregate-list
+slice-aggregate-list c = sym (length-take-le _ _ (new-within (finished (c .before .before .before .before .before .before .before .before .before))))
+
+list-requires : tie.Need-list-requires
+list-requires c κs = (both-taken (finished (c .before .before .before .before .before .before .before .before .before .before)), rw (c .before .before .ours .ensures) ours-fair)
+
+write-requires : tie.Need-write-requires
+write-requires c κs =
+    let f = finished (c .before .before .before .before .before .before .before .before .before .before .before .before) in
+    let ready = list-ready f (made-list f (rw (c .before .before .before .before .ours .ensures) at (c .before .list .ensures))) in
+    (ready .0, prices-room f (c .before .before .before .before .before .before .before .before .before .before .before .before .before .before .before .before .before .before .before .before .before .if1 .left) (c .before .before .before .before .before .before .before .write-report .ensures), ready .1, ready .2)
+
 returns-2 : tie.Need-returns-2
 returns-2 c =
     let r = c .before .before .before .before .before in
@@ -54,8 +71,10 @@ returns-2 c =
 
 returns-3 : tie.Need-returns-3
 returns-3 c =
-    let r = c .before .before .before .before .before .before .before in
-    finished-printed (finished r) (r .before .before .before .before .before .before .before .before .before .if1 .left) (c .before .before .write-report .ensures)
+    let f = finished (c .before .before .before .before .before .before .before .before .before .before .before .before .before .before .before) in
+    let listed = made-list f (rw (c .before .before .before .before .before .before .before .ours .ensures) at (c .before .before .before .before .list .ensures)) in
+    let prices = c .before .before .write .ensures in
+    finished-printed f (c .before .before .before .before .before .before .before .before .before .before .before .before .before .before .before .before .before .before .before .before .before .before .before .before .if1 .left) (c .before .before .before .before .before .before .before .before .before .before .write-report .ensures) listed (prices .0) (prices .1)
 
 pub report-spec : {M : Type 1} → statement M
 report-spec =
@@ -75,6 +94,11 @@ report-spec =
     array-share-prefix-text
     slice-aggregate-write-report-2
     write-report-requires
+    (λ c κs. search needs)
+    array-share-prefix-text-2
+    slice-aggregate-list
+    list-requires
+    write-requires
     (λ c. search needs)
     returns-2
     (λ c. search needs)

@@ -3,7 +3,7 @@ use mathlib.Core.Path.{refl}
 use mathlib.Core.Logic.{inl, inr}
 use borrow.Author.Needs.{needs}
 use Rattle.program.specs.Program.{Taken}
-use Rattle.program.specs.Reading.{statements}
+use Rattle.program.specs.Reading.{statements, Held}
 use Rattle.run.proofs.run.Statement.{statement}
 use Rattle.run.proofs.run.Tie as tie
 
@@ -18,20 +18,20 @@ returns-2 c =
     (inr (told .before .before .before .if1 .left, told .answer .given .0 .0, (rw (told .answer .given .1) at (told .before .before .read .ensures)) .0, c .before .number-of .ensures), refl, refl)
 
 -- the text that was read is taken
-taken : (c : tie.After-enum-told) → Taken (c .before .before .before .before .before .args .program .now) (statements (c .before .before .read .result .program))
-taken c = (rw (c .enum-told .given .1) at (c .before .before .read .ensures)) .0
+taken : (c : tie.After-enum-told) → Taken (c .before .before .before .before .before .args .program .now) (statements (c .before .before .read .result .program)) × Held (c .before .before .read .result .program)
+taken c = (rw (c .enum-told .given .1) at (c .before .before .read .ensures))
 
 run-requires : tie.Need-run-requires
-run-requires c κs = taken (c .before) .program
+run-requires c κs = let t = taken (c .before .before) in (t .0 .program, t .1)
 
 returns-3 : tie.Need-returns-3
 returns-3 c =
-    let read = c .before .before .before .before .before .before in
+    let read = c .before .before .before .before .before .before .before in
     record {
       P = statements (read .read .result .program);
       allowed = read .before .if1 .left;
-      taken = taken (c .before .before .before .before);
-      answers = c .before .before .run .ensures;
+      taken = taken (c .before .before .before .before .before) .0;
+      answers = rw (c .before .before .before .ours .ensures) at (c .before .before .run .ensures);
     }
 
 pub run-spec : {M : Type 1} → statement M
@@ -46,5 +46,6 @@ run-spec =
     (λ c κs. search needs)
     returns-2
     (λ c. search needs)
+    (λ c κs. search needs)
     run-requires
     returns-3)

@@ -4,7 +4,7 @@ use Rattle.side_by_side.proofs.at_stage.Statement.{statement}
 use Rattle.side_by_side.proofs.at_stage.Tie as tie
 
 returns : tie.Need-returns
-returns c = rw (c .no-values .ensures)
+returns c = rw (c .before .no-values .ensures, c .blank .ensures)
 
 pub at-stage-spec : {M : Type 1} → statement M
-at-stage-spec = tie.close (tie.spec (λ c κs. search needs) returns)
+at-stage-spec = tie.close (tie.spec (λ c κs. search needs) (λ c κs. search needs) returns)

@@ -15,8 +15,8 @@ returns c = λ u input start.
 
 returns-2 : tie.Need-returns-2
 returns-2 c = λ u input start.
-    let k = c .before in
-    judged-heading _ _ u start (rw (k .head2 .given .1) at (k .before .before .before .before .before .before .write .ensures)) refl
+    let k = c .before .before in
+    judged-heading _ _ u start (rw (k .head2 .given .1) at (k .before .before .before .before .before .before .write .ensures)) (c .find .ensures) refl
 
 returns-3 : tie.Need-returns-3
 returns-3 c = λ u input start.
@@ -33,6 +33,7 @@ heading-spec =
     (λ c. search needs)
     (λ c κs. search needs)
     (λ c. search needs)
+    (λ c κs. search needs)
     (λ c. search needs)
     (λ c κs. search needs)
     (λ c. search needs)

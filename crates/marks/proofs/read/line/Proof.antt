@@ -7,7 +7,7 @@ use Rattle.marks.proofs.read.line.Tie as tie
 returns : tie.Need-returns
 returns c =
     let a = c .before .before .args in
-    line-right (a .s .now) (a .at) (c .ended-mark .result) (c .ended-mark .ensures .1) (c .ended-mark .ensures .0)
+    line-right (a .s .now) (a .at) (c .mark .result) (c .mark .ensures .1) (c .mark .ensures .0)
 
 pub line-spec : {M : Type 1} → statement M
 line-spec = tie.close (tie.spec (λ c κs. search needs) returns)

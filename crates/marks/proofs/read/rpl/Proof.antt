@@ -26,12 +26,12 @@ returns-2 c =
 returns-3 : tie.Need-returns-3
 unfolding parseTail
 returns-3 c =
-    let p₂ = c .before .before .before .before .before in
+    let p₂ = c .before .before .before .before in
     let p₁ = p₂ .before .before .before .before in (
       rw (
         sym (p₁ .before .before .front .ensures .0) ∙ ap (parsedVariable _) (p₁ .x .given .1),
         sym (p₂ .before .before .operand .ensures .0) ∙ ap (parsedOperand _) (p₂ .a .given .1),
-        sym (c .before .before .word .ensures .0) ∙ ap (parsedWord _) (c .enum-told3 .given .1),
+        sym (c .before .before .ended .ensures .0) ∙ ap (parsedWord _) (c .enum-told3 .given .1),
       ),
       omega arith,
     )
@@ -40,14 +40,14 @@ returns-4 : tie.Need-returns-4
 unfolding parseTail
 returns-4 c =
     let p₃ = c .before in
-    let p₂ = p₃ .before .before .before .before .before in
+    let p₂ = p₃ .before .before .before .before in
     let p₁ = p₂ .before .before .before .before in (
       rw (
         sym (p₁ .before .before .front .ensures .0) ∙ ap (parsedVariable _) (p₁ .x .given .1),
         sym (p₂ .before .before .operand .ensures .0) ∙ ap (parsedOperand _) (p₂ .a .given .1),
-        sym (p₃ .before .before .word .ensures .0) ∙ ap (parsedWord _) (p₃ .k2 .given .1),
+        sym (p₃ .before .before .ended .ensures .0) ∙ ap (parsedWord _) (p₃ .k2 .given .1),
       ),
-      omega (arith, p₃ .before .before .word .ensures .1 (omega arith), ap wordEnd (p₃ .k2 .given .1)),
+      omega (arith, p₃ .before .before .ended .ensures .1, ap wordEnd (p₃ .k2 .given .1)),
     )
 
 pub rpl-spec : {M : Type 1} → statement M
@@ -63,7 +63,6 @@ rpl-spec =
     (λ c. search needs)
     (λ c. search needs)
     returns-2
-    (λ c. search needs)
     (λ c κs. search needs)
     (λ c. search needs)
     (λ c. search needs)
