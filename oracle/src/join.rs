@@ -2,6 +2,7 @@
 
 use crate::machine::{Outcome, Run, State, Values};
 use crate::marks::TEXT_BYTES;
+use crate::pricing::{price, OURS};
 use crate::program::{Expression, Operand, Program, Statement, MOST_LINES};
 
 /// The one program that two become, or the refusal 21. The road's `write X` and the creeper's `read Y` become `Y := X`, and
@@ -76,6 +77,22 @@ impl<'a> InTurn<'a> {
         }
     }
 
+    /// The price of the next step. That of the seam is one assignment's, neither a `write`'s nor a `read`'s, so the ticks of both aren't the sum of
+    /// the two programs' ticks.
+    pub fn cost(&self) -> u64 {
+        let seam = (self.road.statements().last(), self.creeper.statement(1));
+        match (*self.run.state(), seam) {
+            (
+                State::Before { statement, .. },
+                (Some(&Statement::Write(x)), Some(&Statement::Read(y))),
+            ) if !self.is_second && statement == self.road.count() => {
+                let copy = Statement::Assign(y, Expression::Single(Operand::Variable(x)));
+                u64::from(price(&OURS, &copy))
+            }
+            _ => self.run.cost(),
+        }
+    }
+
     /// One step. What the road program writes is what the creeper program reads, in one step.
     pub fn step(&mut self) {
         let before = *self.run.state();
@@ -102,16 +119,17 @@ pub fn run_in_turn(
     budget: u32,
 ) -> Outcome {
     let mut both = InTurn::start(road, creeper, values, input);
-    let mut steps = 0;
+    let (mut steps, mut ticks) = (0, 0);
     loop {
         match both.state() {
-            State::Ended { value, kept } => return Outcome::Ended { value, steps, kept },
-            State::Faulted { statement } => return Outcome::Fault { statement, steps },
+            State::Ended { value, kept } => return Outcome::Ended { value, steps, kept, ticks },
+            State::Faulted { statement } => return Outcome::Fault { statement, steps, ticks },
             State::Before { statement, values } if steps == budget => {
-                return Outcome::Spent { statement, values };
+                return Outcome::Spent { statement, values, ticks };
             }
             State::Before { .. } => {}
         }
+        ticks += both.cost();
         both.step();
         steps += 1;
     }

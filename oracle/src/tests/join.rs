@@ -46,9 +46,12 @@ fn assert_in_turn(road: &Program, creeper: &Program, values: Values, input: u32,
     }
 }
 
-fn ended(value: i32, steps: u32) -> Outcome {
-    Outcome::Ended { value, steps, kept: ZEROS }
+fn ended(value: i32, steps: u32, ticks: u64) -> Outcome {
+    Outcome::Ended { value, steps, kept: ZEROS, ticks }
 }
+
+/// What the seam spares: a `write` and a `read` at 4 ticks each become an assignment at 2.
+const SEAM: u64 = 4 + 4 - 2;
 
 const ROAD: &str = "read i0 / i1 := i0 + 1 / write i1";
 const CREEPER: &str = "read i2 / if i2 goto 3 else 4 / i1 := i1 * i2 / write i1";
@@ -60,13 +63,13 @@ fn two_become_one() {
         "read i0 / i1 := i0 + 1 / i2 := i1 / if i2 goto 5 else 6 / i1 := i1 * i2 / write i1";
     assert_eq!(text, lines(wanted));
     // Each by itself: 5 after 3 steps; 5 times 5 after 4, with i1 as the first left it.
-    assert_eq!(ran(&lines(ROAD), [0; 32], 4, 100), ended(5, 3));
+    assert_eq!(ran(&lines(ROAD), [0; 32], 4, 100), ended(5, 3, 11));
     let mut left = [0; 32];
     left[0] = 4;
     left[1] = 5;
-    assert_eq!(ran(&lines(CREEPER), left, 5, 100), ended(25, 4));
-    assert_eq!(ran(&text, [0; 32], 4, 100), ended(25, 6));
-    assert_eq!(ran(&text, [0; 32], u32::MAX, 100), ended(0, 5));
+    assert_eq!(ran(&lines(CREEPER), left, 5, 100), ended(25, 4, 20));
+    assert_eq!(ran(&text, [0; 32], 4, 100), ended(25, 6, 11 + 20 - SEAM));
+    assert_eq!(ran(&text, [0; 32], u32::MAX, 100), ended(0, 5, 16));
     for input in [0, 1, 4, u32::MAX] {
         assert_in_turn(&program(&lines(ROAD)), &program(&lines(CREEPER)), [7; 32], input, 20);
     }
@@ -80,16 +83,19 @@ fn p_with_itself() {
     assert_eq!(found[7], "i0 := i3");
     assert_eq!((found[11], found[13]), ("if i0 goto 13 else 15", "if i0 goto 11 else 15"));
     assert_eq!((found[4], found[6]), ("if i0 goto 6 else 8", "if i0 goto 4 else 8"));
-    assert_eq!(ran(&text, [0; 32], 0, 1_000), ended(14, 37));
-    assert_eq!(ran(&text, [0; 32], 2, 1_000), ended(16, 51));
+    assert_eq!(ran(&text, [0; 32], 0, 1_000), ended(14, 37, 18 + 96 - SEAM));
+    assert_eq!(ran(&text, [0; 32], 2, 1_000), ended(16, 51, 36 + 120 - SEAM));
     // By themselves: 7 after 6 steps, then 14 after 32; 9 after 12, then 16 after 40.
-    assert_eq!((ran(P, [0; 32], 0, 99), ran(P, [0; 32], 2, 99)), (ended(7, 6), ended(9, 12)));
+    assert_eq!(
+        (ran(P, [0; 32], 0, 99), ran(P, [0; 32], 2, 99)),
+        (ended(7, 6, 18), ended(9, 12, 36))
+    );
     let left = |input, steps: u32| match ran(P, [0; 32], input, steps - 1) {
         Outcome::Spent { values, .. } => values,
         other => panic!("{other:?}"),
     };
-    assert_eq!(ran(P, left(0, 6), 7, 99), ended(14, 32));
-    assert_eq!(ran(P, left(2, 12), 9, 99), ended(16, 40));
+    assert_eq!(ran(P, left(0, 6), 7, 99), ended(14, 32, 96));
+    assert_eq!(ran(P, left(2, 12), 9, 99), ended(16, 40, 120));
     for input in 0..6 {
         assert_in_turn(&program(P), &program(P), [3; 32], input, 200);
     }
@@ -102,12 +108,13 @@ fn the_seam_stores_what_is_written() {
     let text = text_of(&lines(road), &lines("read i2 / write i2"));
     let wanted = "read i0 / if i0 goto 4 else 3 / i1 := 9 / i2 := i1 / write i2";
     assert_eq!(text, lines(wanted));
-    assert_eq!(ran(&text, [5; 32], 1, 9), Outcome::Ended { value: 5, steps: 4, kept: [5; 8] });
-    assert_eq!(ran(&text, [5; 32], 0, 9), Outcome::Ended { value: 9, steps: 5, kept: [5; 8] });
+    let keeps_fives = |value, steps, ticks| Outcome::Ended { value, steps, kept: [5; 8], ticks };
+    assert_eq!(ran(&text, [5; 32], 1, 9), keeps_fives(5, 4, 13));
+    assert_eq!(ran(&text, [5; 32], 0, 9), keeps_fives(9, 5, 15));
     // The same variable: its value is stored into itself.
     let text = text_of("read i3\nwrite i3\n", "read i3\ni3 := i3 + 1\nwrite i3\n");
     assert_eq!(text, "read i3\ni3 := i3\ni3 := i3 + 1\nwrite i3\n");
-    assert_eq!(ran(&text, [0; 32], 6, 9), ended(7, 4));
+    assert_eq!(ran(&text, [0; 32], 6, 9), ended(7, 4, 13));
     // The other way round it would be another program.
     let text = text_of("read i3\nwrite i4\n", "read i5\nwrite i5\n");
     assert_eq!(text, "read i3\ni5 := i4\nwrite i5\n");
@@ -118,7 +125,7 @@ fn the_seam_stores_what_is_written() {
     let text = text_of(&lines(ROAD), "read i0\ni0 := i0 - 1\nif i0 goto 2 else 4\nwrite i0\n");
     let tail = "i0 := i1\ni0 := i0 - 1\nif i0 goto 4 else 6\nwrite i0\n";
     assert_eq!(text, format!("read i0\ni1 := i0 + 1\n{tail}"));
-    assert_eq!(ran(&text, [0; 32], 1, 99), ended(0, 8));
+    assert_eq!(ran(&text, [0; 32], 1, 99), ended(0, 8, 25));
 }
 
 /// What the road keeps is what the creeper starts with; what the whole keeps is what the creeper left.
@@ -130,7 +137,7 @@ fn kept_values_go_on() {
     let mut values = [0; 32];
     values[24] = 1;
     let kept = [5, 10, 0, 0, 0, 0, 0, 0];
-    let outcome = Outcome::Ended { value: 4, steps: 5, kept };
+    let outcome = Outcome::Ended { value: 4, steps: 5, kept, ticks: 22 };
     assert_eq!(run_program(&whole, values, 4, 99), outcome);
     assert_in_turn(&road, &creeper, values, 4, 9);
 }
@@ -157,16 +164,16 @@ fn endless_programs() {
 fn faults() {
     let divides = "read i0\nskip\ni1 := 7 / i0\nwrite i1\n";
     let ends = "read i0\nwrite i0\n";
-    let fault = |statement, steps| Outcome::Fault { statement, steps };
+    let fault = |statement, steps, ticks| Outcome::Fault { statement, steps, ticks };
     // In the first at the same number; in the second at its new one, N - 1 further, after the sum less 1.
-    assert_eq!(ran(&text_of(divides, ends), [0; 32], 0, 99), fault(3, 3));
-    assert_eq!(ran(&text_of(ends, divides), [0; 32], 0, 99), fault(4, 4));
-    assert_eq!(ran(divides, [0; 32], 0, 99), fault(3, 3));
+    assert_eq!(ran(&text_of(divides, ends), [0; 32], 0, 99), fault(3, 3, 29));
+    assert_eq!(ran(&text_of(ends, divides), [0; 32], 0, 99), fault(4, 4, 31));
+    assert_eq!(ran(divides, [0; 32], 0, 99), fault(3, 3, 29));
     // 7 / 9 is 0, by which the second divides: 4 and 3 steps less 1.
     let text = text_of(divides, divides);
-    assert_eq!(ran(&text, [0; 32], 9, 99), fault(6, 6));
-    assert_eq!(ran(&text, [0; 32], 0, 99), fault(3, 3));
-    assert_eq!(ran(&text, [0; 32], 3, 99), ended(3, 7));
+    assert_eq!(ran(&text, [0; 32], 9, 99), fault(6, 6, 56));
+    assert_eq!(ran(&text, [0; 32], 0, 99), fault(3, 3, 29));
+    assert_eq!(ran(&text, [0; 32], 3, 99), ended(3, 7, 60));
     for input in [0, 3, 9, 1] {
         assert_in_turn(&program(divides), &program(divides), [0; 32], input, 20);
     }
@@ -298,20 +305,21 @@ fn random_pairs_run_in_turn() {
                     met.road_fault += 1;
                 }
                 Outcome::Spent { .. } => met.road_endless += 1,
-                Outcome::Ended { value, steps, .. } => {
+                Outcome::Ended { value, steps, ticks, .. } => {
                     let left = match run_program(&road, values, input, steps - 1) {
                         Outcome::Spent { values, .. } => values,
                         other => panic!("{other:?}"),
                     };
                     match run_program(&creeper, left, value as u32, LONG) {
-                        Outcome::Ended { value, steps: more, kept } => {
-                            let steps = steps + more - 1;
-                            assert_eq!(found, Outcome::Ended { value, steps, kept });
+                        Outcome::Ended { value, steps: more, kept, ticks: later } => {
+                            let (steps, ticks) = (steps + more - 1, ticks + later - SEAM);
+                            assert_eq!(found, Outcome::Ended { value, steps, kept, ticks });
                             met.both_ended += 1;
                         }
-                        Outcome::Fault { statement, steps: more } => {
+                        Outcome::Fault { statement, steps: more, ticks: later } => {
                             let (statement, steps) = (statement + n - 1, steps + more - 1);
-                            assert_eq!(found, Outcome::Fault { statement, steps });
+                            let ticks = ticks + later - SEAM;
+                            assert_eq!(found, Outcome::Fault { statement, steps, ticks });
                             met.creeper_fault += 1;
                         }
                         Outcome::Spent { .. } => met.creeper_endless += 1,
