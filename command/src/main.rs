@@ -86,9 +86,7 @@ fn wrong(arguments: &Arguments) -> Option<clap::Error> {
         | Call::Run(_)
         | Call::Lines(_)
         | Call::List(_)
-        | Call::Join(_) => {
-            return None
-        }
+        | Call::Join(_) => return None,
     };
     let mut command = Arguments::command();
     command.build();
