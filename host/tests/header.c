@@ -502,6 +502,7 @@ static int join_answers(void) {
     const size_t m = strlen(road), n = strlen(creeper), bytes = strlen(joined);
     uint32_t places[5] = {1, 2, 3, 4, 5}; /* the second and the fourth are lent */
     uint32_t values[32] = {0}, ended, steps, statement, left[32], kept[8];
+    uint64_t ticks;
     size_t k, length;
     int32_t value;
 
@@ -528,11 +529,12 @@ static int join_answers(void) {
     CHECK(places[0] == 1 && places[1] == 6 && places[2] == 3 && places[3] == bytes && places[4] == 5);
     CHECK(memcmp(text + 8, joined, bytes) == 0);
     for (k = 0; k < sizeof text; k++) CHECK((k >= 8 && k < 8 + bytes) || text[k] == 0xee);
-    CHECK(rewrites_run(text + 8, bytes, values, 4, 100, &ended, &value, &steps, &statement, left, kept) == 0);
-    CHECK(ended == 1 && value == 25 && steps == 6);
+    CHECK(rewrites_run(text + 8, bytes, values, 4, 100, &ended, &value, &steps, &statement, left, kept,
+                       &ticks) == 0);
+    CHECK(ended == 1 && value == 25 && steps == 6 && ticks == 25);
     CHECK(rewrites_run(text + 8, bytes, values, 0xffffffff, 100, &ended, &value, &steps, &statement, left,
-                       kept) == 0);
-    CHECK(ended == 1 && value == 0 && steps == 5);
+                       kept, &ticks) == 0);
+    CHECK(ended == 1 && value == 0 && steps == 5 && ticks == 16);
     return 0;
 }
 
