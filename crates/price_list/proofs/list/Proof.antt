@@ -9,8 +9,7 @@ use mir.Facts.{toZ-ofZ}
 use borrow.Author.Needs.{needs}
 use lib.ListN.{length}
 use Rattle.program.specs.Program.{most}
-use Rattle.program.specs.Reading.{statements}
-use Rattle.program.specs.declared.Program.{Program}
+use Rattle.language.specs.declared.Statement.{Statement}
 use Rattle.program.proofs.RoundTrip.{taken-unique}
 use Rattle.pricing.specs.Prices.{column, most-price, Fair}
 use Rattle.pricing.proofs.Columns.{column-length}
@@ -26,26 +25,24 @@ read-taken-requires-2 : tie.Need-read-taken-requires-2
 read-taken-requires-2 c κs = let both = c .before .before .before .pre .0 in record { P = both .Q; taken = both .new }
 
 -- a column of fair prices can be summed
-ready : (ps : List ℕ) (p : Program) (found : List ℕ) → found ≡ column ps (statements p) → Fair ps → Fair found × (length found ≡ most)
-ready ps p found e f = rw e (column-most most-price ps (statements p) f, column-length ps (statements p))
+ready : (ps : List ℕ) (P : List Statement) {found : List ℕ} → found ≡ column ps P → Fair ps → Fair found × (length found ≡ most)
+ready ps P e f = rw e (column-most most-price ps P f, column-length ps P)
 
 total-requires : tie.Need-total-requires
-total-requires c κs =
-    let r = ready (c .before .before .before .before .before .before .before .args .table .now) (c .before .before .before .before .read-taken .result) _ (c .before .before .prices-of .ensures) (c .before .before .before .before .before .before .before .pre .1) in
-    (r .0, c .before .before .before .before .read-taken .ensures .1 .few, r .1)
+total-requires c κs = let r = ready _ _ (c .before .before .prices-of .ensures) (c .before .before .before .before .before .before .before .pre .1) in (r .0, c .before .before .before .before .read-taken .ensures .1 .few, r .1)
 
 total-requires-2 : tie.Need-total-requires-2
-total-requires-2 c κs =
-    let r = ready (c .before .before .before .before .before .before .before .before .before .args .table .now) (c .before .before .before .before .before .read-taken2 .result) _ (c .before .before .before .prices-of2 .ensures) (c .before .before .before .before .before .before .before .before .before .pre .1) in
-    (r .0, c .before .before .before .before .before .before .read-taken .ensures .1 .few, r .1)
+total-requires-2 c κs = let r = ready _ _ (c .before .before .before .prices-of2 .ensures) (c .before .before .before .before .before .before .before .before .before .pre .1) in (r .0, c .before .before .before .before .before .before .read-taken .ensures .1 .few, r .1)
 
 less-requires : tie.Need-less-requires
 less-requires c κs =
     let few = c .before .before .before .before .before .before .before .read-taken .ensures .1 .few in
-    let one = ready (c .before .before .before .before .before .before .before .before .before .before .args .table .now) (c .before .before .before .before .before .before .before .read-taken .result) (c .before .before .before .before .before .prices-of .result) (c .before .before .before .before .before .prices-of .ensures) (c .before .before .before .before .before .before .before .before .before .before .pre .1) .0 in
-    let two = ready (c .before .before .before .before .before .before .before .before .before .before .args .table .now) (c .before .before .before .before .before .before .read-taken2 .result) (c .before .before .before .before .prices-of2 .result) (c .before .before .before .before .prices-of2 .ensures) (c .before .before .before .before .before .before .before .before .before .before .pre .1) .0 in
     let n = c .before .before .before .before .before .before .before .read-taken .result .count in
-    (omega (arith, few, c .before .before .total .ensures, sum-most most-price n (c .before .before .before .before .before .prices-of .result) one), omega (arith, few, c .total2 .ensures, sum-most most-price n (c .before .before .before .before .prices-of2 .result) two))
+    let one = sum-most most-price n (c .before .before .before .before .before .prices-of .result) (ready _ _ (c .before .before .before .before .before .prices-of .ensures) (c .before .before .before .before .before .before .before .before .before .before .pre .1) .0) in
+    let two = sum-most most-price n (c .before .before .before .before .prices-of2 .result) (ready _ _ (c .before .before .before .before .prices-of2 .ensures) (c .before .before .before .before .before .before .before .before .before .before .pre .1) .0) in
+    let x = c .before .before .total .ensures in
+    let y = c .total2 .ensures in
+    (omega (arith, few, x, y, one, two), omega (arith, few, x, y, one, two))
 
 returns : tie.Need-returns
 returns c P Q t w =
