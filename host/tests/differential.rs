@@ -2444,7 +2444,7 @@ fn lists_brought_up_to_date_are_as_by_the_oracle() {
 // Joined programs
 
 /// The places that a join sets, with kept words between them.
-const STATEMENTS: usize = 0;
+const JOINED_STATEMENTS: usize = 0;
 const JOINED_BYTES: usize = 2;
 const JOIN_PLACES: usize = 3;
 
@@ -2462,7 +2462,7 @@ fn join_agrees(
     let (mut expected_text, mut expected_places) = (text.clone(), places.clone());
     let wanted = join::join(road, creeper, expected_text.part());
     if let Ok((statements, bytes)) = wanted {
-        expected_places.part()[STATEMENTS] = statements;
+        expected_places.part()[JOINED_STATEMENTS] = statements;
         expected_places.part()[JOINED_BYTES] = bytes;
     }
     let shown = || {
@@ -2480,7 +2480,7 @@ fn join_agrees(
             creeper_len,
             text.part().as_mut_ptr(),
             room,
-            place.add(STATEMENTS),
+            place.add(JOINED_STATEMENTS),
             place.add(JOINED_BYTES),
         )
     };
@@ -2519,18 +2519,19 @@ fn run_in_turn(
     let further = random.between(by_steps as usize, 600) as u32;
     let far = random.pick(&[2_000, 2_000, 2_000, 20_000]);
     let mut both = InTurn::start(road, creeper, values, input);
-    let mut steps = 0;
+    let (mut steps, mut ticks) = (0, 0);
     for budget in (0..by_steps).chain(further..further + 6).chain([far]) {
         while steps < budget && matches!(both.state(), State::Before { .. }) {
+            ticks += both.cost();
             both.step();
             steps += 1;
         }
         let wanted = match both.state() {
-            State::Before { statement, values } => Outcome::Spent { statement, values },
-            State::Ended { value, kept } => Outcome::Ended { value, steps, kept },
-            State::Faulted { statement } => Outcome::Fault { statement, steps },
+            State::Before { statement, values } => Outcome::Spent { statement, values, ticks },
+            State::Ended { value, kept } => Outcome::Ended { value, steps, kept, ticks },
+            State::Faulted { statement } => Outcome::Fault { statement, steps, ticks },
         };
-        let mut places = Lent::new(random, RUN_WORDS, |bits| bits as u32);
+        let mut places = RunPlaces::new(random);
         let mut expected = places.clone();
         put_outcome(&mut expected, wanted);
         let shown = || {
@@ -2538,7 +2539,8 @@ fn run_in_turn(
             format!("case {case}: values {values:?} input {input} budget {budget} joined {text}")
         };
         assert_eq!(lend_run(text, &values, input, budget, &mut places), 0, "{}", shown());
-        places.assert_same(&expected, "places of the joined run", shown);
+        places.words.assert_same(&expected.words, "places of the joined run", shown);
+        places.ticks.assert_same(&expected.ticks, "ticks of the joined run", shown);
         runs.met("steps");
         match wanted {
             Outcome::Spent { statement, .. } => {

@@ -80,11 +80,14 @@ fn outcome(program: &[u8], values: &[u32; 32], input: u32, budget: u32) -> Outco
     run(program, values, input, budget).unwrap_or_else(|refusal| panic!("{refusal}"))
 }
 
+/// What the seam spares: a `write` and a `read` at 4 ticks each become an assignment at 2.
+const SEAM: u64 = 4 + 4 - 2;
+
 /// How the two programs stand one after the other under a budget, as the joined one is to tell it.
 fn in_turn(road: &[u8], creeper: &[u8], values: &[u32; 32], input: u32, budget: u32) -> Outcome {
     let further = road.iter().filter(|&&byte| byte == 10).count() as u32 - 1;
-    let (value, steps) = match outcome(road, values, input, budget) {
-        Outcome::Ended { value, steps, .. } => (value, steps),
+    let (value, steps, ticks) = match outcome(road, values, input, budget) {
+        Outcome::Ended { value, steps, ticks, .. } => (value, steps, ticks),
         other => return other,
     };
     // What the road program left are its values before `write`.
@@ -93,14 +96,17 @@ fn in_turn(road: &[u8], creeper: &[u8], values: &[u32; 32], input: u32, budget: 
         other => panic!("{other:?}"),
     };
     match outcome(creeper, &left, value as u32, budget + 1 - steps) {
-        Outcome::Ended { value, steps: more, kept } => {
-            Outcome::Ended { value, steps: steps + more - 1, kept }
+        Outcome::Ended { value, steps: more, kept, ticks: later } => {
+            let (steps, ticks) = (steps + more - 1, ticks + later - SEAM);
+            Outcome::Ended { value, steps, kept, ticks }
         }
-        Outcome::Fault { statement, steps: more } => {
-            Outcome::Fault { statement: statement + further, steps: steps + more - 1 }
+        Outcome::Fault { statement, steps: more, ticks: later } => {
+            let (steps, ticks) = (steps + more - 1, ticks + later - SEAM);
+            Outcome::Fault { statement: statement + further, steps, ticks }
         }
-        Outcome::Spent { statement, values } => {
-            Outcome::Spent { statement: statement + further, values }
+        Outcome::Spent { statement, values, ticks: later } => {
+            let ticks = ticks + later - SEAM;
+            Outcome::Spent { statement: statement + further, values, ticks }
         }
     }
 }
@@ -123,8 +129,8 @@ fn assert_in_turn(road: &[u8], creeper: &[u8]) {
     }
 }
 
-fn ended(value: i32, steps: u32) -> Outcome {
-    Outcome::Ended { value, steps, kept: [0; KEPT] }
+fn ended(value: i32, steps: u32, ticks: u64) -> Outcome {
+    Outcome::Ended { value, steps, kept: [0; KEPT], ticks }
 }
 
 const ZERO: [u32; 32] = [0; 32];
@@ -137,8 +143,8 @@ fn two_become_one() {
     let expected =
         ["read i0", "i1 := i0 + 1", "i2 := i1", "if i2 goto 5 else 6", "i1 := i1 * i2", "write i1"];
     assert_eq!(shown(&new), shown(&text(&expected)));
-    assert_eq!(outcome(&new, &ZERO, 4, 100), ended(25, 6));
-    assert_eq!(outcome(&new, &ZERO, u32::MAX, 100), ended(0, 5));
+    assert_eq!(outcome(&new, &ZERO, 4, 100), ended(25, 6, 25));
+    assert_eq!(outcome(&new, &ZERO, u32::MAX, 100), ended(0, 5, 16));
     assert_in_turn(&road, &creeper);
 }
 
@@ -163,8 +169,8 @@ fn p_with_itself() {
         "write i3",
     ];
     assert_eq!(shown(&new), shown(&text(&expected)));
-    assert_eq!(outcome(&new, &ZERO, 0, 1000), ended(14, 37));
-    assert_eq!(outcome(&new, &ZERO, 2, 1000), ended(16, 51));
+    assert_eq!(outcome(&new, &ZERO, 0, 1000), ended(14, 37, 108));
+    assert_eq!(outcome(&new, &ZERO, 2, 1000), ended(16, 51, 150));
     // One step less is not enough.
     assert!(matches!(outcome(&new, &ZERO, 2, 50), Outcome::Spent { statement: 15, .. }));
     assert_in_turn(P.as_bytes(), P.as_bytes());
@@ -177,8 +183,8 @@ fn an_if_on_the_last_statement_of_the_road_goes_to_the_seam() {
     let new = joined(&road, &creeper);
     let expected = ["read i0", "if i0 goto 4 else 3", "i1 := 9", "i2 := i1", "write i2"];
     assert_eq!(shown(&new), shown(&text(&expected)));
-    assert_eq!(outcome(&new, &ZERO, 1, 9), ended(0, 4));
-    assert_eq!(outcome(&new, &ZERO, 0, 9), ended(9, 5));
+    assert_eq!(outcome(&new, &ZERO, 1, 9), ended(0, 4, 13));
+    assert_eq!(outcome(&new, &ZERO, 0, 9), ended(9, 5, 15));
     assert_in_turn(&road, &creeper);
     // The last statement of the creeper program is the joined one's, and its second the one behind the seam.
     let creeper = text(&["read i0", "i0 := i0 - 1", "if i0 goto 2 else 4", "write i0"]);
@@ -194,7 +200,7 @@ fn the_same_variable_on_both_sides() {
     let creeper = text(&["read i3", "i3 := i3 + 1", "write i3"]);
     let new = joined(&road, &creeper);
     assert_eq!(shown(&new), shown(b"read i3\ni3 := i3\ni3 := i3 + 1\nwrite i3\n"));
-    assert_eq!(outcome(&new, &ZERO, 6, 9), ended(7, 4));
+    assert_eq!(outcome(&new, &ZERO, 6, 9), ended(7, 4, 13));
     assert_in_turn(&road, &creeper);
     // Which is set by which: the written one isn't.
     let new = joined(b"read i3\nwrite i4\n", b"read i5\nwrite i4\n");
@@ -210,7 +216,8 @@ fn what_is_kept_goes_on() {
     let mut values = ZERO;
     values[24] = 1;
     let kept = [5, 10, 0, 0, 0, 0, 0, 0];
-    assert_eq!(outcome(&new, &values, 4, 9), Outcome::Ended { value: 4, steps: 5, kept });
+    let expected = Outcome::Ended { value: 4, steps: 5, kept, ticks: 22 };
+    assert_eq!(outcome(&new, &values, 4, 9), expected);
     assert_in_turn(&road, &creeper);
 }
 
@@ -238,15 +245,15 @@ fn endless_programs() {
 fn a_fault_of_each() {
     let divides = text(&["read i0", "skip", "i1 := 7 / i0", "write i1"]);
     let ends = text(&["read i0", "write i0"]);
-    let fault = |statement, steps| Outcome::Fault { statement, steps };
-    assert_eq!(outcome(&joined(&divides, &ends), &ZERO, 0, 99), fault(3, 3));
+    let fault = |statement, steps, ticks| Outcome::Fault { statement, steps, ticks };
+    assert_eq!(outcome(&joined(&divides, &ends), &ZERO, 0, 99), fault(3, 3, 29));
     // Its 3 is 4 now, behind 2 and 3 steps less 1.
-    assert_eq!(outcome(&joined(&ends, &divides), &ZERO, 0, 99), fault(4, 4));
+    assert_eq!(outcome(&joined(&ends, &divides), &ZERO, 0, 99), fault(4, 4, 31));
     // 7 / 9 is 0, by which the second divides.
     let new = joined(&divides, &divides);
-    assert_eq!(outcome(&new, &ZERO, 0, 99), fault(3, 3));
-    assert_eq!(outcome(&new, &ZERO, 9, 99), fault(6, 6));
-    assert_eq!(outcome(&new, &ZERO, 3, 99), ended(3, 7));
+    assert_eq!(outcome(&new, &ZERO, 0, 99), fault(3, 3, 29));
+    assert_eq!(outcome(&new, &ZERO, 9, 99), fault(6, 6, 56));
+    assert_eq!(outcome(&new, &ZERO, 3, 99), ended(3, 7, 60));
     for (road, creeper) in [(&divides, &ends), (&ends, &divides), (&divides, &divides)] {
         assert_in_turn(road, creeper);
     }
@@ -260,7 +267,7 @@ fn up_to_256_statements() {
         let mut expected = lines(256);
         expected[n - 1] = "i0 := i0".to_string();
         assert_eq!(new, text(&expected));
-        assert_eq!(outcome(&new, &ZERO, 7, 256), ended(7, 256));
+        assert_eq!(outcome(&new, &ZERO, 7, 256), ended(7, 256, 263));
     }
     for (n, m) in [(129, 129), (256, 2), (2, 256), (255, 3), (3, 255), (256, 256)] {
         assert_refused(&skips(n), &skips(m), TEXT_BYTES, Refusal::JoinedCount);

@@ -15,11 +15,12 @@ use Rattle.run.specs.declared.RunAnswer.{RunAnswer}
 use Rattle.run.specs.declared.RunAnswer.the-variants.{Finished}
 use Rattle.joining.specs.Joining.{writes}
 
--- b is the answer a, d statements and k steps further on: the same value and kept ones, the same fault, or the same values where it is spent
+-- b is the answer a, d statements and k steps further on: the same value and kept ones, the same fault, or the same values where it is spent. b has
+-- ticks c of its own, of which nothing is said here
 abbrev pub Onward : ℕ → ℕ → Answer → List ℕ → List ℕ → Answer → List ℕ → List ℕ → Type 0
-Onward d k (Ended x m) ws ks b us hs = (b ≡ Ended x (k + m)) × (hs ≡ ks)
-Onward d k (Fault n m) ws ks b us hs = b ≡ Fault (d + n) (k + m)
-Onward d k (Spent n) ws ks b us hs = (b ≡ Spent (d + n)) × (us ≡ ws)
+Onward d k (Ended x m t) ws ks b us hs = (c : ℕ) × (b ≡ Ended x (k + m) c) × (hs ≡ ks)
+Onward d k (Fault n m t) ws ks b us hs = (c : ℕ) × (b ≡ Fault (d + n) (k + m) c)
+Onward d k (Spent n t) ws ks b us hs = (c : ℕ) × (b ≡ Spent (d + n) c) × (us ≡ ws)
 
 -- whatever a call of `run` with the text w answers is that
 abbrev pub Goes : List ℕ → List ℕ → ℕ → ℕ → ℕ → ℕ → Answer → List ℕ → List ℕ → Type 0
@@ -27,17 +28,18 @@ Goes w vs input budget d k a ws ks =
     (r : RunAnswer) (us hs : List ℕ) → RunAnswers w vs input budget r us hs → (b : Answer) × (r ≡ Finished b) × Onward d k a ws ks b us hs
 
 abbrev pub Unended : Answer → Type 0
-Unended (Ended x k) = ⊥
-Unended (Fault n k) = Unit
-Unended (Spent n) = Unit
+Unended (Ended x k t) = ⊥
+Unended (Fault n k t) = Unit
+Unended (Spent n t) = Unit
 
--- `run` answers that the road, whose text is t and which writes x, ends with v after k steps. The values that it left are those that `run` tells
+-- `run` answers that the road, whose text is t and which writes x, ends with v after k steps, whatever its ticks. The values that it left are those that `run` tells
 -- under a budget one step short, and v is x's among them
 pub record RoadEnds (t : List ℕ) (x : ℕ) (vs : List ℕ) (input k v : ℕ) (left : List ℕ) : Type 0 where
   pub budget : ℕ
+  pub paid : ℕ
   pub values : List ℕ
   pub kept : List ℕ
-  pub ends : RunFinished t vs input budget (Ended (toZ w32 v) k) values kept
+  pub ends : RunFinished t vs input budget (Ended (toZ w32 v) k paid) values kept
   pub told : Answer
   pub beside : List ℕ
   pub short : RunFinished t vs input (k - 1) told left beside
