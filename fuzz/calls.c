@@ -1,6 +1,7 @@
 /* A libFuzzer target over the calls. An input is a program, a condition or the conditions of a
    review, a list of marks, some bytes that choose the rest and a driver's list, with '%', which no text
-   holds, between them. What is checked holds for every input:
+   holds, between them. The bytes that choose are a creeper program too, which the program is joined to.
+   What is checked holds for every input:
    - a refused call changes nothing, and a finished one only what its result sets;
    - no byte beyond a lent text or buffer is touched: each ends at a page that can't be;
    - a program is misspelled exactly where a line of it is, and is written as it was read;
@@ -34,7 +35,11 @@
    - the lines of a list that is taken, one after another, are the list;
    - a list of readers and writers has the rows of `def` and `use`, and its counts are of its words;
    - brought up to date after the marks, the list of the given program is that of the new text; in any
-     other list the bits of lines that differ are as there, and all others are kept.
+     other list the bits of lines that differ are as there, and all others are kept;
+   - two programs are joined unless one isn't taken, the first told before the second, or both have over
+     257 lines. The joined text is taken and has a line less than both; the first's lines but the last
+     stand in front as they are, then the assignment, then the second's with their targets moved. It
+     runs as the first does to its end, and then as the second does with what the first left.
    `fuzz/run` builds it and runs it; `host/tests/fuzz.rs` runs it on the seeds. */
 #define _DEFAULT_SOURCE
 #include "rewrites.h"
@@ -133,7 +138,7 @@ static struct text put(struct region *r, const void *bytes, size_t length) {
     return (struct text){lent, length};
 }
 
-static struct region programs, others, conditions, tables, verdict_bytes, new_text, drivers;
+static struct region programs, others, conditions, tables, verdict_bytes, new_text, drivers, joins;
 
 /* What out-parameters hold before a call, and the words on both sides of each. */
 #define UNSET 0xa5c3e187u
@@ -816,13 +821,13 @@ static uint8_t judge(struct text program, struct text marks, size_t verdict_room
     return number;
 }
 
-/* Copies the next line of a list that is taken, without its byte 10, and tells its length. */
-static size_t next_mark(struct text marks, size_t *start, char line[128]) {
+/* Copies the next line of a text that is taken, without its byte 10, and tells its length. */
+static size_t next_line(struct text text, size_t *start, char line[128]) {
     size_t length = 0;
 
-    while (marks.bytes[*start + length] != 10) length++;
+    while (text.bytes[*start + length] != 10) length++;
     REQUIRE(length < 128);
-    memcpy(line, marks.bytes + *start, length);
+    memcpy(line, text.bytes + *start, length);
     line[length] = 0;
     *start += length + 1;
     return length;
@@ -844,7 +849,7 @@ static void find_readers(struct text marks, const struct judgement *answer, stru
         unsigned long n;
         unsigned variable;
 
-        next_mark(marks, &start, line);
+        next_line(marks, &start, line);
         if (answer->verdicts[j] != 0) continue;
         if (sscanf(line, "%lu: mark(cse, i%u,", &n, &variable) != 2) continue;
         REQUIRE(variable < VARIABLES);
@@ -965,7 +970,7 @@ static void check_verdicts(struct text program, struct text marks, const struct 
 
     find_readers(marks, answer, &readers);
     for (size_t j = 0; j < answer->marks; j++) {
-        size_t length = next_mark(marks, &start, line);
+        size_t length = next_line(marks, &start, line);
         unsigned long n = strtoul(line, NULL, 10);
         uint8_t verdict = answer->verdicts[j];
         int is_removal = strstr(line, "mark(rm, ") != NULL;
@@ -1261,6 +1266,111 @@ static void check_marks(struct text program, struct text marks, uint8_t refused,
     }
 }
 
+/* Joined programs */
+
+struct joined {
+    uint32_t statements, bytes;
+    uint8_t text[TEXT_BYTES];
+};
+
+static uint8_t join(struct text road, struct text creeper, size_t room, struct joined *answer) {
+    uint32_t places[5];
+    uint8_t *text = lend(&new_text, room), number;
+
+    unset(places, 5);
+    number = rewrites_join(road.bytes, road.length, creeper.bytes, creeper.length, text, room,
+                           &places[1], &places[3]);
+    for (size_t k = 0; k < 5; k++) REQUIRE((number == 0 && k % 2 == 1) || places[k] == UNSET);
+    if (number == 0) {
+        REQUIRE(places[3] <= TEXT_BYTES);
+        set(&new_text, text, places[3]);
+        answer->statements = places[1];
+        answer->bytes = places[3];
+        memcpy(answer->text, text, places[3]);
+    }
+    require_kept(&new_text);
+    return number;
+}
+
+/* Each line of the joined text by those of the two programs. */
+static void check_joined_lines(struct text road, struct text creeper, struct text made) {
+    char line[128], found[128], wanted[192];
+    size_t front = road.length - 1, start = 0, further = lines_of(road) - 1, at;
+    unsigned long n, m;
+    unsigned tested;
+
+    while (road.bytes[front - 1] != 10) front--;
+    REQUIRE(made.length > front && memcmp(made.bytes, road.bytes, front) == 0);
+    at = front;
+    next_line(creeper, &start, line);
+    next_line(made, &at, found);
+    snprintf(wanted, sizeof wanted, "%s := %.*s", line + strlen("read "),
+             (int)(road.length - front - strlen("write \n")), road.bytes + front + strlen("write "));
+    REQUIRE(strcmp(found, wanted) == 0);
+    while (start < creeper.length) {
+        REQUIRE(at < made.length);
+        next_line(creeper, &start, line);
+        next_line(made, &at, found);
+        if (sscanf(line, "if i%u goto %lu else %lu", &tested, &n, &m) == 3)
+            snprintf(line, sizeof line, "if i%u goto %lu else %lu", tested, n + further, m + further);
+        REQUIRE(strcmp(found, line) == 0);
+    }
+    REQUIRE(at == made.length);
+}
+
+/* What the seam spares: a `write` and a `read` at 4 ticks each become an assignment at 2. */
+enum { SEAM = 4 + 4 - 2 };
+
+/* The joined program under each budget up to this one: it stands where the first does, or where the
+   second does behind it. */
+static void check_turns(struct text road, struct text creeper, struct text made,
+                        const uint32_t values[VARIABLES], uint32_t input, uint32_t budget) {
+    struct run whole = {0}, turn = {0}, left = {0};
+    uint32_t further = (uint32_t)lines_of(road) - 1, steps;
+    uint64_t ticks;
+
+    for (uint32_t b = 0; b <= budget; b++) {
+        REQUIRE(run(made, values, input, b, &whole) == 0);
+        REQUIRE(run(road, values, input, b, &turn) == 0);
+        met(OF_CALLS, 1500 + turn.ended);
+        if (turn.ended == ENDED) {
+            steps = turn.steps;
+            ticks = turn.ticks;
+            REQUIRE(run(road, values, input, steps - 1, &left) == 0 && left.ended == SPENT);
+            REQUIRE(run(creeper, left.left, (uint32_t)turn.value, b + 1 - steps, &turn) == 0);
+            turn.steps += steps - 1;
+            turn.statement += further;
+            turn.ticks += ticks - SEAM;
+            met(OF_CALLS, 1504 + turn.ended);
+        }
+        REQUIRE(agree(&whole, &turn) && whole.ticks == turn.ticks);
+        if (whole.ended) break;
+        REQUIRE(memcmp(whole.left, turn.left, sizeof whole.left) == 0);
+    }
+}
+
+static void check_join(struct text road, struct text creeper, uint8_t road_refused,
+                       uint8_t creeper_refused, const uint32_t values[VARIABLES], uint32_t input,
+                       uint32_t budget) {
+    static struct joined answer;
+    size_t count = lines_of(road) + lines_of(creeper) - 1;
+    uint8_t number = join(road, creeper, TEXT_BYTES, &answer), expected = road_refused;
+    struct text made;
+
+    if (expected == 0) expected = creeper_refused;
+    if (expected == 0 && count > 256) expected = 21;
+    REQUIRE(number == expected);
+    REQUIRE(join(road, creeper, TEXT_BYTES - 1, &answer) == 1);
+    met(OF_CALLS, 1510 + number);
+    if (number != 0) return;
+    REQUIRE(answer.statements == count);
+    made = put(&joins, answer.text, answer.bytes);
+    REQUIRE(lines_of(made) == count);
+    check_joined_lines(road, creeper, made);
+    check_turns(road, creeper, made, values, input, budget);
+    require_kept(&joins);
+}
+
 /* Inputs */
 
 static struct text cut(const uint8_t **rest, size_t *length) {
@@ -1285,14 +1395,16 @@ int LLVMFuzzerInitialize(int *count, char ***arguments) {
     map(&verdict_bytes, 1);
     map(&new_text, 3);
     map(&drivers, 16);
+    map(&joins, 3);
     return 0;
 }
 
 int LLVMFuzzerTestOneInput(const uint8_t *data, size_t size) {
     static const uint32_t edges[8] = {0, 1, 2, 0x7fffffff, 0x80000000, 0xffffffff, 0xfffffffe, 7};
-    struct text program, condition, marks, choice, driver;
+    struct text program, condition, marks, choice, driver, creeper;
     uint32_t values[VARIABLES], input, budget, sum = 0;
-    uint8_t refused;
+    struct run told;
+    uint8_t refused, creeper_refused;
 
     if (size > 16 * PAGE) return 0;
     program = cut(&data, &size);
@@ -1315,6 +1427,13 @@ int LLVMFuzzerTestOneInput(const uint8_t *data, size_t size) {
         check_use_at_write(program, sum % VARIABLES);
     }
     check_list(program, refused, sum % VARIABLES);
+    creeper = put(&others, choice.bytes, choice.length);
+    creeper_refused = run(creeper, values, input, 0, &told);
+    check_join(program, creeper, refused, creeper_refused, values, input, budget);
+    creeper = put(&others, P, strlen(P));
+    check_join(program, creeper, refused, 0, values, input, budget / 2);
+    check_join(creeper, program, 0, refused, values, input, budget / 2);
+    require_kept(&others);
     condition = put(&conditions, condition.bytes, condition.length);
     check_condition(program, condition, refused);
     check_review(program, condition, refused);

@@ -254,6 +254,31 @@ uint8_t rewrites_relist(const uint8_t *program, size_t program_len, const uint8_
                         size_t marks_len, uint64_t *list, size_t list_len, uint32_t defined[32],
                         uint32_t used[32]);
 
+/* Joins a road program of N statements and a creeper program of M to one of N+M-1. The road program's
+   `write X` and the creeper program's `read Y` become the one statement `Y := X`, number N, and
+   creeper statement k from 2 on becomes N+k-1, its targets likewise.
+   From every start the joined program runs as the road program does, up to its `write`, and then as
+   the creeper program does, started with the values that the road program left and its written value
+   as input. If both end, it ends with the creeper program's value and kept values, after the sum of
+   their steps less 1. If one never ends, neither does the whole. A fault of the road program is a
+   fault of the whole, at the same statement after the same steps; one of the creeper program has its
+   new number, and the sum of the steps less 1. Takes at most 128 KiB of stack.
+
+   Returns 0, and sets
+   text        the joined program, from byte 0 on. All further bytes are kept.
+   *statements the number of its statements, N+M-1.
+   *bytes      the number of bytes of its text.
+
+   Returns the number of a refusal, and keeps all:
+    1: text has under 8,704 bytes.
+    2 to 5: the road's text, as with rewrites_run.
+    2 to 5: where the road's text is taken, the creeper's. The number doesn't tell which of the two
+            texts is meant: it is the road's where rewrites_run refuses that text by itself.
+   21: N+M-1 is above 256. */
+uint8_t rewrites_join(const uint8_t *road, size_t road_len, const uint8_t *creeper,
+                      size_t creeper_len, uint8_t *text, size_t text_len, uint32_t *statements,
+                      uint32_t *bytes);
+
 #ifdef __cplusplus
 }
 #endif

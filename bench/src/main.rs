@@ -7,7 +7,7 @@ mod time;
 use inputs::{atoms_condition, binary_condition, text, unary_condition, OPERATORS};
 use inputs::{cse_and_rm_marks_for, cse_marks_for, different_marks_for, marks_for};
 use oracle::tuned;
-use rewrites::{force, judge, list, relist, report, review, run, tabulate, LIST_WORDS, MOST_STEPS};
+use rewrites::{force, join, judge, list, relist, report, review, run, tabulate, LIST_WORDS, MOST_STEPS};
 use rewrites::{REVIEW_WORDS, STATEMENTS, TABLE_WORDS, TEXT_BYTES, UNFORCED, VERDICT_BYTES};
 use std::fs;
 use time::medians;
@@ -193,6 +193,40 @@ fn print_writing(worst: &mut Worst) {
         let ratio = print_line(&name, times, &each);
         worst.meet(true, ratio, format!("reading and writing {}", name));
     }
+}
+
+// Joining
+
+/// Joins a pair, which has so many statements together, and prints the times.
+fn print_pair(worst: &mut Worst, kind: &str, is_ordinary: bool, road: &[u8], creeper: &[u8]) {
+    let (mut text, mut text_2) = ([0; TEXT_BYTES], [0; TEXT_BYTES]);
+    let times = medians(
+        TIMES,
+        [&mut || join(road, creeper, &mut text).is_ok(), &mut || {
+            tuned::join(road, creeper, &mut text_2).is_ok()
+        }],
+    );
+    assert!(text == text_2);
+    let bytes = road.len() + creeper.len();
+    let each = format!("{:>11.2}", times[0] * 1e9 / bytes as f64);
+    let lines = [road, creeper].map(|text| text.iter().filter(|&&byte| byte == 10).count());
+    let name = format!("{} and {} lines, {} bytes{}", lines[0], lines[1], bytes, kind);
+    let ratio = print_line(&name, times, &each);
+    worst.meet(is_ordinary, ratio, format!("joining {}", name));
+}
+
+fn print_joining(worst: &mut Worst) {
+    print_heading("Joining, in microseconds", "    ns/byte");
+    for (n, m) in [(16, 16), (64, 64), (128, 129), (16, 241), (241, 16)] {
+        print_pair(worst, "", true, &inputs::ordinary(n), &inputs::ordinary(m));
+    }
+    let jumps = [128, 129].map(inputs::scattered);
+    print_pair(worst, ", scattered jumps", false, &jumps[0], &jumps[1]);
+    let signed = [128, 129].map(signed_text);
+    print_pair(worst, ", constants below zero", true, &signed[0], &signed[1]);
+    // Each is read whole before both are found too long.
+    let longest = longest_text("i31 := -2147483648 + -2147483648");
+    print_pair(worst, ", the longest, refused", false, &longest, &longest);
 }
 
 // Tables
@@ -623,6 +657,7 @@ fn main() {
     print_runs(&mut worst);
     print_reading(&mut worst);
     print_writing(&mut worst);
+    print_joining(&mut worst);
     print_tables(&mut worst);
     print_table_growth(&mut worst);
     print_reviews(&mut worst);

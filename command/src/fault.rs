@@ -46,9 +46,11 @@ pub fn grouped(number: usize) -> String {
 fn whose(refusal: Refusal) -> &'static str {
     match refusal {
         Refusal::Buffer | Refusal::Budget => "the host program",
-        Refusal::Misspelled | Refusal::LineCount | Refusal::Placement | Refusal::Target => {
-            "the author of the shift program"
-        }
+        Refusal::Misspelled
+        | Refusal::LineCount
+        | Refusal::Placement
+        | Refusal::Target
+        | Refusal::JoinedCount => "the author of the shift program",
         Refusal::ConditionLength | Refusal::ConditionMisspelled | Refusal::ConditionParts => {
             "the author of the condition"
         }
@@ -91,6 +93,7 @@ fn expected(refusal: Refusal, text: &[u8]) -> String {
             "`n: mark(rm, X, E)`, `n: mark(rpl, X, A)` or `n: mark(cse, T, E)`, and byte 10"
         }
         Refusal::MarkCount => "at most 256 lines",
+        Refusal::JoinedCount => "at most 257 statements of both programs",
     };
     words.to_string()
 }
@@ -141,6 +144,13 @@ impl Fault {
             fault.expected = "byte 10 at the end of each line".to_string();
         }
         fault
+    }
+
+    /// Two programs are too long to be joined. It is told of the second, which doesn't fit behind the first.
+    pub fn of_pair(road: &Text, creeper: &Text) -> Fault {
+        let [first, second] = [road, creeper].map(|text| lines(&text.bytes).count());
+        let found = Some(format!("{first} and {second}"));
+        Fault { found, ..Fault::refused(Refusal::JoinedCount, creeper) }
     }
 
     /// A start is misspelled.

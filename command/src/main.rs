@@ -9,6 +9,7 @@ mod fault;
 mod files;
 mod folder;
 mod force;
+mod join;
 mod lines;
 mod list;
 mod marks;
@@ -39,7 +40,7 @@ Exit status:
 Of many folders the worst is told.";
 
 /// Shift programs: judges marks, tabulates and reviews conditions, runs, finds what a driver can force and
-/// the lines of marks, and lists readers and writers
+/// the lines of marks, lists readers and writers, and joins two programs
 #[derive(Parser)]
 #[command(name = "rewrites", version, after_help = STATUSES)]
 struct Arguments {
@@ -70,6 +71,9 @@ enum Call {
     /// Show for each variable the statements that define it and those that use it
     #[command(after_help = STATUSES)]
     List(list::Arguments),
+    /// Make one program of a road program and a creeper program
+    #[command(after_help = STATUSES)]
+    Join(join::Arguments),
 }
 
 /// What is wrong with the arguments of a call taken together.
@@ -81,7 +85,8 @@ fn wrong(arguments: &Arguments) -> Option<clap::Error> {
         | Call::Force(_)
         | Call::Run(_)
         | Call::Lines(_)
-        | Call::List(_) => return None,
+        | Call::List(_)
+        | Call::Join(_) => return None,
     };
     let mut command = Arguments::command();
     command.build();
@@ -115,6 +120,7 @@ fn answered(output: &mut Output) -> Result<Status, Unwritten> {
         Call::Run(call) => call.run(output),
         Call::Lines(call) => call.run(output),
         Call::List(call) => call.run(output),
+        Call::Join(call) => call.run(output),
     }
 }
 

@@ -32,6 +32,7 @@ fn help_and_version() {
         &["check", "--help"],
         &["lines", "-h"],
         &["list", "-h"],
+        &["join", "-h"],
     ] {
         let output = run(words);
         assert_eq!((status(&output), said(&output).as_str()), (0, ""), "{words:?}");
@@ -78,6 +79,11 @@ fn usage() {
         &["list", ".", "."],
         &["list", ".", "--text"],
         &["relist", "."],
+        &["join"],
+        &["join", "given"],
+        &["join", "given", "given", "given"],
+        &["join", "given", "given", "-o"],
+        &["join", "given", "given", "--text"],
     ] {
         let output = run_in(&example("p"), words);
         assert_eq!((status(&output), printed(&output).as_str()), (2, ""), "{words:?}");
@@ -96,7 +102,8 @@ fn unwritten(place: &str, reason: &str) -> String {
 #[test]
 fn a_full_disk() {
     let full = "No space left on device";
-    let also_help = CALLS.into_iter().chain([&["--help"][..], &["--version"]]);
+    let also_help =
+        CALLS.into_iter().chain([&["join", "given", "given"][..], &["--help"], &["--version"]]);
     for words in also_help {
         let device = File::options().write(true).open("/dev/full").expect("there is /dev/full");
         let output = rewrites()
@@ -126,7 +133,8 @@ fn closed_pipe() -> Stdio {
 
 #[test]
 fn a_closed_pipe_ends_quietly() {
-    let also_help = CALLS.into_iter().chain([&["--help"][..], &["--version"]]);
+    let also_help =
+        CALLS.into_iter().chain([&["join", "given", "given"][..], &["--help"], &["--version"]]);
     for words in also_help {
         let output = rewrites()
             .args(words)

@@ -22,14 +22,14 @@ use std::path::Path;
 const CASES: u64 = 3_000;
 
 #[rustfmt::skip]
-const WORDS: [&str; 36] = [
-    "check", "tabulate", "review", "force", "run", "lines", "list", "help", ".", "a", "nowhere", "given", "--json", "--text", "--explain",
+const WORDS: [&str; 37] = [
+    "check", "tabulate", "review", "force", "run", "lines", "list", "join", "help", ".", "a", "nowhere", "given", "--json", "--text", "--explain",
     "-o", "new", "--output=new", "-onew", "--condition", "E[", "--driver", "i0 i1", "--input", "-1", "2147483648", "--budget",
     "1000001", "--set", "--set=i32=1", "--", "-", "--help", "-V", "-x", "",
 ];
 
 /// The options of each call, some of them such that they are refused.
-const OPTIONS: [(&str, &[&[&str]]); 7] = [
+const OPTIONS: [(&str, &[&[&str]]); 8] = [
     (
         "check",
         &[&["--json"], &["--explain"], &["--text"], &["."], &["a"], &["nowhere"], &["-o", "new"]],
@@ -68,18 +68,26 @@ const OPTIONS: [(&str, &[&[&str]]); 7] = [
     ),
     ("lines", &[&["--json"]]),
     ("list", &[&["--json"]]),
+    ("join", &[&["--json"], &["-o", "new"]]),
 ];
 
 /// The words of a call, mostly such that it is made, at times damaged or any.
 fn words(random: &mut Random) -> Vec<Vec<u8>> {
     let (call, options) = random.pick(&OPTIONS);
-    let mut words: Vec<&str> = vec![call, random.pick(&[".", ".", ".", "a", "a", "a", "given"])];
+    let mut words: Vec<&str> = match call {
+        "join" => {
+            let road = random.pick(&["given", "given", "a/given", "a"]);
+            vec![call, road, random.pick(&["given", "a/given", "a/given", "nowhere"])]
+        }
+        _ => vec![call, random.pick(&[".", ".", ".", "a", "a", "a", "given"])],
+    };
     for option in options {
         if random.chance(25) {
             words.extend(*option);
         }
     }
-    if random.chance(5) {
+    // Two calls write files; to the others the option is unknown.
+    if random.chance(if ["check", "join"].contains(&call) { 20 } else { 5 }) {
         words.extend(["-o", random.pick(&["a", "nowhere/new", "a/given"])]);
     }
     if random.chance(20) {

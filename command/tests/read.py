@@ -27,6 +27,8 @@ LINES = {"marks", "bytes", "lines"}
 LINE = {"line", "begin", "end", "mark"}
 LIST = {"statements", "variables"}
 VARIABLE = {"variable", "defined", "defining", "used", "using"}
+PAIR = {"call", "road", "creeper", "status", "faults"}
+JOIN = {"statements", "bytes", "program"}
 
 # The totals of the folders that were checked since the last total.
 summed = dict.fromkeys(TICKS, 0)
@@ -179,6 +181,13 @@ def listed(thing):
     return text
 
 
+def join(thing):
+    has(thing, PAIR | JOIN)
+    assert thing["bytes"] == len(thing["program"].encode())
+    assert thing["statements"] == thing["program"].count("\n")
+    return "statements {statements} bytes {bytes}\n".format(**thing) + thing["program"]
+
+
 def faults(thing):
     """The refusal, `refused start`, or nothing where a file wasn't read."""
     text = ""
@@ -195,21 +204,21 @@ def faults(thing):
 
 def told(thing):
     assert thing["status"] in (0, 1, 2)
-    if "folder" not in thing:
+    if "folder" not in thing and thing["call"] == "check":
         return total(thing)
     assert (thing["status"] == 0) == (thing["faults"] == [])
     refused = faults(thing)
-    if set(thing) == REPORT:
+    if set(thing) == (PAIR if thing["call"] == "join" else REPORT):
         assert thing["status"] != 0
         return refused
     assert refused == ""
-    tells = {"check": check, "tabulate": tabulate, "review": review, "force": force, "run": run, "lines": lines, "list": listed}
+    tells = {"check": check, "tabulate": tabulate, "review": review, "force": force, "run": run, "lines": lines, "list": listed, "join": join}
     return tells[thing["call"]](thing)
 
 
 described = pathlib.Path(__file__).parents[2].joinpath("docs/REFERENCE.md").read_text()
 for names in (
-    VERDICTS, FAULT, REPORT, TOTAL, CHECK, PRICES, TICKS, MARK, TABULATE, ROW, REVIEW, CONDITION, FORCE, PLACE, ENDED, SPENT, FAULTED, LINES, LINE, LIST, VARIABLE
+    VERDICTS, FAULT, REPORT, TOTAL, CHECK, PRICES, TICKS, MARK, TABULATE, ROW, REVIEW, CONDITION, FORCE, PLACE, ENDED, SPENT, FAULTED, LINES, LINE, LIST, VARIABLE, PAIR, JOIN
 ):
     for name in names:
         assert "`%s`" % name in described, name

@@ -99,6 +99,21 @@
 //! assert_eq!(text[..31], *b"read i0\nskip\ni1 := i2\nwrite i2\n");
 //! ```
 //!
+//! A road program and a creeper program become one that does what the second does with what the first
+//! left.
+//!
+//! ```
+//! use rewrites::{join, Joined, TEXT_BYTES};
+//!
+//! let (road, creeper) = (b"read i0\ni1 := i0 + 1\nwrite i1\n", b"read i2\nwrite i2\n");
+//! let mut text = [0; TEXT_BYTES];
+//! let answer = join(road, creeper, &mut text);
+//!
+//! // `write i1` and `read i2` become one statement.
+//! assert_eq!(answer, Ok(Joined { statements: 4, bytes: 39 }));
+//! assert_eq!(text[..39], *b"read i0\ni1 := i0 + 1\ni2 := i1\nwrite i2\n");
+//! ```
+//!
 //! [`report`] tells the price of each statement in ticks, before and after the accepted marks are made.
 //!
 //! ```
@@ -402,6 +417,15 @@ impl fmt::Display for Verdict {
     }
 }
 
+/// What a finished [`join`] answers.
+#[derive(Clone, Copy, Debug, PartialEq, Eq)]
+pub struct Joined {
+    /// The number of statements of the joined program: those of both programs, less 1.
+    pub statements: u32,
+    /// The number of bytes of its text.
+    pub bytes: u32,
+}
+
 /// Why a call is refused. The first that applies is answered, in the order of the variants.
 #[derive(Clone, Copy, Debug, PartialEq, Eq, Hash)]
 #[repr(u8)]
@@ -434,11 +458,13 @@ pub enum Refusal {
     MarkMisspelled = 9,
     /// There are over 256 lines of marks.
     MarkCount = 10,
+    /// The joined program would have over 256 statements.
+    JoinedCount = 21,
 }
 
 impl Refusal {
     /// Every refusal, in the order in which they apply.
-    pub const ALL: [Refusal; 14] = [
+    pub const ALL: [Refusal; 15] = [
         Refusal::Buffer,
         Refusal::Budget,
         Refusal::Misspelled,
@@ -453,6 +479,7 @@ impl Refusal {
         Refusal::ReviewParts,
         Refusal::MarkMisspelled,
         Refusal::MarkCount,
+        Refusal::JoinedCount,
     ];
 
     /// The number by which the library names the refusal.
@@ -491,6 +518,7 @@ impl fmt::Display for Refusal {
                 "some line of the marks misspelled, or the last without its byte 10"
             }
             Refusal::MarkCount => "over 256 lines of marks",
+            Refusal::JoinedCount => "joined program of over 256 statements",
         })
     }
 }
@@ -1139,4 +1167,76 @@ pub fn relist(program: &[u8], marks: &[u8], list: &mut [u64]) -> Result<Listing,
         return Err(Refusal::returned(number));
     }
     Ok(listing)
+}
+
+/// Joins a road program of N statements and a creeper program of M to one of N+M-1, and writes its text
+/// to the front of `text`. All further bytes of the text are kept.
+///
+/// The road program's `write X` and the creeper program's `read Y` become the one statement `Y := X`,
+/// number N. Creeper statement k from 2 on becomes N+k-1, and its targets likewise.
+///
+/// From every start the joined program runs as the road program does, up to its `write`, and then as the
+/// creeper program does, started with the values that the road program left and its written value as
+/// input. Where both end, it ends as the creeper program does, after the sum of their steps less 1. Where
+/// one never ends, neither does the whole. A fault of the road program is a fault of the whole, at the
+/// same statement after the same steps; one of the creeper program has its new number, and the sum of the
+/// steps less 1.
+///
+/// Takes at most 128 KiB of stack.
+///
+/// # Errors
+///
+/// [`Refusal::Buffer`] for a text of under [`TEXT_BYTES`] bytes, whatever the programs hold; else, for the
+/// road program, [`Refusal::Misspelled`], [`Refusal::LineCount`], [`Refusal::Placement`] or
+/// [`Refusal::Target`]; else one of these for the creeper program; else [`Refusal::JoinedCount`] where
+/// N+M-1 is above 256. The text is then kept. The refusal doesn't tell which program is meant: it is the
+/// road program exactly where that by itself is refused, with [`run`] for one.
+///
+/// ```
+/// use rewrites::{join, run, Joined, Outcome, Refusal, KEPT, TEXT_BYTES};
+///
+/// let road = b"read i0\ni1 := i0 + 1\nwrite i1\n";
+/// let creeper = b"read i2\nif i2 goto 3 else 4\ni1 := i1 * i2\nwrite i1\n";
+/// let mut text = [0; TEXT_BYTES];
+/// let answer = join(road, creeper, &mut text)?;
+/// assert_eq!(answer, Joined { statements: 6, bytes: 73 });
+/// let joined = &text[..73];
+/// assert_eq!(
+///     joined,
+///     b"read i0\n\
+///     i1 := i0 + 1\n\
+///     i2 := i1\n\
+///     if i2 goto 5 else 6\n\
+///     i1 := i1 * i2\n\
+///     write i1\n"
+/// );
+///
+/// // 3 steps write 5, and with 5 in i1 and as input 4 steps write 25: 3 + 4 - 1 steps.
+/// let ended = Outcome::Ended { value: 25, steps: 6, kept: [0; KEPT] };
+/// assert_eq!(run(joined, &[0; 32], 4, 100)?, ended);
+///
+/// // The creeper program isn't taken: its `write` is missing.
+/// assert_eq!(join(road, b"read i2\nskip\n", &mut text), Err(Refusal::Placement));
+/// # Ok::<(), Refusal>(())
+/// ```
+pub fn join(road: &[u8], creeper: &[u8], text: &mut [u8]) -> Result<Joined, Refusal> {
+    let mut joined = Joined { statements: 0, bytes: 0 };
+    // SAFETY: the pointers come from references, so none is null, and those that are written
+    // through are the only ones to their places.
+    let number = unsafe {
+        raw::rewrites_join(
+            road.as_ptr(),
+            road.len(),
+            creeper.as_ptr(),
+            creeper.len(),
+            text.as_mut_ptr(),
+            text.len(),
+            &mut joined.statements,
+            &mut joined.bytes,
+        )
+    };
+    if number != 0 {
+        return Err(Refusal::returned(number));
+    }
+    Ok(joined)
 }

@@ -176,4 +176,22 @@ extern "C" {
         defined: *mut [u32; VARIABLES],
         used: *mut [u32; VARIABLES],
     ) -> u8;
+
+    /// See [`crate::join`] and the header.
+    ///
+    /// # Safety
+    ///
+    /// `road` points to `road_len` bytes, `creeper` to `creeper_len` and `text` to `text_len` bytes; each
+    /// of them may be null where its length is 0. No other pointer is null. Places that the call writes
+    /// overlap no other place lent to it.
+    pub fn rewrites_join(
+        road: *const u8,
+        road_len: usize,
+        creeper: *const u8,
+        creeper_len: usize,
+        text: *mut u8,
+        text_len: usize,
+        statements: *mut u32,
+        bytes: *mut u32,
+    ) -> u8;
 }

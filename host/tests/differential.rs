@@ -9,12 +9,13 @@ mod common;
 mod coverage;
 mod lent;
 
-use common::{option, P};
+use common::{option, refused_programs, P};
 use coverage::Tally;
 use lent::{Lent, Text};
 use oracle::condition::{self, Atom, Condition, Demand, Direction, Part, Quantifier};
 use oracle::forcing::{self, player, Arm, Forced, Player};
 use oracle::generate::{self, Damage, Random, WrongDriver, WrongReuse, WrongSign};
+use oracle::join::{self, InTurn};
 use oracle::listing::{self, Counts, Set};
 use oracle::liveness::{differing, Liveness};
 use oracle::machine::{self, kept_of, Outcome, Run, State, Values};
@@ -2440,6 +2441,236 @@ fn lists_brought_up_to_date_are_as_by_the_oracle() {
     of_lists.report();
 }
 
+// Joined programs
+
+/// The places that a join sets, with kept words between them.
+const JOINED_STATEMENTS: usize = 0;
+const JOINED_BYTES: usize = 2;
+const JOIN_PLACES: usize = 3;
+
+/// Holds a join to the oracle's, with every lent byte, and tells the joined text.
+fn join_agrees(
+    random: &mut Random,
+    case: &str,
+    road: &[u8],
+    creeper: &[u8],
+    room: usize,
+) -> Result<Vec<u8>, u8> {
+    let (mut first, mut second) = (Text::new(random, road), Text::new(random, creeper));
+    let mut text = Lent::new(random, room, |bits| bits as u8);
+    let mut places = Lent::new(random, JOIN_PLACES, |bits| bits as u32);
+    let (mut expected_text, mut expected_places) = (text.clone(), places.clone());
+    let wanted = join::join(road, creeper, expected_text.part());
+    if let Ok((statements, bytes)) = wanted {
+        expected_places.part()[JOINED_STATEMENTS] = statements;
+        expected_places.part()[JOINED_BYTES] = bytes;
+    }
+    let shown = || {
+        let (road, creeper) = (escaped(road), escaped(creeper));
+        format!("case {case}: room {room} road {road} creeper {creeper}")
+    };
+    let place = places.part().as_mut_ptr();
+    let (road_len, creeper_len) = (first.part().len(), second.part().len());
+    // SAFETY: the pointers come from references, and no two of the written places overlap.
+    let number = unsafe {
+        raw::rewrites_join(
+            first.part().as_ptr(),
+            road_len,
+            second.part().as_ptr(),
+            creeper_len,
+            text.part().as_mut_ptr(),
+            room,
+            place.add(JOINED_STATEMENTS),
+            place.add(JOINED_BYTES),
+        )
+    };
+    assert_eq!(number, wanted.err().unwrap_or(0), "number of {}", shown());
+    places.assert_same(&expected_places, "places", shown);
+    text.assert_same(&expected_text, "joined text", shown);
+    first.assert_kept("road", shown);
+    second.assert_kept("creeper", shown);
+    wanted.map(|(_, bytes)| text.part()[..bytes as usize].to_vec())
+}
+
+/// How runs of joined programs end, by which of both does it. A run that is spent at the last budget goes on.
+const JOINED_RUNS: [&str; 8] = [
+    "steps",
+    "steps behind the seam",
+    "both ended",
+    "kept other values",
+    "the road goes on",
+    "the creeper goes on",
+    "the road faults",
+    "the creeper faults",
+];
+
+/// The joined text's run, by the library, answers as the two programs do one after the other, by the oracle's machine:
+/// under each of the first budgets, and further on.
+fn run_in_turn(
+    random: &mut Random,
+    case: &str,
+    text: &[u8],
+    [road, creeper]: [&Program; 2],
+    runs: &mut Tally<&str>,
+) {
+    let seam = road.count();
+    let by_steps = if text.len() < 1_000 { 40 } else { 6 };
+    let (values, input) = (generate::values(random), generate::word(random));
+    let further = random.between(by_steps as usize, 600) as u32;
+    let far = random.pick(&[2_000, 2_000, 2_000, 20_000]);
+    let mut both = InTurn::start(road, creeper, values, input);
+    let (mut steps, mut ticks) = (0, 0);
+    for budget in (0..by_steps).chain(further..further + 6).chain([far]) {
+        while steps < budget && matches!(both.state(), State::Before { .. }) {
+            ticks += both.cost();
+            both.step();
+            steps += 1;
+        }
+        let wanted = match both.state() {
+            State::Before { statement, values } => Outcome::Spent { statement, values, ticks },
+            State::Ended { value, kept } => Outcome::Ended { value, steps, kept, ticks },
+            State::Faulted { statement } => Outcome::Fault { statement, steps, ticks },
+        };
+        let mut places = RunPlaces::new(random);
+        let mut expected = places.clone();
+        put_outcome(&mut expected, wanted);
+        let shown = || {
+            let text = escaped(text);
+            format!("case {case}: values {values:?} input {input} budget {budget} joined {text}")
+        };
+        assert_eq!(lend_run(text, &values, input, budget, &mut places), 0, "{}", shown());
+        places.words.assert_same(&expected.words, "places of the joined run", shown);
+        places.ticks.assert_same(&expected.ticks, "ticks of the joined run", shown);
+        runs.met("steps");
+        match wanted {
+            Outcome::Spent { statement, .. } => {
+                if statement > seam {
+                    runs.met("steps behind the seam");
+                }
+                if budget == far {
+                    let goes = ["the creeper goes on", "the road goes on"];
+                    runs.met(goes[usize::from(statement <= seam)]);
+                }
+            }
+            Outcome::Ended { kept, .. } => {
+                runs.met("both ended");
+                if kept != kept_of(&values) {
+                    runs.met("kept other values");
+                }
+                return;
+            }
+            Outcome::Fault { statement, .. } => {
+                let faults = ["the creeper faults", "the road faults"];
+                runs.met(faults[usize::from(statement < seam)]);
+                return;
+            }
+        }
+    }
+}
+
+/// Which of the texts isn't taken.
+const BAD_TEXTS: [&str; 4] = ["neither", "road", "creeper", "both"];
+
+#[test]
+fn joins_are_as_by_the_oracle_and_run_in_turn() {
+    let mut refusals = Tally::new("refusals of join", [1, 2, 3, 4, 5, 21]);
+    let mut of_creepers = Tally::new("refusals of the creeper text", [2, 3, 4, 5]);
+    let mut late = Tally::new("creepers refused beside a road of 256", [2, 3, 4, 5]);
+    let mut bad = Tally::new("texts that aren't taken", BAD_TEXTS);
+    let mut sizes = Tally::new("statements of joined programs", 3..=256);
+    let mut over = Tally::new("statements of pairs refused 21", 257..=259);
+    let mut text_rooms = rooms("bytes of joined text", TEXT_BYTES);
+    let mut of_roads = damages("damages of roads");
+    let mut damaged_creepers = damages("damages of creepers");
+    let mut runs = Tally::new("runs of joined programs", JOINED_RUNS);
+    let mut seams = Tally::new("seams", ["one variable", "two variables", "an if goes there"]);
+    for (case, mut random) in cases("join") {
+        let random = &mut random;
+        let mut pair = generate::road_and_creeper(random);
+        if let Some(size) = in_turn(case, EACH_SIZE, 3..=256) {
+            let first = random.between(2, size - 1);
+            pair = [first, size + 1 - first].map(|size| generate::program(random, size));
+        }
+        let [mut road, mut creeper] = [pair[0].text(), pair[1].text()];
+        let mut bytes = TEXT_BYTES;
+        if !is_whole(case) {
+            match random.below(40) {
+                0..=3 => damaged(random, &mut road, &mut of_roads),
+                4 => road = generate::statement_soup(random),
+                5 => road = b"read i0\n".repeat(random.pick(&[0, 1, 257])),
+                _ => {}
+            }
+            match random.below(40) {
+                0..=3 => damaged(random, &mut creeper, &mut damaged_creepers),
+                4 => creeper = generate::statement_soup(random),
+                5 => creeper = b"read i0\n".repeat(random.pick(&[0, 1, 257])),
+                _ => {}
+            }
+            if random.below(20) == 0 {
+                bytes = room(random, TEXT_BYTES);
+            }
+        }
+        // Too many statements, if the creeper were taken.
+        if case % 50 == 7 {
+            let refused = refused_programs();
+            road = generate::program(random, 256).text();
+            creeper = refused[(case / 50) as usize % refused.len()].0.clone();
+        }
+        text_rooms.met(bytes);
+        let answer = join_agrees(random, &case.to_string(), &road, &creeper, bytes);
+        let taken = [&road, &creeper].map(|text| Program::read(text));
+        if bytes >= TEXT_BYTES {
+            let which = usize::from(taken[0].is_err()) + 2 * usize::from(taken[1].is_err());
+            bad.met(BAD_TEXTS[which]);
+        }
+        match (answer, taken) {
+            (Err(number), taken) => {
+                refusals.met(number);
+                if let [Ok(road), Err(_)] = &taken {
+                    of_creepers.met(number);
+                    if road.count() == 256 {
+                        late.met(number);
+                    }
+                }
+                if let (21, [Ok(road), Ok(creeper)]) = (number, &taken) {
+                    over.met(road.count() + creeper.count() - 1);
+                }
+            }
+            (Ok(text), [Ok(road), Ok(creeper)]) => {
+                sizes.met(road.count() + creeper.count() - 1);
+                match (road.statements().last(), &creeper.statements()[0]) {
+                    (Some(Statement::Write(x)), Statement::Read(y)) if x == y => {
+                        seams.met("one variable")
+                    }
+                    _ => seams.met("two variables"),
+                }
+                let last = road.count();
+                let goes = |statement: &Statement| match statement {
+                    Statement::Branch { then, other, .. } => *then == last || *other == last,
+                    _ => false,
+                };
+                if road.statements().iter().any(goes) {
+                    seams.met("an if goes there");
+                }
+                let case = case.to_string();
+                run_in_turn(random, &case, &text, [&road, &creeper], &mut runs);
+            }
+            (Ok(_), _) => panic!("case {case}: joined, though a text isn't taken"),
+        }
+    }
+    refusals.report();
+    of_creepers.report();
+    late.report();
+    bad.report();
+    sizes.report();
+    over.report();
+    text_rooms.report();
+    of_roads.report();
+    damaged_creepers.report();
+    runs.report();
+    seams.report();
+}
+
 // Whole ranges of cases
 
 #[test]
@@ -2673,6 +2904,18 @@ const TWICE: &[u8] =
 
 /// A program with divisions.
 const DIVIDING: &[u8] = b"read i0\ni1 := i0 / i2\ni2 := -7 / -2\ni1 := 1 / 0\nwrite i2\n";
+
+/// Each of them as road and as creeper.
+#[test]
+fn joins_edited_by_one_byte_are_as_by_the_oracle() {
+    let random = &mut Random::new(SEED);
+    for whole in [EACH_KIND, BELOW_ZERO, DIVIDING] {
+        for edited in edits(whole) {
+            let _ = join_agrees(random, "road", &edited, P.as_bytes(), TEXT_BYTES);
+            let _ = join_agrees(random, "creeper", P.as_bytes(), &edited, TEXT_BYTES);
+        }
+    }
+}
 
 #[test]
 fn programs_edited_by_one_byte_are_as_by_the_oracle() {

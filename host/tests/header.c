@@ -612,9 +612,58 @@ static int list_answers(void) {
     return 0;
 }
 
+static int join_answers(void) {
+    uint8_t (*const join)(const uint8_t *, size_t, const uint8_t *, size_t, uint8_t *, size_t,
+                          uint32_t *, uint32_t *) = rewrites_join;
+    static const char road[] = "read i0\ni1 := i0 + 1\nwrite i1\n";
+    static const char creeper[] = "read i2\nif i2 goto 3 else 4\ni1 := i1 * i2\nwrite i1\n";
+    static const char joined[] =
+        "read i0\ni1 := i0 + 1\ni2 := i1\nif i2 goto 5 else 6\ni1 := i1 * i2\nwrite i1\n";
+    static const char wrong[] = "read i0\nif i0 goto 1 else 2\nwrite i0\n";
+    static uint8_t text[8704 + 16], many[2048];
+    const uint8_t *r = (const uint8_t *)road, *c = (const uint8_t *)creeper;
+    const size_t m = strlen(road), n = strlen(creeper), bytes = strlen(joined);
+    uint32_t places[5] = {1, 2, 3, 4, 5}; /* the second and the fourth are lent */
+    uint32_t values[32] = {0}, ended, steps, statement, left[32], kept[8];
+    uint64_t ticks;
+    size_t k, length;
+    int32_t value;
+
+    memset(text, 0xee, sizeof text);
+    CHECK(join(r, m, c, n, text + 8, 8703, &places[1], &places[3]) == 1);
+    CHECK(join(NULL, 0, NULL, 0, NULL, 0, &places[1], &places[3]) == 1);
+    CHECK(join(r, m - 1, c, n, text + 8, 8704, &places[1], &places[3]) == 2);
+    CHECK(join(NULL, 0, c, n - 1, text + 8, 8704, &places[1], &places[3]) == 3);
+    CHECK(join(r, m, c, n - 1, text + 8, 8704, &places[1], &places[3]) == 2);
+    CHECK(join(r, m, NULL, 0, text + 8, 8704, &places[1], &places[3]) == 3);
+    CHECK(join(r, 8, c, 8, text + 8, 8704, &places[1], &places[3]) == 3);
+    CHECK(join(r, m, (const uint8_t *)wrong, strlen(wrong), text + 8, 8704, &places[1], &places[3]) == 5);
+
+    /* 256 statements, and the least creeper program: 257. */
+    length = (size_t)sprintf((char *)many, "read i0\n");
+    for (k = 2; k < 256; k++) length += (size_t)sprintf((char *)many + length, "skip\n");
+    length += (size_t)sprintf((char *)many + length, "write i0\n");
+    CHECK(join(many, length, r, m, text + 8, 8704, &places[1], &places[3]) == 21);
+    CHECK(join(many, length, r, m - 1, text + 8, 8704, &places[1], &places[3]) == 2);
+    for (k = 0; k < sizeof text; k++) CHECK(text[k] == 0xee);
+    for (k = 0; k < 5; k++) CHECK(places[k] == k + 1);
+
+    CHECK(join(r, m, c, n, text + 8, 8704, &places[1], &places[3]) == 0);
+    CHECK(places[0] == 1 && places[1] == 6 && places[2] == 3 && places[3] == bytes && places[4] == 5);
+    CHECK(memcmp(text + 8, joined, bytes) == 0);
+    for (k = 0; k < sizeof text; k++) CHECK((k >= 8 && k < 8 + bytes) || text[k] == 0xee);
+    CHECK(rewrites_run(text + 8, bytes, values, 4, 100, &ended, &value, &steps, &statement, left, kept,
+                       &ticks) == 0);
+    CHECK(ended == 1 && value == 25 && steps == 6 && ticks == 25);
+    CHECK(rewrites_run(text + 8, bytes, values, 0xffffffff, 100, &ended, &value, &steps, &statement, left,
+                       kept, &ticks) == 0);
+    CHECK(ended == 1 && value == 0 && steps == 5 && ticks == 16);
+    return 0;
+}
+
 int main(void) {
     return run_answers() || kept_answers() || division_answers() || report_answers() || cse_answers() ||
            tabulate_answers() || force_answers() || review_answers() || full_review_answers() ||
            judge_answers() ||
-           below_zero_answers() || mark_line_answers() || list_answers();
+           below_zero_answers() || mark_line_answers() || list_answers() || join_answers();
 }

@@ -1580,6 +1580,7 @@ fn refusals_print_their_words() {
         (17, "review of over 128 differing parts"),
         (9, "some line of the marks misspelled, or the last without its byte 10"),
         (10, "over 256 lines of marks"),
+        (21, "joined program of over 256 statements"),
     ];
     let printed = Refusal::ALL.map(|r| (r.number(), r.to_string()));
     assert_eq!(printed, words.map(|(number, words)| (number, words.to_string())));

@@ -1,7 +1,7 @@
 /* Prints how many bytes of stack the deepest calls take. Each runs in a thread whose stack was filled
    with a pattern before; what the thread alone overwrites is not counted. Exits with 0 where `run`,
-   `judge`, `tabulate`, `review`, `mark_line`, `report`, `force`, `list` and `relist` take no more than
-   the bytes given as arguments. */
+   `judge`, `tabulate`, `review`, `mark_line`, `report`, `force`, `list`, `relist` and `join` take no
+   more than the bytes given as arguments. */
 #define _POSIX_C_SOURCE 200112L
 #include "rewrites.h"
 
@@ -90,6 +90,24 @@ static void *relist(void *unused) {
     return unused;
 }
 
+/* Two programs of 128 and 129 lines, each of the longest statement: the joined one has 256. */
+static uint8_t road[8704], creeper[8704];
+static size_t road_len, creeper_len;
+
+static size_t put_program(uint8_t *text, int lines) {
+    size_t length = sprintf((char *)text, "read i31\n");
+    while (lines-- > 2)
+        length += sprintf((char *)text + length, "i31 := -2147483648 + -2147483648\n");
+    return length + sprintf((char *)text + length, "write i31\n");
+}
+
+static void *join(void *unused) {
+    static uint8_t text[8704];
+    static uint32_t statements, bytes;
+    number = rewrites_join(road, road_len, creeper, creeper_len, text, 8704, &statements, &bytes);
+    return unused;
+}
+
 /* The bytes of its stack that a thread overwrites. */
 static size_t overwritten(void *(*body)(void *)) {
     pthread_attr_t attributes;
@@ -151,11 +169,11 @@ int main(int count, char **arguments) {
         {"EX ", "true", "", 340, 8}, {"!", "true", "", 1020, 8},  {"E[", "", "", 512, 7},
         {"(", "true", "", 1020, 7},  {"(", "", "", 1024, 7},
     };
-    size_t most[9] = {ROOM, ROOM, ROOM, ROOM, ROOM, ROOM, ROOM, ROOM, ROOM};
+    size_t most[10] = {ROOM, ROOM, ROOM, ROOM, ROOM, ROOM, ROOM, ROOM, ROOM, ROOM};
     size_t alone = overwritten(nothing), bytes, k;
     int fails = 0, line;
 
-    for (k = 0; k < 9 && k + 1 < (size_t)count; k++) most[k] = strtoul(arguments[k + 1], NULL, 10);
+    for (k = 0; k < 10 && k + 1 < (size_t)count; k++) most[k] = strtoul(arguments[k + 1], NULL, 10);
 
     put_sums();
     bytes = overwritten(judge) - alone;
@@ -190,6 +208,16 @@ int main(int count, char **arguments) {
     bytes = overwritten(mark_line) - alone;
     printf("%7lu bytes of stack: mark_line, the last of 256 marks\n", (unsigned long)bytes);
     fails += number != 0 || bytes > most[4];
+    road_len = put_program(road, 128);
+    creeper_len = put_program(creeper, 129);
+    bytes = overwritten(join) - alone;
+    printf("%7lu bytes of stack: join, 128 and 129 statements\n", (unsigned long)bytes);
+    fails += number != 0 || bytes > most[9];
+    road_len = put_program(road, 256);
+    creeper_len = put_program(creeper, 256);
+    bytes = overwritten(join) - alone;
+    printf("%7lu bytes of stack: join, 256 and 256 statements: %d\n", (unsigned long)bytes, number);
+    fails += number != 21 || bytes > most[9];
     bytes = overwritten(list) - alone;
     printf("%7lu bytes of stack: list\n", (unsigned long)bytes);
     fails += number != 0 || bytes > most[7];

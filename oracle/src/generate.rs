@@ -421,6 +421,78 @@ pub fn program(random: &mut Random, size: usize) -> Program {
     Program::new(lines).expect("a generated program is taken")
 }
 
+/// A program of some statements that never ends: its last statement but `write` goes back, and none goes to `write`.
+fn endless(random: &mut Random, size: usize) -> Program {
+    let (program, last) = (program(random, size), size as u32 - 1);
+    let mut lines = program.statements().to_vec();
+    for statement in &mut lines {
+        if let Statement::Branch { then, other, .. } = statement {
+            *then = (*then).min(last);
+            *other = (*other).min(last);
+        }
+    }
+    let back = random.between(2, size - 1) as u32;
+    let tested = random.below(usize::from(VARIABLES)) as u8;
+    lines[size - 2] = Statement::Branch { tested, then: back, other: back };
+    Program::new(lines).expect("a generated program is taken")
+}
+
+/// A program in which some statement divides by 0 where a run comes to it.
+fn faulting(random: &mut Random, size: usize) -> Program {
+    let mut lines = program(random, size).statements().to_vec();
+    let at = random.between(1, size - 2);
+    let (x, a) = (random.below(usize::from(VARIABLES)) as u8, Operand::Constant(constant(random)));
+    let right = Expression::Pair(a, Operator::Divide, Operand::Constant(0));
+    lines[at] = Statement::Assign(x, right);
+    Program::new(lines).expect("a generated program is taken")
+}
+
+/// A program to be joined, at times one that never ends or is sure to divide by 0 if a run comes there.
+fn one_of_pair(random: &mut Random, size: usize) -> Program {
+    match random.below(12) {
+        0 if size > 2 => endless(random, size),
+        1 | 2 if size > 2 => faulting(random, size),
+        _ => program(random, size),
+    }
+}
+
+/// The statements of a road and of a creeper program: mostly small ones, else such that the joined program has
+/// around 256.
+fn pair_sizes(random: &mut Random) -> [usize; 2] {
+    match random.below(20) {
+        0 => random.pick(&[
+            [128, 129],
+            [129, 128],
+            [129, 129],
+            [256, 2],
+            [2, 256],
+            [255, 2],
+            [2, 255],
+            [256, 256],
+        ]),
+        1..=3 => {
+            let (first, joined) = (random.between(2, 256), random.between(252, 260));
+            [first, (joined + 1).saturating_sub(first).clamp(2, 256)]
+        }
+        4 => [size(random), size(random)],
+        _ => [size(random).min(40), size(random).min(40)],
+    }
+}
+
+/// A road and a creeper program. Now and then the creeper program reads what the road program writes.
+pub fn road_and_creeper(random: &mut Random) -> [Program; 2] {
+    let sizes = pair_sizes(random);
+    let [road, creeper] = sizes.map(|size| one_of_pair(random, size));
+    if !random.chance(20) {
+        return [road, creeper];
+    }
+    let mut lines = creeper.statements().to_vec();
+    if let Some(&Statement::Write(x)) = road.statements().last() {
+        lines[0] = Statement::Read(x);
+    }
+    [road, Program::new(lines).expect("a generated program is taken")]
+}
+
 /// A variable, mostly one that the program names.
 fn variable_near(random: &mut Random, program: &Program) -> u8 {
     let any = random.below(usize::from(VARIABLES)) as u8;

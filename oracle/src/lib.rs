@@ -10,6 +10,7 @@ pub mod desk;
 pub mod folder;
 pub mod forcing;
 pub mod generate;
+pub mod join;
 pub mod listing;
 pub mod liveness;
 pub mod machine;

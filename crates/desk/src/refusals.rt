@@ -92,6 +92,11 @@ pub fn words(out: &mut [u8], at: usize, n: u8, line: u32) -> usize
             at,
             b"the author of the review: over 128 differing parts",
         ),
+        21 => statement_writer::word(
+            out,
+            at,
+            b"the author of the shift program: the joined program has over 256 statements",
+        ),
         22 => statement_writer::word(
             out,
             at,

@@ -5,6 +5,7 @@ ghost use Rattle.host_force.specs.Exports.{ForceExported};
 ghost use Rattle.host_judge.specs.Places.{JudgeExported};
 ghost use Rattle.host_review.specs.Places.{ReviewExported};
 ghost use Rattle.host_mark_line.specs.Places.{MarkLineExported};
+ghost use Rattle.host_join.specs.Places.{JoinExported};
 ghost use Rattle.host_report.specs.Places.{ReportExported};
 ghost use Rattle.host_listing.specs.Exports.{ListExported, RelistExported};
 use language::KEPT;
@@ -187,4 +188,17 @@ pub extern "C" fn rewrites_relist(
     ensures { λ r. ⌜ RelistExported (now (program .entry)) (now (marks .entry)) (now (list .entry)) (now (list .exit)) r (record { defined = now (defined .entry); used = now (used .entry) }) (record { defined = now (defined .exit); used = now (used .exit) }) ⌝ }
 {
     host_listing::relist(program, marks, list, defined, used)
+}
+
+#[no_mangle]
+pub extern "C" fn rewrites_join(
+    road: &[u8],
+    creeper: &[u8],
+    text: &mut [u8],
+    statements: &mut u32,
+    bytes: &mut u32,
+) -> u8
+    ensures { λ r. ⌜ JoinExported (now (road .entry)) (now (creeper .entry)) (now (text .entry)) (now (text .exit)) r (record { statements = now (statements .entry); bytes = now (bytes .entry) }) (record { statements = now (statements .exit); bytes = now (bytes .exit) }) ⌝ }
+{
+    host_join::export(road, creeper, text, statements, bytes)
 }

@@ -6,6 +6,7 @@ mod division;
 mod document;
 mod forcing;
 mod generated;
+mod join;
 mod kept;
 mod listing;
 mod mark_lines;

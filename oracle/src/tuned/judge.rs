@@ -3,10 +3,11 @@
 use super::flow::{and, has, put, without, Flow, Row};
 use super::read::{List, Program};
 use super::tabulate::Rows;
+use super::write::Writer;
 use crate::condition::Direction;
 use crate::marks::{Kind, Mark, TEXT_BYTES, VERDICT_BYTES};
 use crate::pricing::{price, OURS};
-use crate::program::{Expression, Operand, Operator, Statement, LARGEST, MOST_LINES};
+use crate::program::{Expression, Operand, Operator, Statement, MOST_LINES};
 
 /// What verdicts are found from.
 struct Judge {
@@ -196,95 +197,6 @@ fn make(mark: &Mark, statement: &mut Statement) {
     }
 }
 
-/// Writes into a lent text, which has room for any program.
-struct Writer<'a> {
-    text: &'a mut [u8],
-    at: usize,
-}
-
-impl Writer<'_> {
-    #[inline(always)]
-    fn word(&mut self, word: &[u8]) {
-        self.text[self.at..self.at + word.len()].copy_from_slice(word);
-        self.at += word.len();
-    }
-
-    fn number(&mut self, mut number: u32) {
-        let (mut digits, mut start) = ([0; 10], 10);
-        loop {
-            start -= 1;
-            digits[start] = b'0' + (number % 10) as u8;
-            number /= 10;
-            if number == 0 {
-                break;
-            }
-        }
-        self.word(&digits[start..]);
-    }
-
-    /// A constant below zero, from its bits.
-    #[cold]
-    fn negative(&mut self, bits: u32) {
-        self.word(b"-");
-        self.number(bits.wrapping_neg());
-    }
-
-    fn variable(&mut self, x: u8) {
-        self.word(b"i");
-        self.number(u32::from(x));
-    }
-
-    fn operand(&mut self, operand: Operand) {
-        match operand {
-            Operand::Variable(x) => self.variable(x),
-            Operand::Constant(c) if c > LARGEST => self.negative(c),
-            Operand::Constant(c) => self.number(c),
-        }
-    }
-
-    fn statement(&mut self, statement: &Statement) {
-        match *statement {
-            Statement::Read(x) => {
-                self.word(b"read ");
-                self.variable(x);
-            }
-            Statement::Write(x) => {
-                self.word(b"write ");
-                self.variable(x);
-            }
-            Statement::Skip => self.word(b"skip"),
-            Statement::Branch { tested, then, other } => {
-                self.word(b"if ");
-                self.variable(tested);
-                self.word(b" goto ");
-                self.number(then);
-                self.word(b" else ");
-                self.number(other);
-            }
-            Statement::Assign(x, right) => {
-                self.variable(x);
-                self.word(b" := ");
-                match right {
-                    Expression::Single(a) => self.operand(a),
-                    Expression::Pair(a, operator, b) => {
-                        self.operand(a);
-                        self.word(match operator {
-                            Operator::Plus => b" + ",
-                            Operator::Minus => b" - ",
-                            Operator::Times => b" * ",
-                            Operator::Divide => b" / ",
-                            Operator::Less => b" < ",
-                            Operator::Equal => b" = ",
-                        });
-                        self.operand(b);
-                    }
-                }
-            }
-        }
-        self.word(b"\n");
-    }
-}
-
 /// Stands for the verdict of an `rm` until each `cse` is judged.
 const UNDECIDED: u8 = 255;
 
@@ -372,9 +284,9 @@ fn judge_with(
     let mut list = List::empty();
     list.read(marks)?;
     let (count, accepted) = make_all(&mut program, &list, verdicts, is_true);
-    let mut writer = Writer { text, at: 0 };
+    let mut writer = Writer::new(text);
     program.statements().iter().for_each(|statement| writer.statement(statement));
-    Ok((count, accepted, writer.at as u32))
+    Ok((count, accepted, writer.written()))
 }
 
 /// The call: fills verdicts and new text; the number of marks, of accepted ones and of bytes of new text, or the

@@ -3,14 +3,17 @@
 
 mod flow;
 mod force;
+mod join;
 mod judge;
 mod listing;
 mod read;
 mod review;
 mod run;
 mod tabulate;
+mod write;
 
 pub use force::force;
+pub use join::join;
 pub use judge::{judge, judge_by_labels, report};
 pub use listing::{list, relist};
 pub use review::review;

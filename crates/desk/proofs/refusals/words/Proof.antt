@@ -8,11 +8,11 @@ use Rattle.desk.proofs.refusals.words.Statement.{statement}
 use Rattle.desk.proofs.refusals.words.Tie as tie
 
 -- no row has the number
-returns-15 : tie.Need-returns-15
+returns-16 : tie.Need-returns-16
 unfolding refusalWords
-returns-15 c =
+returns-16 c =
     let n = c .match .rest in
-    rw (ne-eqb _ 1 (n .0 .0 .0 .0 .0 .0 .0 .0 .0 .0 .0 .0 .0 .1), ne-eqb _ 15 (n .0 .0 .0 .0 .0 .0 .0 .0 .0 .0 .0 .0 .1), ne-eqb _ 2 (n .0 .0 .0 .0 .0 .0 .0 .0 .0 .0 .0 .1), ne-eqb _ 3 (n .0 .0 .0 .0 .0 .0 .0 .0 .0 .0 .1), ne-eqb _ 4 (n .0 .0 .0 .0 .0 .0 .0 .0 .0 .1), ne-eqb _ 5 (n .0 .0 .0 .0 .0 .0 .0 .0 .1), ne-eqb _ 6 (n .0 .0 .0 .0 .0 .0 .0 .1), ne-eqb _ 7 (n .0 .0 .0 .0 .0 .0 .1), ne-eqb _ 8 (n .0 .0 .0 .0 .0 .1), ne-eqb _ 9 (n .0 .0 .0 .0 .1), ne-eqb _ 10 (n .0 .0 .0 .1), ne-eqb _ 16 (n .0 .0 .1), ne-eqb _ 17 (n .0 .1), ne-eqb _ 22 (n .1))
+    rw (ne-eqb _ 1 (n .0 .0 .0 .0 .0 .0 .0 .0 .0 .0 .0 .0 .0 .0 .1), ne-eqb _ 15 (n .0 .0 .0 .0 .0 .0 .0 .0 .0 .0 .0 .0 .0 .1), ne-eqb _ 2 (n .0 .0 .0 .0 .0 .0 .0 .0 .0 .0 .0 .0 .1), ne-eqb _ 3 (n .0 .0 .0 .0 .0 .0 .0 .0 .0 .0 .0 .1), ne-eqb _ 4 (n .0 .0 .0 .0 .0 .0 .0 .0 .0 .0 .1), ne-eqb _ 5 (n .0 .0 .0 .0 .0 .0 .0 .0 .0 .1), ne-eqb _ 6 (n .0 .0 .0 .0 .0 .0 .0 .0 .1), ne-eqb _ 7 (n .0 .0 .0 .0 .0 .0 .0 .1), ne-eqb _ 8 (n .0 .0 .0 .0 .0 .0 .1), ne-eqb _ 9 (n .0 .0 .0 .0 .0 .1), ne-eqb _ 10 (n .0 .0 .0 .0 .1), ne-eqb _ 16 (n .0 .0 .0 .1), ne-eqb _ 17 (n .0 .0 .1), ne-eqb _ 21 (n .0 .1), ne-eqb _ 22 (n .1))
     (record { text = refl; after = omega arith })
 
 pub words-spec : {M : Type 1} → statement M
@@ -52,6 +52,8 @@ words-spec =
     (λ c. search needs)
     (λ c κs. rw (c .before .before .match .keys14) at (c .before .before .before .before .pre))
     (λ c. search needs)
+    (λ c κs. rw (c .before .before .match .keys15) at (c .before .before .before .before .pre))
+    (λ c. search needs)
     (λ c. rw (c .before .before .before .before .before .match .keys1) (c .before .before .word .ensures))
     (λ c. search needs)
     (λ c. rw (c .before .before .before .before .before .match .keys2) (c .before .before .word2 .ensures))
@@ -79,4 +81,6 @@ words-spec =
     (λ c. rw (c .before .before .before .before .before .match .keys13) (c .before .before .word10 .ensures))
     (λ c. search needs)
     (λ c. rw (c .before .before .before .before .before .match .keys14) (c .before .before .word11 .ensures))
-    returns-15)
+    (λ c. search needs)
+    (λ c. rw (c .before .before .before .before .before .match .keys15) (c .before .before .word12 .ensures))
+    returns-16)

@@ -1,0 +1,3 @@
+pub mod Theorem
+pub mod Joins
+pub mod Unique

@@ -1,0 +1,93 @@
+// A road and a creeper program joined into one: the road's `write X` and the creeper's `read Y` become `Y := X`.
+ghost use mathlib.Core.Path.{_≡_};
+ghost use Prim.Native.Nat.{_≤_, _+_};
+ghost use lib.ListN.{length};
+ghost use Rattle.program.specs.Program.{most, Targets, WellFormed};
+ghost use Rattle.program.specs.Reading.{statements, Held};
+ghost use Rattle.joining.specs.Joining.{moved as movedBy, writes as writesOf, reads as readsOf, joined};
+use language::Expression;
+use language::Operand;
+use language::Statement;
+use program::Entry;
+use program::Program;
+
+// The variable of a `write`.
+fn writes(s: Statement) -> u8
+    ensures { λ r. ⌜ r ≡ writesOf s ⌝ }
+{
+    match s {
+        Statement::Read(_) => 0,
+        Statement::Write(x) => x,
+        Statement::Assign(_, _) => 0,
+        Statement::Branch(_, _, _) => 0,
+        Statement::Skip => 0,
+    }
+}
+
+// The variable of a `read`.
+fn reads(s: Statement) -> u8
+    ensures { λ r. ⌜ r ≡ readsOf s ⌝ }
+{
+    match s {
+        Statement::Read(x) => x,
+        Statement::Write(_) => 0,
+        Statement::Assign(_, _) => 0,
+        Statement::Branch(_, _, _) => 0,
+        Statement::Skip => 0,
+    }
+}
+
+// The statement with its targets d further on.
+fn moved(s: Statement, d: u32) -> Statement
+    requires { ⌜ Targets most s × (d ≤ most) ⌝ }
+    ensures { λ r. ⌜ r ≡ movedBy d s ⌝ }
+{
+    match s {
+        Statement::Read(x) => Statement::Read(x),
+        Statement::Write(x) => Statement::Write(x),
+        Statement::Assign(x, e) => Statement::Assign(x, e),
+        Statement::Branch(x, n, m) => {
+            let a = d + n;
+            let b = d + m;
+            Statement::Branch(x, a, b)
+        }
+        Statement::Skip => Statement::Skip,
+    }
+}
+
+// The joined program: the road's entries, from its last on the seam and the moved statements of the creeper.
+pub fn join(road: Program, creeper: Program) -> Program
+    requires { ⌜ Held road × WellFormed (statements road) ⌝ }
+    requires { ⌜ Held creeper × WellFormed (statements creeper) ⌝ }
+    requires { ⌜ road .count + creeper .count ≤ most + 1 ⌝ }
+    ensures { λ r. ⌜ Held r × (statements r ≡ joined (statements road) (statements creeper)) ⌝ }
+{
+    let mut entries = road.entries;
+    let count = road.count;
+    let size = creeper.count;
+    let last = count - 1;
+    let write = entries[last];
+    let read = creeper.entries[0];
+    let written = write.statement;
+    let begun = read.statement;
+    let x = writes(written);
+    let y = reads(begun);
+    entries[last] = Entry {
+        statement: Statement::Assign(y, Expression::Single(Operand::Variable(x))),
+    };
+    let d = last as u32;
+    let mut k: usize = 1;
+    while k < size {
+        let e = creeper.entries[k];
+        let s = e.statement;
+        entries[last + k] = Entry {
+            statement: moved(s, d),
+        };
+        k += 1;
+    }
+    let total = last + size;
+    Program {
+        entries: entries,
+        count: total,
+    }
+}
