@@ -922,7 +922,7 @@ pub fn force(
 /// // Before statement 3, i1 isn't live, and differs; i0, which 3 uses, is the same.
 /// use rewrites::{run, Outcome};
 /// let left = |program: &[u8]| match run(program, &[0; 32], 6, 2) {
-///     Ok(Outcome::Spent { statement: 3, values }) => (values[0], values[1]),
+///     Ok(Outcome::Spent { statement: 3, values, .. }) => (values[0], values[1]),
 ///     other => panic!("{:?}", other),
 /// };
 /// assert_eq!(left(program), (6, 7));
@@ -1212,7 +1212,7 @@ pub fn relist(program: &[u8], marks: &[u8], list: &mut [u64]) -> Result<Listing,
 /// );
 ///
 /// // 3 steps write 5, and with 5 in i1 and as input 4 steps write 25: 3 + 4 - 1 steps.
-/// let ended = Outcome::Ended { value: 25, steps: 6, kept: [0; KEPT] };
+/// let ended = Outcome::Ended { value: 25, steps: 6, ticks: 25, kept: [0; KEPT] };
 /// assert_eq!(run(joined, &[0; 32], 4, 100)?, ended);
 ///
 /// // The creeper program isn't taken: its `write` is missing.
