@@ -5,6 +5,7 @@ use crate::forcing::{self, Arm, Player};
 use crate::liveness::{differing, Liveness};
 use crate::machine::{self, Kept, Outcome, Run, State, Values, VALUES};
 use crate::marks::{self, TEXT_BYTES, VERDICT_BYTES};
+use crate::pricing::OURS;
 use crate::program::{Program, Statement};
 use crate::steps::Steps;
 use std::ops::RangeInclusive;
@@ -53,6 +54,8 @@ pub fn words(number: u8, program: &[u8]) -> String {
         8 => "over 64 parts".into(),
         9 => "some line misspelled, or the last without its byte 10".into(),
         10 => "over 256 lines".into(),
+        19 => "some line isn't a price from 1 to 65,535, or the last lacks its byte 10".into(),
+        20 => "other than eleven lines".into(),
         22 => "a misspelled or repeated variable".into(),
         _ => "budget over 1,000,000".into(),
     };
@@ -60,6 +63,7 @@ pub fn words(number: u8, program: &[u8]) -> String {
         2..=5 => "the author of the shift program",
         6..=8 => "the author of the condition",
         9 | 10 => "the optimiser",
+        19 | 20 => "the buyer",
         22 => "the author of the driver's list",
         _ => "the host program",
     };
@@ -233,7 +237,7 @@ pub fn run(program: &[u8], start: &[u8], trace: bool) -> String {
         Ok(start) => start,
         Err(words) => return words,
     };
-    let outcome = match machine::run(program, start.values, start.input, start.budget) {
+    let outcome = match machine::run(program, start.values, start.input, start.budget, &OURS) {
         Ok(outcome) => outcome,
         Err(number) => return refused(number, program),
     };
@@ -268,7 +272,7 @@ pub fn compare(program: &[u8], list: &[u8], start: &[u8]) -> String {
         Ok(start) => start,
         Err(words) => return words,
     };
-    let run = |text: &[u8]| machine::run(text, start.values, start.input, start.budget);
+    let run = |text: &[u8]| machine::run(text, start.values, start.input, start.budget, &OURS);
     let given_ends = match run(program) {
         Ok(outcome) => outcome,
         Err(number) => return refused(number, program),
