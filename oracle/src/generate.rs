@@ -3,7 +3,7 @@
 use crate::condition::{Condition, LONGEST_TEXT, MOST_PARTS};
 use crate::machine::{Values, LARGEST_BUDGET};
 use crate::marks::{Judge, Kind, Mark};
-use crate::pricing::{table_text, Prices, KINDS, OURS};
+use crate::pricing::{self, Prices, KINDS, OURS};
 use crate::program::{
     is_kept, Expression, Operand, Operator, Program, Statement, FIRST_KEPT, KEPT, LARGEST, LEAST,
     MOST_LINES, VARIABLES,
@@ -1577,8 +1577,14 @@ pub fn price_list(random: &mut Random) -> Vec<u32> {
     (0..count).map(|_| price(random)).collect()
 }
 
+/// The text of a table of right prices.
+pub fn table_text(random: &mut Random) -> Vec<u8> {
+    let prices: Prices = std::array::from_fn(|_| price(random));
+    pricing::table_text(&prices)
+}
+
 /// A wrong line of a table of prices.
-#[derive(Clone, Copy, Debug, PartialEq, Eq, Hash)]
+#[derive(Clone, Copy, Debug, PartialEq, Eq, PartialOrd, Ord)]
 pub enum WrongPrice {
     Zero,
     /// 65,536 and larger numbers.
@@ -1660,7 +1666,7 @@ pub fn price_text(random: &mut Random) -> Vec<u8> {
             let wrong = random.pick(&WrongPrice::ALL);
             wrong_prices(random, wrong, &list)
         }
-        3 => damage(random, &table_text(&list)),
-        _ => table_text(&list),
+        3 => damage(random, &pricing::table_text(&list)),
+        _ => pricing::table_text(&list),
     }
 }
