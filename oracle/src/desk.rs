@@ -5,7 +5,7 @@ use crate::forcing::{self, Arm, Player};
 use crate::liveness::{differing, Liveness};
 use crate::machine::{self, Kept, Outcome, Run, State, Values, VALUES};
 use crate::marks::{self, TEXT_BYTES, VERDICT_BYTES};
-use crate::pricing::OURS;
+use crate::pricing::{read_prices, report, OURS};
 use crate::program::{Program, Statement};
 use crate::steps::Steps;
 use std::ops::RangeInclusive;
@@ -300,17 +300,47 @@ pub fn compare(program: &[u8], list: &[u8], start: &[u8]) -> String {
     }
     let rewritten_ends = run(&new).expect("a rewritten program is taken");
     for (name, outcome) in [("given", given_ends), ("rewritten", rewritten_ends)] {
-        text += &match outcome {
-            Outcome::Ended { value, steps, kept, ticks } => {
-                format!("{name} {}", ended(value, steps, ticks, &kept))
-            }
-            Outcome::Spent { statement, ticks, .. } => {
-                format!("{name} {}", spent(statement, ticks))
-            }
-            Outcome::Fault { statement, steps, ticks } => {
-                format!("{name} {}", fault(statement, steps, ticks))
-            }
-        };
+        text += &format!("{name} {}", answer_line(&outcome));
     }
     text + "statements, outcome and live variables agree\n"
+}
+
+/// The line of a run's answer, without the values of one that is spent.
+fn answer_line(outcome: &Outcome) -> String {
+    match *outcome {
+        Outcome::Ended { value, steps, kept, ticks } => ended(value, steps, ticks, &kept),
+        Outcome::Spent { statement, ticks, .. } => spent(statement, ticks),
+        Outcome::Fault { statement, steps, ticks } => fault(statement, steps, ticks),
+    }
+}
+
+// A buyer's prices
+
+/// What is shown of a program and a list by a buyer's prices: the report, and where there is a start the answers of both runs.
+/// The table is read first, then the program and the list, then the start.
+pub fn price(program: &[u8], list: &[u8], table: &[u8], start: Option<&[u8]>) -> String {
+    let prices = match read_prices(table) {
+        Ok(prices) => prices,
+        Err(number) => return refused(number, program),
+    };
+    let text = match report(program, list, &prices) {
+        Ok(report) => report.text(),
+        Err(number) => return refused(number, program),
+    };
+    let start = match start.map(read_start) {
+        None => return text,
+        Some(Ok(start)) => start,
+        Some(Err(words)) => return words,
+    };
+    let mut new = vec![0; TEXT_BYTES];
+    let judged = marks::judge(program, list, &mut [0; VERDICT_BYTES], &mut new);
+    let (_, _, bytes) = judged.expect("what is priced is judged");
+    let run = |text: &[u8]| machine::run(text, start.values, start.input, start.budget, &prices);
+    match (run(program), run(&new[..bytes as usize])) {
+        (Ok(given), Ok(rewritten)) => {
+            let (given, rewritten) = (answer_line(&given), answer_line(&rewritten));
+            text + &format!("given {given}rewritten {rewritten}")
+        }
+        (Err(number), _) | (_, Err(number)) => refused(number, program),
+    }
 }
