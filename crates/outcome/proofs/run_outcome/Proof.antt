@@ -15,8 +15,7 @@ returns c =
     let told = c .before .before .before .before .before .before in
     let n = told .answer .given .0 .0 in
     let line = c .before .before .before .before .line-of-number in
-    let run = told .before .before .before .before in
-    refusal-printed _ _ _ _ (rw (run .before .ours .ensures) at (run .run .ensures)) n (line .result) (told .answer .given .1) (blamed (line .ensures))
+    refusal-printed _ _ _ _ (rw (told .before .before .before .before .before .ours .ensures) at (told .before .before .before .before .run .ensures)) n (line .result) (told .answer .given .1) (blamed (line .ensures))
     (omega (arith, refused-most n (line .result) (search needs) (search needs))) (c .before .before .refusal .ensures)
 
 returns-2 : tie.Need-returns-2
