@@ -63,6 +63,15 @@ fn store(table: &mut [u32], k: usize, n: u32)
     }
 }
 
+fn refused(number: u8, prices: [u32; KINDS]) -> PricesRead
+    ensures { λ r. ⌜ (r .answer ≡ PricesAnswer.Refused number) × (r .prices ≡ prices) ⌝ }
+{
+    PricesRead {
+        answer: PricesAnswer::Refused(number),
+        prices: prices,
+    }
+}
+
 // The table that the text spells, once all of it has been read; where it is refused, the table that was handed in.
 pub fn read_prices(text: &[u8], prices: [u32; KINDS]) -> PricesRead
     ensures { λ r. ⌜ PricesAnswers (now (text .entry)) prices (r .answer) (r .prices) ⌝ }
@@ -72,20 +81,14 @@ pub fn read_prices(text: &[u8], prices: [u32; KINDS]) -> PricesRead
     let mut k: usize = 0;
     while at < text.len() {
         let NumberRead::Found(n, next) = line(text, at) else {
-            return PricesRead {
-                answer: PricesAnswer::Refused(LINE_NUMBER),
-                prices: prices,
-            };
+            return refused(LINE_NUMBER, prices);
         };
         store(&mut table, k, n);
         k += 1;
         at = next;
     }
     if k != KINDS {
-        return PricesRead {
-            answer: PricesAnswer::Refused(COUNT_NUMBER),
-            prices: prices,
-        };
+        return refused(COUNT_NUMBER, prices);
     }
     PricesRead {
         answer: PricesAnswer::Taken,

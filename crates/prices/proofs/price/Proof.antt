@@ -17,7 +17,7 @@ returns-2 : tie.Need-returns-2
 unfolding parsePrice
 returns-2 c =
     let p = c .before .before in
-    (rw (sym (p .before .before .number .ensures .0) ∙ ap (parsedNumber _) (p .n .given .1), lt-leb 1 (p .n .given .0 .0) (c .if1 .taken)), omega arith)
+    (rw (sym (p .before .before .number .ensures .0) ∙ ap (parsedNumber _) (p .n .given .1), lt-leb 1 (p .n .given .0 .0) (omega (arith, c .if1 .taken))), omega arith)
 
 returns-3 : tie.Need-returns-3
 unfolding parsePrice
@@ -27,7 +27,7 @@ returns-3 c =
       rw (
         sym (p .before .before .number .ensures .0) ∙ ap (parsedNumber _) (p .n .given .1),
         le-leb 1 n (omega (arith, c .before .if1 .left)),
-        lt-leb n most-price (c .if2 .taken),
+        lt-leb n most-price (omega (arith, c .if2 .taken)),
       ),
       omega arith,
     )
@@ -40,7 +40,7 @@ returns-4 c =
       rw (
         sym (p .before .before .number .ensures .0) ∙ ap (parsedNumber _) (p .n .given .1),
         le-leb 1 n (omega (arith, c .before .before .before .before .before .if1 .left)),
-        le-leb n most-price (c .before .before .before .before .if2 .left),
+        le-leb n most-price (omega (arith, c .before .before .before .before .if2 .left)),
         sym (c .before .before .word .ensures .0) ∙ ap (parsedWord _) (c .enum-told2 .given .1),
       ),
       omega arith,
@@ -55,7 +55,7 @@ returns-5 c =
       rw (
         sym (p .before .before .number .ensures .0) ∙ ap (parsedNumber _) (p .n .given .1),
         le-leb 1 n (omega (arith, w .before .before .before .before .before .if1 .left)),
-        le-leb n most-price (w .before .before .before .before .if2 .left),
+        le-leb n most-price (omega (arith, w .before .before .before .before .if2 .left)),
         sym (w .before .before .word .ensures .0) ∙ ap (parsedWord _) (w .next .given .1),
       ),
       omega (arith, w .before .before .word .ensures .1 (omega arith), ap wordEnd (w .next .given .1)),

@@ -18,8 +18,10 @@ abbrev μ-loop : tie.MeasureT-loop
 
 returns : tie.Need-returns Inv-loop μ-loop
 returns c =
-    let l = c .before .before in
-    (wrong-line, wrong (l .before .before .loop .inv) (l .before .loop-test .taken) (c .enum-told .given .1) (l .line .ensures), refl, refl)
+    let r = c .refused .ensures in
+    let l = c .before .before .before in
+    rw (r .0, r .1)
+    (wrong-line, wrong (l .before .before .loop .inv) (l .before .loop-test .taken) (c .before .enum-told .given .1) (l .line .ensures), refl, refl)
 
 slice-aggregate-store : tie.Need-slice-aggregate-store Inv-loop μ-loop
 slice-aggregate-store c =
@@ -43,10 +45,13 @@ loop-again c =
     one-more (l .before .before .loop .inv) (c .before .before .before .before .n .given .1) (l .line .ensures) (c .before .store .ensures)
 
 returns-2 : tie.Need-returns-2 Inv-loop μ-loop
-returns-2 c = (line-count, miscounted (c .before .before .loop .inv) (c .before .loop-test .left) (c .if1 .taken), refl, refl)
+returns-2 c =
+    let r = c .refused2 .ensures in
+    let h = c .before .before in
+    rw (r .0, r .1) (line-count, miscounted (h .before .loop .inv) (h .loop-test .left) (λ e. omega (arith, c .before .if1 .taken)), refl, refl)
 
 returns-3 : tie.Need-returns-3 Inv-loop μ-loop
-returns-3 c = taken (c .before .before .loop .inv) (c .before .loop-test .left) (c .if1 .left) (search needs)
+returns-3 c = taken (c .before .before .loop .inv) (c .before .loop-test .left) (omega (arith, c .if1 .left)) (search needs)
 
 pub read-prices-spec : {M : Type 1} → statement M
 read-prices-spec =
@@ -58,11 +63,13 @@ read-prices-spec =
     (λ c κs. search needs)
     (λ c. search needs)
     (λ c. search needs)
+    (λ c κs. search needs)
     returns
     slice-aggregate-store
     (λ c κs. search needs)
     add-k
     loop-less
     loop-again
+    (λ c κs. search needs)
     returns-2
     returns-3)
