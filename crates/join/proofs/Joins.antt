@@ -11,8 +11,7 @@ use Rattle.program.specs.Program.{text, most, Taken}
 use Rattle.program.specs.Reading.{statements, Held}
 use Rattle.program.specs.declared.Program.{Program}
 use Rattle.program.proofs.Lengths.{text-fits}
-use Rattle.joining.proofs.Made.{held-size}
-use Rattle.joining.proofs.Statements.{joined-length}
+use Rattle.joining.proofs.Written.{held-size}
 use Rattle.joining.specs.Joining.{joined}
 use Rattle.join.specs.Join.{text-bytes, JoinFinished}
 use Rattle.join.proofs.Theorem.{joined-taken, joined-texts}
@@ -20,9 +19,6 @@ use Rattle.join.proofs.Theorem.{joined-taken, joined-texts}
 -- the code's test, of the statements
 pub together : {p q : Program} → Held p → Held q → p .count + q .count ≤ most + 1 → length (statements p) + length (statements q) ≤ most + 1
 together h g few = omega (arith, held-size h, held-size g)
-
-pub size : {t u : List ℕ} {P Q : List Statement} → Taken t P → Taken u Q → length (joined P Q) ≡ length P + length Q - 1
-size {P = P} {Q = Q} p q = omega (arith, joined-length P Q (p .program .counted) (q .program .counted), p .program .counted .0)
 
 module _ {t u : List ℕ} {P Q : List Statement} (p : Taken t P) (q : Taken u Q) (few : length P + length Q ≤ most + 1) where
   pub text-short : length (text (joined P Q)) ≤ text-bytes

@@ -41,10 +41,8 @@ pub fn join(road: &[u8], creeper: &[u8], text: &mut [u8]) -> JoinAnswer
     if MOST + 1 < n + m {
         return JoinAnswer::Refused(LONG_NUMBER);
     }
-    let joined = joining::join(p, q);
-    let count = joined.count;
-    let bytes = program::write(joined, text);
-    let statements = count as u32;
+    let bytes = joining::write(p, q, text);
+    let statements = (n + m - 1) as u32;
     let length = bytes as u32;
     JoinAnswer::Joined(statements, length)
 }

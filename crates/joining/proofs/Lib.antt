@@ -1,4 +1,4 @@
 pub mod Statements
 pub mod WellFormed
 pub mod Runs
-pub mod Made
+pub mod Written

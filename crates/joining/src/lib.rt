@@ -2,13 +2,13 @@
 ghost use mathlib.Core.Path.{_≡_};
 ghost use Prim.Native.Nat.{_≤_, _+_};
 ghost use lib.ListN.{length};
-ghost use Rattle.program.specs.Program.{most, Targets, WellFormed};
+ghost use Rattle.program.specs.Program.{text, most, Targets, WellFormed};
 ghost use Rattle.program.specs.Reading.{statements, Held};
+ghost use Rattle.statement_writer.specs.Writing.{Put};
 ghost use Rattle.joining.specs.Joining.{moved as movedBy, writes as writesOf, reads as readsOf, joined};
 use language::Expression;
 use language::Operand;
 use language::Statement;
-use program::Entry;
 use program::Program;
 
 // The variable of a `write`.
@@ -55,39 +55,42 @@ fn moved(s: Statement, d: u32) -> Statement
     }
 }
 
-// The joined program: the road's entries, from its last on the seam and the moved statements of the creeper.
-pub fn join(road: Program, creeper: Program) -> Program
+// Puts the joined program's text at the front of the lent bytes, and answers its length: the lines of the road but its last, the seam, and those
+// of the creeper but its first, moved. No value of the joined program is made, which would be copied.
+pub fn write(road: Program, creeper: Program, out: &mut [u8]) -> usize
     requires { ⌜ Held road × WellFormed (statements road) ⌝ }
     requires { ⌜ Held creeper × WellFormed (statements creeper) ⌝ }
     requires { ⌜ road .count + creeper .count ≤ most + 1 ⌝ }
-    ensures { λ r. ⌜ Held r × (statements r ≡ joined (statements road) (statements creeper)) ⌝ }
+    requires { ⌜ length (text (joined (statements road) (statements creeper))) ≤ length (now out) ⌝ }
+    ensures { λ r. ⌜ Put (now (out .entry)) 0 (text (joined (statements road) (statements creeper))) (now (out .exit)) r ⌝ }
 {
-    let mut entries = road.entries;
     let count = road.count;
     let size = creeper.count;
     let last = count - 1;
-    let write = entries[last];
+    let mut at: usize = 0;
+    let mut s: usize = 0;
+    while s < last {
+        let e = road.entries[s];
+        let i = e.statement;
+        at = statement_writer::line(out, at, i);
+        s += 1;
+    }
+    let write = road.entries[last];
     let read = creeper.entries[0];
     let written = write.statement;
     let begun = read.statement;
     let x = writes(written);
     let y = reads(begun);
-    entries[last] = Entry {
-        statement: Statement::Assign(y, Expression::Single(Operand::Variable(x))),
-    };
+    let seam = Statement::Assign(y, Expression::Single(Operand::Variable(x)));
+    at = statement_writer::line(out, at, seam);
     let d = last as u32;
     let mut k: usize = 1;
     while k < size {
         let e = creeper.entries[k];
-        let s = e.statement;
-        entries[last + k] = Entry {
-            statement: moved(s, d),
-        };
+        let i = e.statement;
+        let j = moved(i, d);
+        at = statement_writer::line(out, at, j);
         k += 1;
     }
-    let total = last + size;
-    Program {
-        entries: entries,
-        count: total,
-    }
+    at
 }

@@ -6,13 +6,15 @@ use Rattle.program.specs.Program.{WellFormed}
 use Rattle.program.specs.Reading.{statements, Held}
 use Rattle.program.specs.declared.Program.{Program}
 use Rattle.marks.specs.declared.Mark.{Mark}
-use Rattle.rewriting.specs.Verdicts.{Verdicts, Rewritten}
+use Rattle.rewriting.specs.Verdicts.{Verdicts, acceptedCount, Rewritten}
+use Rattle.verdicts.specs.declared.Rewriting.{Rewriting}
 
--- q is p with the accepted of the marks ms made
-pub record Round (p : Program) (ms : List Mark) (q : Program) : Type 0 where
+-- r has p with the accepted of the marks ms made, and how many those are
+pub record Round (p : Program) (ms : List Mark) (r : Rewriting) : Type 0 where
   pub vs : List ℕ
   pub judged : Verdicts (statements p) ms vs
-  pub rewritten : Rewritten (statements p) ms vs (statements q)
-  pub held : Held q
-  pub program : WellFormed (statements q)
-  pub same : q .count ≡ p .count
+  pub rewritten : Rewritten (statements p) ms vs (statements (r .program))
+  pub counted : r .accepted ≡ acceptedCount ms vs
+  pub held : Held (r .program)
+  pub program : WellFormed (statements (r .program))
+  pub same : r .program .count ≡ p .count

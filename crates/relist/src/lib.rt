@@ -11,13 +11,14 @@ use calls::ROOM_NUMBER;
 use listing::LIST_WORDS;
 use listing::Listing;
 use program::Program;
+use verdicts::Rewriting;
 
-// The program with the accepted marks of the list made, judged as `judge` does.
-fn rewritten(p: Program, marks: &[u8]) -> Program
+// The program with the accepted marks of the list made, judged as `judge` does, and how many those are.
+fn rewritten(p: Program, marks: &[u8]) -> Rewriting
     requires { ⌜ Held p ⌝ }
     requires { ⌜ WellFormed (statements p) ⌝ }
     requires { ⌜ SomeTaken (now marks) ⌝ }
-    ensures { λ q. ⌜ ((ms : List MarkOf) → Taken (now (marks .entry)) ms → Round p ms q) ⌝ }
+    ensures { λ r. ⌜ ((ms : List MarkOf) → Taken (now (marks .entry)) ms → Round p ms r) ⌝ }
 {
     let mut rows = atoms::blank();
     let mut codes = atoms::blank_codes();
@@ -26,11 +27,10 @@ fn rewritten(p: Program, marks: &[u8]) -> Program
     flow::of(p, &mut flow);
     let mut verdicts = judge::verdict_buffer();
     widening::judge(marks, p, &mut rows, &codes, &flow, &mut verdicts);
-    let rewriting = verdicts::rewrite(marks, p, &verdicts);
-    rewriting.program
+    verdicts::rewrite(marks, p, &verdicts)
 }
 
-// Judges each mark of the list on the program, and writes the bits of the statements that the accepted ones change.
+// Judges each mark of the list on the program, and writes the bits of the statements that the accepted ones change: none where none is accepted.
 pub fn relist(program: &[u8], marks: &[u8], list: &mut [u64]) -> Listing
     ensures { λ r. ⌜ RelistAnswers (now (program .entry)) (now (marks .entry)) (now (list .entry)) (now (list .exit)) (r .answer) (r .defined) (r .used) ⌝ }
 {
@@ -47,7 +47,11 @@ pub fn relist(program: &[u8], marks: &[u8], list: &mut [u64]) -> Listing
     match checked {
         marks::Checked::Refused(refusal) => listing::refused(marks::number_of(refusal)),
         marks::Checked::Taken(_) => {
-            let q = rewritten(p, marks);
+            let made = rewritten(p, marks);
+            if made.accepted == 0 {
+                return listing::listed(&*list);
+            }
+            let q = made.program;
             listing::update(p, q, list);
             listing::listed(&*list)
         }

@@ -1,19 +1,17 @@
 -- `join` meets its contract. Assumes nothing.
-use mathlib.Core.Path.{_≡_, refl, sym, ap, _∙_}
+use mathlib.Core.Path.{refl}
 use mathlib.Core.Logic.{inl, inr}
-use mathlib.Core.List.{List}
 use Prim.Native.Nat.{_+_, _-_, _≤_, _<_}
 use native.Mathlib.Omega.{arith}
 use borrow.Author.Needs.{needs}
 use lib.ListN.{length}
-use Rattle.language.specs.declared.Statement.{Statement}
 use Rattle.program.specs.Program.{text, most, Taken}
 use Rattle.program.specs.Reading.{statements, Held}
 use Rattle.program.specs.declared.Program.{Program}
 use Rattle.joining.specs.Joining.{joined}
-use Rattle.joining.proofs.Made.{held-size}
+use Rattle.joining.proofs.Written.{held-size}
 use Rattle.join.specs.Join.{text-bytes, creeper, long}
-use Rattle.join.proofs.Joins.{together, size, text-short, finished}
+use Rattle.join.proofs.Joins.{together, text-short, finished}
 use Rattle.join.proofs.join.Statement.{statement}
 use Rattle.join.proofs.join.Tie as tie
 
@@ -47,8 +45,8 @@ module _ (c : tie.After-enum-told2) (few : roadOf (road c) .count + creeperOf c 
   fits : length (statements (roadOf (road c))) + length (statements (creeperOf c)) ≤ most + 1
   fits = together (road-taken (road c) .1) (creeper-taken c .1) few
 
-  short : (J : List Statement) → J ≡ joined (statements (roadOf (road c))) (statements (creeperOf c)) → length (text J) ≤ text-bytes
-  short J is = rw is (text-short (road-taken (road c) .0) (creeper-taken c .0) fits)
+  short : length (text (joined (statements (roadOf (road c))) (statements (creeperOf c)))) ≤ text-bytes
+  short = text-short (road-taken (road c) .0) (creeper-taken c .0) fits
 
 -- ---- what each return owes
 
@@ -81,32 +79,31 @@ returns-4 c =
     let few : most < length P + length Q - 1 = omega (arith, c .if2 .taken, held-size (p .1), held-size (q .1)) in
     (inr (inr (tested (road both) .if1 .left, P, p .0, long, (P, Q, p .0, q .0, few), refl)), refl)
 
-join-requires : tie.Need-join-requires
-join-requires c κs =
-    let p = road-taken (road (c .before .before .before)) in
-    let q = creeper-taken (c .before .before .before) in
-    ((p .1, p .0 .program), ((q .1, q .0 .program), omega (arith, c .if2 .left)))
-
 write-requires : tie.Need-write-requires
 write-requires c κs =
-    let both = c .before .before .before .before .before in
-    let made = c .before .join .ensures in
-    (made .0, omega (arith, tested (road both) .if1 .left, short both (c .before .before .if2 .left) _ (made .1)))
+    let both = c .before .before .before .before in
+    let p = road-taken (road both) in
+    let q = creeper-taken both in
+    let few = c .before .if2 .left in
+    ((p .1, p .0 .program), ((q .1, q .0 .program), (omega (arith, few), omega (arith, tested (road both) .if1 .left, short both few))))
+
+sub-statements : tie.Need-sub-statements
+sub-statements c =
+    let p = road-taken (road (c .before .before .before .before .before .before .before)) in
+    omega (arith, held-size (p .1), p .0 .program .counted .0)
 
 cast-length : tie.Need-cast-length
 cast-length c =
     let called = c .before .before .before .before in
-    omega (arith, c .before .before .write .ensures .after, short (called .before .before .before .before) (called .before .if2 .left) _ (called .join .ensures .1))
+    omega (arith, c .before .before .write .ensures .after, short (called .before .before .before) (called .if2 .left))
 
 returns-5 : tie.Need-returns-5
 returns-5 c =
     let called = c .before .before .before .before in
-    let both = called .before .before .before .before in
-    let p = road-taken (road both) .0 in
-    let q = creeper-taken both .0 in
-    let made = called .join .ensures in
-    finished p q (fits both (called .before .if2 .left)) (tested (road both) .if1 .left) (sym (held-size (made .0)) ∙ ap length (made .1) ∙ size p q)
-    (rw (made .1) at (c .before .before .write .ensures))
+    let both = called .before .before .before in
+    let p = road-taken (road both) in
+    let q = creeper-taken both in
+    finished (p .0) (q .0) (fits both (called .if2 .left)) (tested (road both) .if1 .left) (omega (arith, held-size (p .1), held-size (q .1))) (c .before .before .write .ensures)
 
 pub join-spec : {M : Type 1} → statement M
 join-spec =
@@ -126,8 +123,9 @@ join-spec =
     (λ c. search needs)
     add-if2-2
     returns-4
-    join-requires
     write-requires
+    (λ c. search needs)
+    sub-statements
     (λ c. search needs)
     cast-length
     (λ c. search needs)

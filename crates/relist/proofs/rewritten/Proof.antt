@@ -30,8 +30,8 @@ rewrite-requires c κs =
 
 returns : tie.Need-returns
 returns c = λ ms taken.
-    let pre = c .before .before .before .before .before .before .before .before .before .before .before .before .before .before .before .before .before .before .before .before .before .before .before .pre in
-    round (pre .0) (pre .1 .0) taken (c .before .before .before .before .before .judge .ensures ms taken) (c .before .rewrite .ensures ms taken)
+    let pre = c .before .before .before .before .before .before .before .before .before .before .before .before .before .before .before .before .before .before .before .before .before .before .pre in
+    round (pre .0) (pre .1 .0) taken (c .before .before .before .before .judge .ensures ms taken) (c .rewrite .ensures ms taken)
 
 pub rewritten-spec : {M : Type 1} → statement M
 rewritten-spec =
