@@ -19,8 +19,8 @@ use Rattle.pricing.specs.Prices.{column}
 use Rattle.pricing.proofs.Columns.{column-at}
 use Rattle.machine.specs.Ticks.{ticks}
 use Rattle.machine.specs.Answer.{stateOf, Ends}
-use Rattle.machine.specs.declared.Evaluated.{Evaluated}
-use Rattle.machine.specs.declared.Evaluated.the-variants.{Value, Fault}
+use Rattle.arithmetic.specs.declared.Evaluated.{Evaluated}
+use Rattle.arithmetic.specs.declared.Evaluated.the-variants.{Value, Fault}
 use Rattle.machine.specs.declared.Next.{Next}
 use Rattle.machine.specs.declared.Next.the-variants.{Goto}
 

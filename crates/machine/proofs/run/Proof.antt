@@ -19,7 +19,7 @@ use Rattle.machine.specs.Ticks as spec
 use Rattle.machine.specs.Answer.{stateOf}
 use Rattle.machine.specs.declared.Next.{Next}
 use Rattle.machine.proofs.Runs.{Stands, stands-first, step-inside, step-fault, step-over, step-paid, none-paid}
-use Rattle.machine.proofs.Words.{stored-same}
+use Rattle.arithmetic.proofs.Words.{stored-same}
 use Rattle.machine.proofs.run.Statement.{statement}
 use Rattle.machine.proofs.run.Tie as tie
 
