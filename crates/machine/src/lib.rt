@@ -1,21 +1,18 @@
-// Runs: one step, and a run under a budget.
+// The machine: one step, and what a run answers.
 ghost use mathlib.Core.Path.{_≡_};
 ghost use Prim.Native.Nat.{_<_};
 ghost use lib.ListN.{length};
 ghost use Rattle.language.specs.Spelling.{ValidOperand, ValidExpression, Valid};
-ghost use Rattle.program.specs.Program.{most, Targets, WellFormed};
-ghost use Rattle.program.specs.Reading.{statements, Held};
+ghost use Rattle.program.specs.Program.{most, Targets};
 ghost use Rattle.language.specs.Kept.{kept-count, keptOf};
 ghost use Rattle.machine.specs.Machine.{operandValue, value, perform};
-ghost use Rattle.machine.specs.Answer.{stateOf, Answers};
+ghost use Rattle.machine.specs.Answer.{stateOf};
 use arithmetic::Evaluated;
 use language::Expression;
 use language::FIRST_KEPT;
 use language::KEPT;
 use language::Operand;
 use language::Statement;
-use pricing::KINDS;
-use program::Program;
 
 // One value for each variable.
 pub const VALUES: usize = language::VARIABLES as usize;
@@ -33,14 +30,6 @@ pub enum Answer {
     Ended(i32, u32, u64),
     Fault(u32, u32, u64),
     Spent(u32, u64),
-}
-
-// The values are those after the last step where the answer is `Spent`, else the starting ones. The kept ones are those at the end where the
-// run ended, else those of the start.
-pub struct Outcome {
-    pub answer: Answer,
-    pub values: [u32; VALUES],
-    pub kept: [u32; KEPT],
 }
 
 fn load(values: &[u32; VALUES], o: Operand) -> u32
@@ -127,55 +116,4 @@ pub fn kept_of(values: [u32; VALUES]) -> [u32; KEPT]
         k += 1;
     }
     kept
-}
-
-// Runs the program for at most `budget` steps, each at its statement's price.
-pub fn run(
-    program: Program,
-    start: [u32; VALUES],
-    input: u32,
-    budget: u32,
-    table: [u32; KINDS],
-) -> Outcome
-    requires { ⌜ WellFormed (statements program) ⌝ }
-    requires { ⌜ Held program ⌝ }
-    ensures { λ r. ⌜ Answers table (statements program) start input budget (r .answer) (r .values) (r .kept) ⌝ }
-{
-    let prices = pricing::prices_of(program, &table);
-    let mut values = start;
-    let mut at: u32 = 0;
-    let mut steps: u32 = 0;
-    let mut ticks: u64 = 0;
-    while steps < budget {
-        let i = at as usize;
-        let e = program.entries[i];
-        let s = e.statement;
-        let next = step(s, at, input, &mut values);
-        steps += 1;
-        ticks += prices[i] as u64;
-        match next {
-            Next::Goto(t) => {
-                at = t;
-            }
-            Next::Finish(v) => {
-                return Outcome {
-                    answer: Answer::Ended(arithmetic::signed(v), steps, ticks),
-                    values: start,
-                    kept: kept_of(values),
-                };
-            }
-            Next::Fault(t) => {
-                return Outcome {
-                    answer: Answer::Fault(t + 1, steps, ticks),
-                    values: start,
-                    kept: kept_of(start),
-                };
-            }
-        }
-    }
-    Outcome {
-        answer: Answer::Spent(at + 1, ticks),
-        values: values,
-        kept: kept_of(start),
-    }
 }

@@ -48,7 +48,7 @@ pub fn run(program: &[u8], values: [u32; VALUES], input: u32, budget: u32) -> Ra
         return run_refused(program::number_of(refusal), values);
     }
     let read = reading.program;
-    let outcome = machine::run(read, values, input, budget, pricing::ours());
+    let outcome = execution::run(read, values, input, budget, pricing::ours());
     let left = outcome.values;
     let kept = outcome.kept;
     let told = outcome.answer;
