@@ -6,8 +6,8 @@ use lib.ListN.{length, length-set}
 use Rattle.language.specs.declared.Statement.{Statement}
 use Rattle.language.specs.declared.Statement.the-variants.{Read, Write, Assign, Branch, Skip}
 use Rattle.program.specs.Program.{at}
-use Rattle.machine.specs.declared.Evaluated.{Evaluated}
-use Rattle.machine.specs.declared.Evaluated.the-variants.{Value, Fault}
+use Rattle.arithmetic.specs.declared.Evaluated.{Evaluated}
+use Rattle.arithmetic.specs.declared.Evaluated.the-variants.{Value, Fault}
 use Rattle.machine.proofs.Runs.{Stands}
 use Rattle.machine.specs.Machine.{State, before, ended, stored, value, perform, stepFrom, after}
 

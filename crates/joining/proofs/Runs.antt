@@ -12,8 +12,8 @@ use Rattle.language.specs.Kept.{keptOf}
 use Rattle.language.specs.declared.Statement.{Statement}
 use Rattle.language.specs.declared.Statement.the-variants.{Read, Write, Assign, Branch, Skip}
 use Rattle.program.specs.Program.{at, InPlace, Targets, WellFormed}
-use Rattle.machine.specs.declared.Evaluated.{Evaluated}
-use Rattle.machine.specs.declared.Evaluated.the-variants.{Value, Fault}
+use Rattle.arithmetic.specs.declared.Evaluated.{Evaluated}
+use Rattle.arithmetic.specs.declared.Evaluated.the-variants.{Value, Fault}
 use Rattle.machine.specs.Machine.{Final, written, faulted, State, before, ended, after, value, stored, perform, stepFrom}
 use Rattle.machine.specs.Answer.{Ends}
 use Rattle.machine.proofs.Runs.{perform-inside}

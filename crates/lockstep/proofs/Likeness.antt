@@ -21,9 +21,10 @@ use Rattle.language.specs.declared.Expression.the-variants.{Single, Binary}
 use Rattle.language.specs.declared.Statement.{Statement}
 use Rattle.language.specs.declared.Statement.the-variants.{Read, Write, Assign, Branch, Skip}
 use Rattle.language.proofs.Kept.{kept-agree}
-use Rattle.machine.specs.declared.Evaluated.{Evaluated}
-use Rattle.machine.specs.declared.Evaluated.the-variants.{Value, Fault}
-use Rattle.machine.specs.Machine.{apply, faults, operandValue, given, value}
+use Rattle.arithmetic.specs.declared.Evaluated.{Evaluated}
+use Rattle.arithmetic.specs.declared.Evaluated.the-variants.{Value, Fault}
+use Rattle.arithmetic.specs.Arithmetic.{apply, faults, given}
+use Rattle.machine.specs.Machine.{operandValue, value}
 use Rattle.truth.specs.Truth.{InOperand, In, Uses}
 use Rattle.lockstep.specs.Rules.{IsVariable, Takes, Safe, Harmless, replaceOperand, replaceIn, replaceVariable, replace}
 use Rattle.base.specs.Pick.{pick}

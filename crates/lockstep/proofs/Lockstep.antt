@@ -21,8 +21,8 @@ use Rattle.language.specs.declared.Statement.{Statement}
 use Rattle.language.specs.declared.Statement.the-variants.{Read, Assign, Branch, Skip}
 use Rattle.program.specs.Program.{at, InPlace, WellFormed}
 use Rattle.program.proofs.Held.{at-valid}
-use Rattle.machine.specs.declared.Evaluated.{Evaluated}
-use Rattle.machine.specs.declared.Evaluated.the-variants.{Value, Fault}
+use Rattle.arithmetic.specs.declared.Evaluated.{Evaluated}
+use Rattle.arithmetic.specs.declared.Evaluated.the-variants.{Value, Fault}
 use Rattle.machine.specs.Machine.{written, State, before, ended, after, stored, perform, stepFrom, operandValue, value}
 use Rattle.base.specs.Pick.{pick}
 use Rattle.flow.specs.Flow.{leads}

@@ -1,4 +1,2 @@
-pub mod Words
-pub mod Quotient
 pub mod Runs
 pub mod Unique

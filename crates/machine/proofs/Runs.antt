@@ -1,5 +1,5 @@
 -- Laws of runs: where a run stands, and what a step makes of it.
-use mathlib.Core.Path.{_≡_, refl, sym, ap, _∙_}
+use mathlib.Core.Path.{_≡_, refl, sym, ap, ap₂, _∙_}
 use mathlib.Core.Bool.{Bool, true, false}
 use mathlib.Core.List.{List}
 use Prim.Native.Nat.{ℕ, _+_, _-_, _≤_, _<_}
@@ -15,12 +15,11 @@ use Rattle.program.specs.declared.Program.{Program}
 use Rattle.program.proofs.Held.{held, at-held}
 use Rattle.machine.specs.Machine.{Final, written, faulted, State, before, ended, after, value, stored, perform, stepFrom}
 use Rattle.base.specs.Pick.{pick}
-use Rattle.pricing.specs.Prices.{column}
-use Rattle.pricing.proofs.Columns.{column-at}
-use Rattle.machine.specs.Ticks.{ticks}
+use Rattle.pricing.specs.Prices.{price}
+use Rattle.machine.specs.Ticks.{cost, ticks}
 use Rattle.machine.specs.Answer.{stateOf, Ends}
-use Rattle.machine.specs.declared.Evaluated.{Evaluated}
-use Rattle.machine.specs.declared.Evaluated.the-variants.{Value, Fault}
+use Rattle.arithmetic.specs.declared.Evaluated.{Evaluated}
+use Rattle.arithmetic.specs.declared.Evaluated.the-variants.{Value, Fault}
 use Rattle.machine.specs.declared.Next.{Next}
 use Rattle.machine.specs.declared.Next.the-variants.{Goto}
 
@@ -68,12 +67,12 @@ fault-here (Assign y v) input s t vs e = go (value vs v) e
 fault-here (Branch y n m) input s t vs e = absurd (let z : _≡_ {A = ℕ} 0 1 = cc in omega arith)
 fault-here Skip input s t vs e = absurd (let z : _≡_ {A = ℕ} 0 1 = cc in omega arith)
 
--- the ticks of one step more, by the column of all prices
+-- the ticks of one step more: with the price q of the statement before which the run stands
 pub step-paid :
-    {P : List Statement} {vs : List ℕ} {input k s : ℕ} {ws : List ℕ} → WellFormed P → Stands P vs input k s ws
-    → (ps : List ℕ) {prices : List ℕ} {t : ℕ} → prices ≡ column ps P → t ≡ ticks ps P vs input k → t + getD prices s 0 ≡ ticks ps P vs input (k + 1)
+    {P : List Statement} {vs : List ℕ} {input k s : ℕ} {ws : List ℕ} → Stands P vs input k s ws
+    → (ps : List ℕ) {q t : ℕ} → q ≡ price ps (at P s) → t ≡ ticks ps P vs input k → t + q ≡ ticks ps P vs input (k + 1)
 unfolding ticks
-step-paid {P = P} {s = s} w here ps found e = rw (add-one, here .state, found, e, column-at ps P (w .counted .1) s (here .inside))
+step-paid {P = P} here ps e paid = rw add-one (ap₂ _+_ paid (e ∙ sym (ap (cost ps P) (here .state))))
 
 -- one step more, where `told` is what `step` says of its answer n and the values us that it leaves
 module _ (p : Program) (vs : List ℕ) (input k s : ℕ) (ws us : List ℕ) (n : Next)

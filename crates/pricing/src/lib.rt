@@ -85,7 +85,8 @@ fn kind_of(s: Statement) -> usize
     }
 }
 
-fn price_of(s: Statement, table: &[u32; KINDS]) -> u32
+// The price of a statement.
+pub fn price_of(s: Statement, table: &[u32; KINDS]) -> u32
     ensures { λ r. ⌜ r ≡ price (now (table .entry)) s ⌝ }
 {
     let k = kind_of(s);

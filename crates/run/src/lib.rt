@@ -55,7 +55,7 @@ pub fn run(
         return run_refused(program::number_of(refusal), values);
     }
     let read = reading.program;
-    let outcome = machine::run(read, values, input, budget, pricing::in_force(prices));
+    let outcome = execution::run(read, values, input, budget, pricing::in_force(prices));
     let left = outcome.values;
     let kept = outcome.kept;
     let told = outcome.answer;

@@ -1,7 +1,7 @@
 -- `evaluate` meets its contract: each arm is its clause of `value`.
 use mathlib.Core.Path.{ap}
 use borrow.Author.Needs.{needs}
-use Rattle.machine.specs.declared.Evaluated.the-variants.{Value}
+use Rattle.arithmetic.specs.declared.Evaluated.the-variants.{Value}
 use Rattle.machine.proofs.evaluate.Statement.{statement}
 use Rattle.machine.proofs.evaluate.Tie as tie
 

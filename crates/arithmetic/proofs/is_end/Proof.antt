@@ -1,8 +1,8 @@
 -- `is_end` meets its contract.
 use borrow.Author.Needs.{needs}
 use borrow.Author.Tests.{eq-eqb, ne-eqb}
-use Rattle.machine.proofs.is_end.Statement.{statement}
-use Rattle.machine.proofs.is_end.Tie as tie
+use Rattle.arithmetic.proofs.is_end.Statement.{statement}
+use Rattle.arithmetic.proofs.is_end.Tie as tie
 
 returns : tie.Need-returns
 returns c = rw (eq-eqb _ _ (c .if1 .taken))

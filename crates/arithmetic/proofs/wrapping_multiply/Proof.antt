@@ -1,8 +1,8 @@
 -- `wrapping_multiply` meets its contract: the product of two words fits 64 bits.
 use borrow.Author.Needs.{needs}
-use Rattle.machine.proofs.Words.{product-below}
-use Rattle.machine.proofs.wrapping_multiply.Statement.{statement}
-use Rattle.machine.proofs.wrapping_multiply.Tie as tie
+use Rattle.arithmetic.proofs.Words.{product-below}
+use Rattle.arithmetic.proofs.wrapping_multiply.Statement.{statement}
+use Rattle.arithmetic.proofs.wrapping_multiply.Tie as tie
 
 mul-result : tie.Need-mul-result
 mul-result c = record { fits = product-below 32 (search needs) (search needs) }

@@ -3,9 +3,9 @@ use mathlib.Core.Path.{ap}
 use native.Mathlib.Omega.{arith}
 use borrow.Author.Tests.{eq-eqb, ne-eqb}
 use borrow.Author.Needs.{needs}
-use Rattle.machine.specs.declared.Evaluated.the-variants.{Value}
-use Rattle.machine.proofs.apply_operator.Statement.{statement}
-use Rattle.machine.proofs.apply_operator.Tie as tie
+use Rattle.arithmetic.specs.declared.Evaluated.the-variants.{Value}
+use Rattle.arithmetic.proofs.apply_operator.Statement.{statement}
+use Rattle.arithmetic.proofs.apply_operator.Tie as tie
 
 returns : tie.Need-returns
 returns c = rw (c .before .enum-told6 .given .1) (rw (eq-eqb _ _ (c .if3 .taken)))

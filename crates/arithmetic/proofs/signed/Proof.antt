@@ -3,9 +3,9 @@ use mathlib.Core.Path.{_∙_}
 use mir.Syntax.{w32, w64}
 use mir.Facts.{sfits-toZ, sfits-widen, toZ-ofZ}
 use borrow.Author.Needs.{needs}
-use Rattle.machine.proofs.Words.{upper-lowered}
-use Rattle.machine.proofs.signed.Statement.{statement}
-use Rattle.machine.proofs.signed.Tie as tie
+use Rattle.arithmetic.proofs.Words.{upper-lowered}
+use Rattle.arithmetic.proofs.signed.Statement.{statement}
+use Rattle.arithmetic.proofs.signed.Tie as tie
 
 sub-result : tie.Need-sub-result
 sub-result c = rw (upper-lowered _ (c .before .fits .a .fits) (c .if1 .left)) (sfits-widen tt (sfits-toZ (c .before .fits .a)))

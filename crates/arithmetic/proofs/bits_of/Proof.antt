@@ -7,9 +7,9 @@ use mir.Syntax.{w32, w64}
 use mir.Val.{SFits, toZ, ofZ}
 use mir.Facts.{sfits-widen, toZ-ofZ, fits-ofZ}
 use borrow.Author.Needs.{needs}
-use Rattle.machine.proofs.Quotient.{lifted, lifted-fits, same-bits, not-negative}
-use Rattle.machine.proofs.bits_of.Statement.{statement}
-use Rattle.machine.proofs.bits_of.Tie as tie
+use Rattle.arithmetic.proofs.Quotient.{lifted, lifted-fits, same-bits, not-negative}
+use Rattle.arithmetic.proofs.bits_of.Statement.{statement}
+use Rattle.arithmetic.proofs.bits_of.Tie as tie
 
 stored : (v : ℤ) → SFits w32 v → SFits w32 (toZ w32 (ofZ w32 v))
 stored v f = rw (toZ-ofZ {w = w32} f) f

@@ -12,10 +12,10 @@ use mir.Facts.{ofZ-toZ, toZ-ofZ, sfits-toZ}
 use borrow.Author.Tests.{eqb-true}
 use borrow.Author.Needs.{needs}
 use Rattle.base.proofs.Bools.{and-left, and-right}
-use Rattle.machine.proofs.Words.{stored-same}
-use Rattle.machine.proofs.Quotient.{end-quotient, bits-quotient}
-use Rattle.machine.proofs.divide.Statement.{statement}
-use Rattle.machine.proofs.divide.Tie as tie
+use Rattle.arithmetic.proofs.Words.{stored-same}
+use Rattle.arithmetic.proofs.Quotient.{end-quotient, bits-quotient}
+use Rattle.arithmetic.proofs.divide.Statement.{statement}
+use Rattle.arithmetic.proofs.divide.Tie as tie
 
 returns : tie.Need-returns
 returns c =

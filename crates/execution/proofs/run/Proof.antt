@@ -9,22 +9,26 @@ use mir.Val.{Fits}
 use borrow.Author.Needs.{needs}
 use lib.ListN.{length, getD}
 use Rattle.language.specs.declared.Statement.{Statement}
+use Rattle.program.specs.Program.{at, WellFormed}
 use Rattle.program.specs.Reading.{statements}
 use Rattle.program.proofs.Held.{held-valid, held-targets}
-use Rattle.pricing.specs.Prices.{AtMost, column}
-use Rattle.pricing.proofs.Columns.{column-length}
+use Rattle.pricing.specs.Prices.{AtMost, price, column}
+use Rattle.pricing.proofs.Columns.{column-length, column-at}
 use Rattle.pricing.proofs.Fair.{column-most}
 use Rattle.machine.specs.Machine.{written, ended}
 use Rattle.machine.specs.Ticks as spec
 use Rattle.machine.specs.Answer.{stateOf}
 use Rattle.machine.specs.declared.Next.{Next}
 use Rattle.machine.proofs.Runs.{Stands, stands-first, step-inside, step-fault, step-over, step-paid, none-paid}
-use Rattle.machine.proofs.Words.{stored-same}
-use Rattle.machine.proofs.run.Statement.{statement}
-use Rattle.machine.proofs.run.Tie as tie
+use Rattle.arithmetic.proofs.Words.{stored-same}
+use Rattle.execution.proofs.run.Statement.{statement}
+use Rattle.execution.proofs.run.Tie as tie
 
 abbrev Paid : List Statement → List ℕ → ℕ → List ℕ → ℕ → ℕ → Type 0
 Paid P start input prices steps t = (ps : List ℕ) → prices ≡ column ps P → t ≡ spec.ticks ps P start input steps
+
+priced : (ps : List ℕ) {P : List Statement} {prices : List ℕ} {s : ℕ} → WellFormed P → s < length P → prices ≡ column ps P → getD prices s 0 ≡ price ps (at P s)
+priced ps {P = P} {s = s} w h e = ap (λ (l : List ℕ). getD l s 0) e ∙ column-at ps P (w .counted .1) s h
 
 abbrev Inv-loop : tie.InvT-loop
 Inv-loop start input budget program prices values₀ at₀ steps₀ ticks₀ values at steps ticks =
@@ -68,7 +72,7 @@ loop-again c =
       step-inside (a .args .t1) _ _ _ _ _ _ _ (b .loop .inv .0) told _ w (c .before .next .given .1),
       omega arith,
       omega (arith, price-most (c .before .before .before .before .before .before .before .before) (b .loop .at), b .loop .inv .2),
-      λ ps e. step-paid w (b .loop .inv .0) ps e (b .loop .inv .3 ps e),
+      λ ps e. step-paid (b .loop .inv .0) ps (priced ps w (b .loop .inv .0 .inside) e) (b .loop .inv .3 ps e),
     )
 
 returns : tie.Need-returns Inv-loop μ-loop
@@ -85,11 +89,11 @@ returns c =
       omega (arith, c .before .before .before .before .before .before .before .before .loop-test .taken),
       stored-same (v .0 .0) (search needs) (c .before .signed .ensures),
       refl,
-      step-paid (a .pre .0) (b .loop .inv .0) _ found (b .loop .inv .3 _ found),
+      step-paid (b .loop .inv .0) _ (priced _ (a .pre .0) (b .loop .inv .0 .inside) found) (b .loop .inv .3 _ found),
     )
 
-add-t37 : tie.Need-add-t37 Inv-loop μ-loop
-add-t37 c =
+add-number : tie.Need-add-number Inv-loop μ-loop
+add-number c =
     let b = c .before .before .before .before .before .before .before in
     let a = c .before .before .before .before .before .before .before .before .before .before in
     let step = c .before .before .before .step in
@@ -112,7 +116,7 @@ returns-2 c =
       refl,
       refl,
       c .kept-of2 .ensures,
-      step-paid (a .pre .0) (b .loop .inv .0) _ found (b .loop .inv .3 _ found),
+      step-paid (b .loop .inv .0) _ (priced _ (a .pre .0) (b .loop .inv .0 .inside) found) (b .loop .inv .3 _ found),
     )
 
 returns-3 : tie.Need-returns-3 Inv-loop μ-loop
@@ -147,7 +151,7 @@ run-spec =
     (λ c κs. search needs)
     returns
     (λ c. search needs)
-    add-t37
+    add-number
     (λ c κs. search needs)
     returns-2
     (λ c. search needs)

@@ -2,9 +2,9 @@
 use mathlib.Core.Path.{ap₂}
 use lib.Signed.{ltZ}
 use borrow.Author.Needs.{needs}
-use Rattle.machine.proofs.Words.{stored-same}
-use Rattle.machine.proofs.less.Statement.{statement}
-use Rattle.machine.proofs.less.Tie as tie
+use Rattle.arithmetic.proofs.Words.{stored-same}
+use Rattle.arithmetic.proofs.less.Statement.{statement}
+use Rattle.arithmetic.proofs.less.Tie as tie
 
 returns : tie.Need-returns
 returns c = ap₂ ltZ (stored-same _ (c .before .before .fits .a) (c .before .signed .ensures)) (stored-same _ (c .before .before .fits .b) (c .signed2 .ensures))
