@@ -1,6 +1,8 @@
 /* A libFuzzer target over the calls. An input is a program, a condition or the conditions of a
-   review, a list of marks, some bytes that choose the rest and a driver's list, with '%', which no text
-   holds, between them. The bytes that choose are a creeper program too, which the program is joined to.
+   review, a list of marks, some bytes that choose the rest, a driver's list and a buyer's prices, with
+   '%', which no text holds, between them. The bytes that choose are a creeper program too, which the
+   program is joined to. Runs and reports go by the buyer's prices; where these are refused, by a table
+   that the bytes choose, with entries of any size.
    What is checked holds for every input:
    - a refused call changes nothing, and a finished one only what its result sets;
    - no byte beyond a lent text or buffer is touched: each ends at a page that can't be;
@@ -25,8 +27,10 @@
      that drops, each statement that is to read the variable by an accepted `cse` of the list, up to
      twenty, is a use: without them the table may tell otherwise, and never refuses more;
    - what is dropped becomes `skip`, and what is reused a copy;
+   - a table of prices is refused 19 exactly where a line isn't a number from 1 to 65,535 as it is printed,
+     else 20 where there aren't eleven; then it is kept as it was;
    - each step of a run adds the price of its statement's text to the ticks, and nothing is added once it is
-     over;
+     over; a price outside the range is ours;
    - a report is refused as the list is, its prices are those of the lines of given and new text, and its
      totals are their sums and the first less the second;
    - the rewritten program is taken, and both programs' runs agree, in all nine values where they end,
@@ -72,6 +76,7 @@
 #define FIRST_KEPT 24
 #define KEPT 8
 #define STATEMENTS 256
+#define KINDS 11
 #define UNFORCED UINT32_MAX
 
 static const char P[] =
@@ -138,7 +143,7 @@ static struct text put(struct region *r, const void *bytes, size_t length) {
     return (struct text){lent, length};
 }
 
-static struct region programs, others, conditions, tables, verdict_bytes, new_text, drivers, joins;
+static struct region programs, others, conditions, tables, verdict_bytes, new_text, drivers, joins, tariffs;
 
 /* What out-parameters hold before a call, and the words on both sides of each. */
 #define UNSET 0xa5c3e187u
@@ -154,6 +159,77 @@ static size_t lines_of(struct text text) {
     return count;
 }
 
+/* Prices */
+
+static const uint32_t ours[KINDS] = {4, 4, 1, 3, 2, 3, 3, 9, 3, 3, 24};
+
+/* The table that is handed to each run and report, with a word on both sides of it. */
+static uint32_t held[KINDS + 2];
+
+/* What every use of the table must leave of it. */
+static void require_held(const uint32_t before[KINDS + 2]) {
+    REQUIRE(memcmp(held, before, sizeof held) == 0);
+}
+
+/* The price of a kind: the table's where it lies in the range, else ours. */
+static uint32_t in_force(size_t kind) {
+    uint32_t price = held[kind + 1];
+    return price >= 1 && price <= 65535 ? price : ours[kind];
+}
+
+static int is_ours(void) {
+    for (size_t k = 0; k < KINDS; k++)
+        if (in_force(k) != ours[k]) return 0;
+    return 1;
+}
+
+/* The number that a table's text gets, with its prices where it is taken: a line is the number that is
+   printed so. */
+static uint8_t expected_prices(struct text text, uint32_t prices[KINDS]) {
+    size_t start = 0, count = 0;
+    char printed[16];
+
+    while (start < text.length) {
+        const uint8_t *line = text.bytes + start, *end = memchr(line, 10, text.length - start);
+        uint32_t price = 0;
+
+        if (end == NULL || end - line > 5) return 19;
+        for (const uint8_t *at = line; at < end; at++) price = 10 * price + (uint32_t)(*at - '0');
+        snprintf(printed, sizeof printed, "%lu", (unsigned long)price);
+        if (price < 1 || price > 65535 || strlen(printed) != (size_t)(end - line)) return 19;
+        if (memcmp(printed, line, (size_t)(end - line)) != 0) return 19;
+        if (count < KINDS) prices[count] = price;
+        count++;
+        start += (size_t)(end - line) + 1;
+    }
+    return count == KINDS ? 0 : 20;
+}
+
+/* Holds a table chosen by bits, reads the text over it, and checks what is held then. */
+static void check_prices(struct text text, uint32_t bits) {
+    static const uint32_t edges[8] = {0, 1, 2, 65535, 65536, 65537, 0x80000000, 0xffffffff};
+    uint32_t before[KINDS + 2], prices[KINDS] = {0};
+    uint8_t number, expected = expected_prices(text, prices);
+
+    unset(held, KINDS + 2);
+    rewrites_our_prices(held + 1);
+    REQUIRE(held[0] == UNSET && held[KINDS + 1] == UNSET);
+    REQUIRE(memcmp(held + 1, ours, sizeof ours) == 0);
+    for (size_t k = 1; k <= KINDS; k++) {
+        uint32_t some = (bits + (uint32_t)k) * 2654435761u;
+        if (some & 1) held[k] = some & 2 ? edges[some >> 29] : some >> 20;
+    }
+    memcpy(before, held, sizeof held);
+    number = rewrites_prices(text.bytes, text.length, held + 1);
+    REQUIRE(number == expected);
+    met(OF_CALLS, 1600 + number);
+    if (number == 0) {
+        memcpy(before + 1, prices, sizeof prices);
+        met_text(OF_CALLS, text.bytes, text.length);
+    }
+    require_held(before);
+}
+
 /* Runs */
 
 /* How a run stands when it is told. */
@@ -167,7 +243,7 @@ struct run {
 
 static uint8_t run(struct text program, const uint32_t values[VARIABLES], uint32_t input,
                    uint32_t budget, struct run *answer) {
-    uint32_t places[7], left[VARIABLES + 2], kept[KEPT + 2], given[VARIABLES];
+    uint32_t places[7], left[VARIABLES + 2], kept[KEPT + 2], given[VARIABLES], prices[KINDS + 2];
     union {
         uint32_t word;
         int32_t value;
@@ -176,13 +252,15 @@ static uint8_t run(struct text program, const uint32_t values[VARIABLES], uint32
     uint8_t number;
 
     memcpy(given, values, sizeof given);
+    memcpy(prices, held, sizeof held);
     unset(places, 7);
     unset(left, VARIABLES + 2);
     unset(kept, KEPT + 2);
     value.word = UNSET;
-    number = rewrites_run(program.bytes, program.length, values, input, budget, &places[1],
+    number = rewrites_run(program.bytes, program.length, values, input, budget, held + 1, &places[1],
                           &value.value, &places[3], &places[5], left + 1, kept + 1, &ticks[1]);
     REQUIRE(memcmp(given, values, sizeof given) == 0);
+    require_held(prices);
     for (size_t k = 0; k < 7; k += 2) REQUIRE(places[k] == UNSET);
     REQUIRE(left[0] == UNSET && left[VARIABLES + 1] == UNSET);
     REQUIRE(kept[0] == UNSET && kept[KEPT + 1] == UNSET);
@@ -239,18 +317,21 @@ static void copy_line(struct text program, size_t n, char line[64]) {
     line[length] = 0;
 }
 
+/* The kinds of statements, in the order of their prices. */
+enum { READ, WRITE, SKIP, IF, COPY, FIRST_SIGN };
+
 /* The price of a statement, by its text. */
 static uint32_t price_of(const char *line) {
     static const char signs[] = "+-*<=/";
-    static const uint32_t prices[] = {3, 3, 9, 3, 3, 24};
     const char *right = strstr(line, " := ");
 
     if (right == NULL) {
-        if (strcmp(line, "skip") == 0) return 1;
-        return strncmp(line, "if ", 3) == 0 ? 3 : 4;
+        if (strcmp(line, "skip") == 0) return in_force(SKIP);
+        if (strncmp(line, "if ", 3) == 0) return in_force(IF);
+        return in_force(strncmp(line, "read ", 5) == 0 ? READ : WRITE);
     }
     right = strchr(right + 4, ' ');
-    return right == NULL ? 2 : prices[strchr(signs, right[1]) - signs];
+    return in_force(right == NULL ? COPY : FIRST_SIGN + (size_t)(strchr(signs, right[1]) - signs));
 }
 
 /* The number that an operand stands for. */
@@ -1008,6 +1089,7 @@ static void check_verdicts(struct text program, struct text marks, const struct 
 /* The report on a list that judging answers with this number: the prices of both texts, line by line. */
 static void check_report(struct text program, struct text marks, uint8_t refused, struct text made) {
     uint32_t places[7], before[STATEMENTS + 2], after[STATEMENTS + 2], sums[2] = {0, 0};
+    uint32_t prices[KINDS + 2];
     union {
         uint32_t word;
         int32_t value;
@@ -1020,9 +1102,11 @@ static void check_report(struct text program, struct text marks, uint8_t refused
     unset(before, STATEMENTS + 2);
     unset(after, STATEMENTS + 2);
     saved.word = UNSET;
-    number = rewrites_report(program.bytes, program.length, marks.bytes, marks.length, before + 1,
-                             after + 1, &places[1], &places[3], &places[5], &saved.value);
+    memcpy(prices, held, sizeof held);
+    number = rewrites_report(program.bytes, program.length, marks.bytes, marks.length, held + 1,
+                             before + 1, after + 1, &places[1], &places[3], &places[5], &saved.value);
     REQUIRE(number == refused);
+    require_held(prices);
     if (number != 0) {
         REQUIRE(saved.word == UNSET);
         lines = 0;
@@ -1037,13 +1121,14 @@ static void check_report(struct text program, struct text marks, uint8_t refused
         copy_line(program, k, line);
         REQUIRE(before[k] == price_of(line));
         copy_line(made, k, line);
-        REQUIRE(after[k] == price_of(line) && after[k] <= before[k]);
+        REQUIRE(after[k] == price_of(line) && (after[k] <= before[k] || !is_ours()));
         sums[0] += before[k];
         sums[1] += after[k];
     }
     REQUIRE(places[3] == sums[0] && places[5] == sums[1]);
     REQUIRE((int64_t)saved.value == (int64_t)sums[0] - (int64_t)sums[1]);
     met(OF_CALLS, 1410 + (saved.value > 0) + (saved.value > 1) + (saved.value > 20));
+    met(OF_CALLS, 1414 + (saved.value < 0) + (saved.value < -65535));
 }
 
 static uint8_t mark_line(struct text marks, uint32_t line, size_t *begin, size_t *end) {
@@ -1260,7 +1345,7 @@ static void check_marks(struct text program, struct text marks, uint8_t refused,
     for (uint32_t b = 0; b <= budget; b++) {
         REQUIRE(run(program, values, input, b, &given) == 0);
         REQUIRE(run(rewritten, values, input, b, &made) == 0);
-        REQUIRE(agree(&given, &made) && made.ticks <= given.ticks);
+        REQUIRE(agree(&given, &made) && (made.ticks <= given.ticks || !is_ours()));
         if (given.ended) break;
         check_live(live, &given, &made);
     }
@@ -1318,11 +1403,9 @@ static void check_joined_lines(struct text road, struct text creeper, struct tex
     REQUIRE(at == made.length);
 }
 
-/* What the seam spares: a `write` and a `read` at 4 ticks each become an assignment at 2. */
-enum { SEAM = 4 + 4 - 2 };
-
 /* The joined program under each budget up to this one: it stands where the first does, or where the
-   second does behind it. */
+   second does behind it. Its ticks are those of both, but for the seam, where an assignment stands for a
+   `write` and a `read`. */
 static void check_turns(struct text road, struct text creeper, struct text made,
                         const uint32_t values[VARIABLES], uint32_t input, uint32_t budget) {
     struct run whole = {0}, turn = {0}, left = {0};
@@ -1340,7 +1423,8 @@ static void check_turns(struct text road, struct text creeper, struct text made,
             REQUIRE(run(creeper, left.left, (uint32_t)turn.value, b + 1 - steps, &turn) == 0);
             turn.steps += steps - 1;
             turn.statement += further;
-            turn.ticks += ticks - SEAM;
+            turn.ticks += ticks - in_force(WRITE);
+            turn.ticks += (uint64_t)in_force(COPY) - in_force(READ);
             met(OF_CALLS, 1504 + turn.ended);
         }
         REQUIRE(agree(&whole, &turn) && whole.ticks == turn.ticks);
@@ -1396,12 +1480,13 @@ int LLVMFuzzerInitialize(int *count, char ***arguments) {
     map(&new_text, 3);
     map(&drivers, 16);
     map(&joins, 3);
+    map(&tariffs, 16);
     return 0;
 }
 
 int LLVMFuzzerTestOneInput(const uint8_t *data, size_t size) {
     static const uint32_t edges[8] = {0, 1, 2, 0x7fffffff, 0x80000000, 0xffffffff, 0xfffffffe, 7};
-    struct text program, condition, marks, choice, driver, creeper;
+    struct text program, condition, marks, choice, driver, prices, creeper;
     uint32_t values[VARIABLES], input, budget, sum = 0;
     struct run told;
     uint8_t refused, creeper_refused;
@@ -1412,6 +1497,7 @@ int LLVMFuzzerTestOneInput(const uint8_t *data, size_t size) {
     marks = cut(&data, &size);
     choice = cut(&data, &size);
     driver = cut(&data, &size);
+    prices = cut(&data, &size);
     budget = choice.length > 0 ? choice.bytes[0] % 64 : 12;
     for (size_t k = 0; k < choice.length; k++) sum = sum * 31 + choice.bytes[k];
     for (size_t k = 0; k < VARIABLES; k++) {
@@ -1420,6 +1506,8 @@ int LLVMFuzzerTestOneInput(const uint8_t *data, size_t size) {
     }
     input = edges[sum % 8];
 
+    prices = put(&tariffs, prices.bytes, prices.length);
+    check_prices(prices, sum);
     program = put(&programs, program.bytes, program.length);
     refused = check_program(program);
     if (refused == 0) {
@@ -1453,5 +1541,6 @@ int LLVMFuzzerTestOneInput(const uint8_t *data, size_t size) {
     }
     require_kept(&programs);
     require_kept(&conditions);
+    require_kept(&tariffs);
     return 0;
 }

@@ -3,7 +3,8 @@
 
    Each call takes any bytes. It returns 0 with a result, or the number of the refusal: the first
    that applies, in the order given with the call. A refused call changes nothing that was lent. A
-   finished call changes only the places that its result sets.
+   finished call changes only the places that its result sets. rewrites_our_prices, which is never
+   refused, returns nothing.
 
    A pointer with a length beside it may be null where the length is 0: nothing is read or written
    there. No other pointer may be null. Places that a call writes may not overlap each other or any
@@ -34,8 +35,12 @@ extern "C" {
    *ended = 2, *statement and *steps, where a statement divides by 0 within the budget: that statement,
               and the steps taken, its own counted. *value, left and kept stay as they were.
    *ticks     in each of these cases: the price of the statements performed, a statement once for each
-              time, `write` and one that divides by 0 included. `read` 4, `write` 4, `skip` 1, `if` 3,
-              `X := A` 2, `+` 3, `-` 3, `*` 9, `<` 3, `=` 3, `/` 24.
+              time, `write` and one that divides by 0 included, by the table in force.
+
+   The table in force is a value that the caller holds, at first that of rewrites_our_prices: the prices
+   in ticks of `read`, `write`, `skip`, `if`, `X := A`, `+`, `-`, `*`, `<`, `=` and `/`, in this order.
+   Its entries may be any numbers; at each use one outside 1 to 65,535 counts as our price of that kind,
+   and the others as they are. No call remembers it.
 
    Returns the number of a refusal, and keeps all:
    15: the budget is over 1,000,000.
@@ -44,9 +49,23 @@ extern "C" {
     4: `read` or `write` missing from its place or standing elsewhere.
     5: a target outside 2 to N, the count of statements. */
 uint8_t rewrites_run(const uint8_t *program, size_t program_len, const uint32_t values[32],
-                     uint32_t input, uint32_t budget, uint32_t *ended, int32_t *value,
-                     uint32_t *steps, uint32_t *statement, uint32_t left[32], uint32_t kept[8],
-                     uint64_t *ticks);
+                     uint32_t input, uint32_t budget, const uint32_t prices[11], uint32_t *ended,
+                     int32_t *value, uint32_t *steps, uint32_t *statement, uint32_t left[32],
+                     uint32_t kept[8], uint64_t *ticks);
+
+/* Sets all eleven prices to ours: `read` 4, `write` 4, `skip` 1, `if` 3, `X := A` 2, `+` 3, `-` 3,
+   `*` 9, `<` 3, `=` 3, `/` 24. */
+void rewrites_our_prices(uint32_t prices[11]);
+
+/* Reads a buyer's table of prices: eleven lines in the order of rewrites_run's, each a decimal number
+   from 1 to 65,535 without leading zeros, ended by byte 10. Takes at most 16 KiB of stack.
+
+   Returns 0, and sets all eleven prices.
+
+   Returns the number of a refusal, and keeps all:
+   19: some line isn't such a number, or the last lacks its byte 10.
+   20: other than eleven lines (empty text included). */
+uint8_t rewrites_prices(const uint8_t *text, size_t text_len, uint32_t prices[11]);
 
 /* Tabulates a condition over the statements of a program: fills the table with the statements at
    which each part of the condition is true. The parts are the condition's operators and atoms, 1 to
@@ -182,8 +201,8 @@ uint8_t rewrites_judge(const uint8_t *program, size_t program_len, const uint8_t
                        size_t text_len, uint32_t *mark_count, uint32_t *accepted, uint32_t *bytes);
 
 /* Tells the price of each statement in ticks, before and after the accepted marks of a list are made,
-   and the totals. The list is judged as by rewrites_judge, and the prices are those of rewrites_run.
-   Takes at most 128 KiB of stack.
+   and the totals. The list is judged as by rewrites_judge, and the prices are those of the table that
+   is handed in, as with rewrites_run. Takes at most 128 KiB of stack.
 
    Returns 0, and sets
    before, after entry k, counted from 0, for statement k+1: its price in the given program, and in the
@@ -191,15 +210,17 @@ uint8_t rewrites_judge(const uint8_t *program, size_t program_len, const uint8_t
    *statements   the number of statements.
    *given        the sum of the prices before.
    *rewritten    the sum of the prices after.
-   *saved        given less rewritten, signed.
+   *saved        given less rewritten, signed: below zero where a buyer's prices make `skip` dearer than
+                 what it stands for.
 
    Returns the number of a refusal, and keeps all:
     2 to 5: the program, as with rewrites_run.
     9: some line of the marks is misspelled, or the last is without its byte 10.
    10: the marks have over 256 lines. */
 uint8_t rewrites_report(const uint8_t *program, size_t program_len, const uint8_t *marks,
-                        size_t marks_len, uint32_t before[256], uint32_t after[256],
-                        uint32_t *statements, uint32_t *given, uint32_t *rewritten, int32_t *saved);
+                        size_t marks_len, const uint32_t prices[11], uint32_t before[256],
+                        uint32_t after[256], uint32_t *statements, uint32_t *given,
+                        uint32_t *rewritten, int32_t *saved);
 
 /* Tells where a line of a list of marks lies in the list's text, so that a host can show a verdict
    beside its mark. A list is as with rewrites_judge; line j, counted from 0, is the one whose verdict

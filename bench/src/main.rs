@@ -6,9 +6,11 @@ mod time;
 
 use inputs::{atoms_condition, binary_condition, text, unary_condition, OPERATORS};
 use inputs::{cse_and_rm_marks_for, cse_marks_for, different_marks_for, marks_for};
+use oracle::pricing::{table_text, OURS};
 use oracle::tuned;
-use rewrites::{force, join, judge, list, relist, report, review, run, tabulate, LIST_WORDS, MOST_STEPS};
-use rewrites::{REVIEW_WORDS, STATEMENTS, TABLE_WORDS, TEXT_BYTES, UNFORCED, VERDICT_BYTES};
+use rewrites::{force, join, judge, list, relist, report, review, run, tabulate, Prices};
+use rewrites::{LIST_WORDS, MOST_STEPS, REVIEW_WORDS, STATEMENTS, TABLE_WORDS, TEXT_BYTES};
+use rewrites::{UNFORCED, VERDICT_BYTES};
 use std::fs;
 use time::medians;
 
@@ -72,8 +74,17 @@ fn print_heading(title: &str, last: &str) {
 
 // Runs
 
+/// A buyer's prices.
+const BUYERS: Prices = Prices([6, 6, 9, 5, 2, 2, 2, 3, 2, 2, 18]);
+
+/// By our prices, by the tuned call, and by a buyer's prices, whose time is told beside ours.
 fn print_runs(worst: &mut Worst) {
-    print_heading("Runs of 1,000,000 steps, ticks counted, in microseconds", "    ns/step");
+    print_heading(
+        "Runs of 1,000,000 steps, ticks counted, in microseconds",
+        "    ns/step    buyer's  to ours",
+    );
+    let ours = Prices::ours();
+    let mut largest = (0.0, "");
     let loops: [(&str, &[&str]); 9] = [
         ("skip", &["skip", "skip", "skip", "skip"]),
         ("copies", &["i1 := i0", "i2 := 7", "i3 := i2", "i4 := i1"]),
@@ -91,18 +102,52 @@ fn print_runs(worst: &mut Worst) {
         lines.extend(["if i31 goto 2 else 2", "write i0"]);
         let program = text(&lines);
         let values = [0; 32];
-        let ticks = run(&program, &values, 7, MOST_STEPS).map(|outcome| outcome.ticks());
-        let wanted = tuned::run(&program, &values, 7, MOST_STEPS).map(|outcome| outcome.ticks());
-        assert_eq!(ticks.ok(), wanted.ok());
-        let times = medians(
+        for prices in [ours, BUYERS] {
+            let ticks = run(&program, &values, 7, MOST_STEPS, &prices).map(|it| it.ticks());
+            let wanted =
+                tuned::run(&program, &values, 7, MOST_STEPS, &prices.0).map(|it| it.ticks());
+            assert_eq!(ticks.ok(), wanted.ok());
+        }
+        let [by_ours, tuned, by_buyers] = medians(
             RUN_TIMES,
-            [&mut || run(&program, &values, 7, MOST_STEPS).is_ok(), &mut || {
-                tuned::run(&program, &values, 7, MOST_STEPS).is_ok()
+            [
+                &mut || run(&program, &values, 7, MOST_STEPS, &ours).is_ok(),
+                &mut || tuned::run(&program, &values, 7, MOST_STEPS, &OURS).is_ok(),
+                &mut || run(&program, &values, 7, MOST_STEPS, &BUYERS).is_ok(),
+            ],
+        );
+        let each = by_ours * 1e9 / f64::from(MOST_STEPS);
+        let beside = by_buyers / by_ours;
+        let rest = format!("{:>11.2} {:>10.2} {:>8.3}", each, by_buyers * 1e6, beside);
+        let ratio = print_line(&format!("loop of {}", name), [by_ours, tuned], &rest);
+        worst.meet(true, ratio, format!("run, loop of {}", name));
+        if beside > largest.0 {
+            largest = (beside, name);
+        }
+    }
+    println!("largest ratio of a buyer's prices to ours: {:.3} (loop of {})", largest.0, largest.1);
+}
+
+/// Tables of prices read.
+fn print_prices(worst: &mut Worst) {
+    print_heading("Reading prices, in microseconds", "    ns/byte");
+    let texts = [
+        ("eleven lines", table_text(&BUYERS.0)),
+        ("eleven lines of five digits", table_text(&[65_535; 11])),
+        ("12,000 lines, refused 20", table_text(&[65_535; 12_000])),
+    ];
+    for (name, prices) in texts {
+        let (mut ours, mut theirs) = (Prices::ours(), OURS);
+        let times = medians(
+            TIMES,
+            [&mut || ours.read(&prices).is_ok(), &mut || {
+                tuned::replace(&prices, &mut theirs).is_ok()
             }],
         );
-        let each = format!("{:>11.2}", times[0] * 1e9 / f64::from(MOST_STEPS));
-        let ratio = print_line(&format!("loop of {}", name), times, &each);
-        worst.meet(true, ratio, format!("run, loop of {}", name));
+        assert_eq!(ours.0, theirs);
+        let each = format!("{:>11.2}", times[0] * 1e9 / prices.len() as f64);
+        let ratio = print_line(name, times, &each);
+        worst.meet(!name.contains("refused"), ratio, format!("prices, {}", name));
     }
 }
 
@@ -156,11 +201,11 @@ fn print_reading(worst: &mut Worst) {
     let unsigned = [16, 64, 256, 1_000, 4_000, 16_000].map(|lines| (lines, "", good_text(lines)));
     let signed = [16, 64, 256].map(|lines| (lines, ", constants below zero", signed_text(lines)));
     for (lines, kind, program) in unsigned.into_iter().chain(signed) {
-        let values = [0; 32];
+        let (values, ours) = ([0; 32], Prices::ours());
         let times = medians(
             TIMES,
-            [&mut || run(&program, &values, 7, 0).is_ok(), &mut || {
-                tuned::run(&program, &values, 7, 0).is_ok()
+            [&mut || run(&program, &values, 7, 0, &ours).is_ok(), &mut || {
+                tuned::run(&program, &values, 7, 0, &OURS).is_ok()
             }],
         );
         let each = format!("{:>11.2}", times[0] * 1e9 / program.len() as f64);
@@ -513,13 +558,14 @@ fn print_judging(worst: &mut Worst) {
 
 fn time_report(program: &[u8], marks: &[u8]) -> [f64; 2] {
     let (mut before, mut after) = ([0; STATEMENTS], [0; STATEMENTS]);
+    let ours = Prices::ours();
     let times = medians(
         TIMES,
-        [&mut || report(program, marks).is_ok(), &mut || {
-            tuned::report(program, marks, &mut before, &mut after).is_ok()
+        [&mut || report(program, marks, &ours).is_ok(), &mut || {
+            tuned::report(program, marks, &OURS, &mut before, &mut after).is_ok()
         }],
     );
-    let answer = report(program, marks).expect("program and list are taken");
+    let answer = report(program, marks, &ours).expect("program and list are taken");
     assert!(answer.before == before && answer.after == after);
     times
 }
@@ -536,7 +582,8 @@ fn print_reports(worst: &mut Worst) {
         for size in [16, 64, 256] {
             let program = (flow.program)(size);
             let marks = list(&program);
-            let saved = report(&program, &marks).expect("the list is taken").saved;
+            let report = report(&program, &marks, &Prices::ours());
+            let saved = report.expect("the list is taken").saved;
             let name = format!("{}, {}marks, {} statements", flow.name, kind, size);
             let ratio = print_line(&name, time_report(&program, &marks), &format!("{saved:>11}"));
             let is_ordinary = flow.is_ordinary && kind.is_empty();
@@ -550,14 +597,14 @@ fn print_reports(worst: &mut Worst) {
 /// The times of a list, ours and tuned, and of reading the program alone, ours and tuned.
 fn time_list(program: &[u8]) -> [f64; 4] {
     let (mut words, mut words_2) = ([0; LIST_WORDS], [0; LIST_WORDS]);
-    let values = [0; 32];
+    let (values, ours) = ([0; 32], Prices::ours());
     let times = medians(
         TIMES,
         [
             &mut || list(program, &mut words).is_ok(),
             &mut || tuned::list(program, &mut words_2).is_ok(),
-            &mut || run(program, &values, 7, 0).is_ok(),
-            &mut || tuned::run(program, &values, 7, 0).is_ok(),
+            &mut || run(program, &values, 7, 0, &ours).is_ok(),
+            &mut || tuned::run(program, &values, 7, 0, &OURS).is_ok(),
         ],
     );
     assert!(words == words_2);
@@ -655,6 +702,7 @@ fn main() {
     println!("machine: {}", machine());
     println!("medians of {} times of each call, of {} times of runs", TIMES, RUN_TIMES);
     print_runs(&mut worst);
+    print_prices(&mut worst);
     print_reading(&mut worst);
     print_writing(&mut worst);
     print_joining(&mut worst);

@@ -1,7 +1,7 @@
 //! The line of a text that a refusal is about. The library answers a number alone, so it is asked
 //! about one line at a time, that of a program among plain lines; nothing is read here.
 
-use rewrites::{mark_line, Refusal, REVIEW_WORDS, VARIABLES};
+use rewrites::{mark_line, Prices, Refusal, REVIEW_WORDS, VARIABLES};
 
 /// The lines of a text, each with its byte 10 if it has one.
 pub fn lines(text: &[u8]) -> impl Iterator<Item = &[u8]> {
@@ -19,7 +19,7 @@ fn with_line(count: usize, k: usize, line: &[u8]) -> Vec<u8> {
 }
 
 fn is_refused(program: &[u8], refusal: Refusal) -> bool {
-    rewrites::run(program, &[0; VARIABLES], 0, 0) == Err(refusal)
+    rewrites::run(program, &[0; VARIABLES], 0, 0, &Prices::ours()) == Err(refusal)
 }
 
 /// The first line of a program, counted from 1, at which it is refused so. A count of lines that is
@@ -38,6 +38,12 @@ pub fn line_of_program(text: &[u8], refusal: Refusal) -> Option<usize> {
 /// The first line of a list of marks, counted from 1, that is misspelled.
 pub fn line_of_marks(text: &[u8]) -> Option<usize> {
     let is_wrong = |line: &[u8]| mark_line(line, 0) == Err(Refusal::MarkMisspelled);
+    lines(text).position(is_wrong).map(|at| at + 1)
+}
+
+/// The first line of a table of prices, counted from 1, that isn't a price.
+pub fn line_of_prices(text: &[u8]) -> Option<usize> {
+    let is_wrong = |line: &[u8]| Prices::ours().read(line) == Err(Refusal::PriceMisspelled);
     lines(text).position(is_wrong).map(|at| at + 1)
 }
 

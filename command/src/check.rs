@@ -2,6 +2,7 @@
 //! made.
 
 use crate::blame::lines;
+use crate::costs::{self, Columns, Ticks};
 use crate::fault::Fault;
 use crate::files::{self, Text};
 use crate::folder::Folder;
@@ -9,10 +10,9 @@ use crate::marks::{self, Counts, Mark};
 use crate::output::{Output, Unwritten};
 use crate::status::Status;
 use clap::Args;
-use rewrites::{Refusal, Report, Verdict, TEXT_BYTES, VERDICT_BYTES};
+use rewrites::{Prices, Refusal, Report, Verdict, TEXT_BYTES, VERDICT_BYTES};
 use serde::Serialize;
 use std::collections::HashMap;
-use std::ops::AddAssign;
 use std::path::PathBuf;
 
 #[derive(Args)]
@@ -44,21 +44,6 @@ struct Judged {
     report: Report,
 }
 
-/// The price of each statement, in ticks.
-#[derive(Serialize)]
-struct Prices<'a> {
-    before: &'a [u32],
-    after: &'a [u32],
-}
-
-/// The totals of prices: of the given program, of the rewritten one, and given less rewritten.
-#[derive(Clone, Copy, Default, Serialize)]
-struct Ticks {
-    given: i64,
-    rewritten: i64,
-    saved: i64,
-}
-
 #[derive(Serialize)]
 struct Answer<'a> {
     marks: usize,
@@ -67,7 +52,7 @@ struct Answer<'a> {
     counts: Counts,
     verdicts: Vec<Judgement<'a>>,
     program: String,
-    prices: Prices<'a>,
+    prices: Columns<'a>,
     ticks: Ticks,
 }
 
@@ -111,8 +96,9 @@ fn judge(folder: &mut Folder) -> Option<Judged> {
     let list = folder.read_or_empty("marks")?;
     let (mut verdicts, mut text) = ([0; VERDICT_BYTES], [0; TEXT_BYTES]);
     let judged = rewrites::judge(&given.bytes, &list.bytes, &mut verdicts, &mut text);
+    let ours = Prices::ours();
     let reported =
-        judged.and_then(|judged| Ok((judged, rewrites::report(&given.bytes, &list.bytes)?)));
+        judged.and_then(|judged| Ok((judged, rewrites::report(&given.bytes, &list.bytes, &ours)?)));
     match reported {
         Ok((judged, report)) => {
             let bytes = verdicts.into_iter().take(judged.marks as usize);
@@ -138,24 +124,7 @@ impl Judged {
         for (mark, verdict) in marks::of(&self.list.bytes).iter().zip(&self.verdicts) {
             text += &format!("{} {}\n", mark.statement, verdict.number());
         }
-        let Report { given, rewritten, saved, .. } = self.report;
-        let mut prices = String::new();
-        let Prices { before, after } = self.prices();
-        for (at, (before, after)) in before.iter().zip(after).enumerate() {
-            prices += &format!("{} {before} {after}\n", at + 1);
-        }
-        prices += &format!("{given}\n{rewritten}\n{saved}\n");
-        [text.as_bytes(), &self.program, prices.as_bytes()].concat()
-    }
-
-    fn prices(&self) -> Prices<'_> {
-        let count = self.report.statements as usize;
-        Prices { before: &self.report.before[..count], after: &self.report.after[..count] }
-    }
-
-    fn ticks(&self) -> Ticks {
-        let Report { given, rewritten, saved, .. } = self.report;
-        Ticks { given: given.into(), rewritten: rewritten.into(), saved: saved.into() }
+        [text.as_bytes(), &self.program, costs::text(&self.report).as_bytes()].concat()
     }
 
     fn judgements(&self) -> Vec<Judgement<'_>> {
@@ -188,17 +157,9 @@ impl Judged {
             counts: self.counts,
             verdicts: self.judgements(),
             program: String::from_utf8_lossy(&self.program).into_owned(),
-            prices: self.prices(),
-            ticks: self.ticks(),
+            prices: Columns::of(&self.report),
+            ticks: Ticks::of(&self.report),
         }
-    }
-}
-
-impl AddAssign for Ticks {
-    fn add_assign(&mut self, other: Ticks) {
-        self.given += other.given;
-        self.rewritten += other.rewritten;
-        self.saved += other.saved;
     }
 }
 
@@ -263,7 +224,7 @@ impl Sums {
             self.counts += judged.counts;
             self.marks = self.counts.marks();
             self.accepted = self.counts.accepted;
-            self.ticks += judged.ticks();
+            self.ticks += Ticks::of(&judged.report);
         }
     }
 

@@ -1,6 +1,6 @@
 //! What went wrong, in words: which file and line, whose mistake it is, and what was expected.
 
-use crate::blame::{line_of_marks, line_of_program, line_of_review, lines};
+use crate::blame::{line_of_marks, line_of_prices, line_of_program, line_of_review, lines};
 use crate::files::{shown, Text, Unread};
 use crate::start;
 use rewrites::{Refusal, MOST_STEPS};
@@ -57,6 +57,7 @@ fn whose(refusal: Refusal) -> &'static str {
         Refusal::Driver => "the author of the driver's list",
         Refusal::ReviewLines | Refusal::ReviewParts => "the author of the review",
         Refusal::MarkMisspelled | Refusal::MarkCount => "the optimiser",
+        Refusal::PriceMisspelled | Refusal::PriceCount => "the buyer",
     }
 }
 
@@ -65,6 +66,7 @@ fn words(refusal: Refusal) -> String {
     match refusal {
         Refusal::Misspelled => "not spelled as a statement, or without its byte 10".to_string(),
         Refusal::MarkMisspelled => "misspelled, or without its byte 10".to_string(),
+        Refusal::PriceMisspelled => "not such a price, or without its byte 10".to_string(),
         _ => refusal.to_string(),
     }
 }
@@ -94,23 +96,32 @@ fn expected(refusal: Refusal, text: &[u8]) -> String {
         }
         Refusal::MarkCount => "at most 256 lines",
         Refusal::JoinedCount => "at most 257 statements of both programs",
+        Refusal::PriceMisspelled => "a whole number from 1 to 65535 without leading zeros, and byte 10",
+        Refusal::PriceCount => {
+            "the prices of `read`, `write`, `skip`, `if`, `X := A`, `+`, `-`, `*`, `<`, `=` and `/`, one a line"
+        }
     };
     words.to_string()
 }
 
 impl Fault {
-    /// A call is refused for this text: the program, the condition, the marks or the budget.
+    /// A call is refused for this text: the program, the condition, the marks, the prices or the budget.
     pub fn refused(refusal: Refusal, text: &Text) -> Fault {
         let bytes = &text.bytes;
         let line = match refusal {
             Refusal::MarkMisspelled => line_of_marks(bytes),
+            Refusal::PriceMisspelled => line_of_prices(bytes),
             _ => line_of_program(bytes, refusal),
         };
         let found = match (refusal, line.and_then(|line| lines(bytes).nth(line - 1))) {
             (_, Some(line)) => Some(quoted(line)),
-            (Refusal::LineCount | Refusal::MarkCount | Refusal::ReviewLines, _) => {
-                Some(grouped(lines(bytes).count()) + " lines")
-            }
+            (
+                Refusal::LineCount
+                | Refusal::MarkCount
+                | Refusal::ReviewLines
+                | Refusal::PriceCount,
+                _,
+            ) => Some(grouped(lines(bytes).count()) + " lines"),
             (Refusal::ConditionLength, _) => Some(grouped(bytes.len()) + " bytes"),
             (Refusal::Budget | Refusal::ConditionMisspelled, _) => Some(quoted(bytes)),
             // A byte 10 at the end of a list is shown: it is what is wrong with it.
@@ -151,6 +162,12 @@ impl Fault {
         let [first, second] = [road, creeper].map(|text| lines(&text.bytes).count());
         let found = Some(format!("{first} and {second}"));
         Fault { found, ..Fault::refused(Refusal::JoinedCount, creeper) }
+    }
+
+    /// The budget on line 2 of a start is too large.
+    pub fn of_budget(budget: u32, file: String) -> Fault {
+        let text = Text { name: file, bytes: budget.to_string().into_bytes() };
+        Fault { line: Some(2), ..Fault::refused(Refusal::Budget, &text) }
     }
 
     /// A start is misspelled.

@@ -5,7 +5,7 @@ use crate::files::{self, shown, Text};
 use crate::output::{Output, Unwritten};
 use crate::status::Status;
 use clap::Args;
-use rewrites::{Refusal, TEXT_BYTES, VARIABLES};
+use rewrites::{Prices, Refusal, TEXT_BYTES, VARIABLES};
 use serde::Serialize;
 use std::path::{Path, PathBuf};
 
@@ -55,7 +55,7 @@ fn read(path: &Path) -> Result<Text, Fault> {
 /// What a refusal is about. Its number doesn't tell which program: it is the road program exactly where
 /// that is refused by itself.
 fn fault(refusal: Refusal, road: &Text, creeper: &Text) -> Fault {
-    let alone = rewrites::run(&road.bytes, &[0; VARIABLES], 0, 0);
+    let alone = rewrites::run(&road.bytes, &[0; VARIABLES], 0, 0, &Prices::ours());
     match refusal {
         Refusal::JoinedCount => Fault::of_pair(road, creeper),
         _ if alone == Err(refusal) => {

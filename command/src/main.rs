@@ -5,6 +5,7 @@
 
 mod blame;
 mod check;
+mod costs;
 mod fault;
 mod files;
 mod folder;
@@ -15,6 +16,7 @@ mod list;
 mod marks;
 mod output;
 mod parts;
+mod price;
 mod review;
 mod run;
 mod start;
@@ -39,8 +41,8 @@ Exit status:
   3  output that wasn't written
 Of many folders the worst is told.";
 
-/// Shift programs: judges marks, tabulates and reviews conditions, runs, finds what a driver can force and
-/// the lines of marks, lists readers and writers, and joins two programs
+/// Shift programs: judges marks, tabulates and reviews conditions, runs, prices by a buyer's table, finds
+/// what a driver can force and the lines of marks, lists readers and writers, and joins two programs
 #[derive(Parser)]
 #[command(name = "rewrites", version, after_help = STATUSES)]
 struct Arguments {
@@ -65,6 +67,9 @@ enum Call {
     /// Run a program from a start
     #[command(after_help = STATUSES)]
     Run(run::Arguments),
+    /// Show what the statements and the runs of both programs cost by a buyer's own prices
+    #[command(after_help = STATUSES)]
+    Price(price::Arguments),
     /// Show where in a list the line of each mark begins and ends
     #[command(after_help = STATUSES)]
     Lines(lines::Arguments),
@@ -84,6 +89,7 @@ fn wrong(arguments: &Arguments) -> Option<clap::Error> {
         | Call::Review(_)
         | Call::Force(_)
         | Call::Run(_)
+        | Call::Price(_)
         | Call::Lines(_)
         | Call::List(_)
         | Call::Join(_) => return None,
@@ -118,6 +124,7 @@ fn answered(output: &mut Output) -> Result<Status, Unwritten> {
         Call::Review(call) => call.run(output),
         Call::Force(call) => call.run(output),
         Call::Run(call) => call.run(output),
+        Call::Price(call) => call.run(output),
         Call::Lines(call) => call.run(output),
         Call::List(call) => call.run(output),
         Call::Join(call) => call.run(output),

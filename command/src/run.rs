@@ -7,7 +7,7 @@ use crate::output::{Output, Unwritten};
 use crate::start::{self, Start};
 use crate::status::Status;
 use clap::Args;
-use rewrites::{Outcome, Refusal, KEPT, VARIABLES};
+use rewrites::{Outcome, Prices, Refusal, KEPT, VARIABLES};
 use serde::Serialize;
 use std::path::PathBuf;
 
@@ -40,9 +40,10 @@ struct Answer {
     ending: Ending,
 }
 
+/// How a run ends.
 #[derive(Serialize)]
 #[serde(tag = "outcome", rename_all = "lowercase")]
-enum Ending {
+pub enum Ending {
     Ended { value: i32, steps: u32, ticks: u64, kept: [i32; KEPT] },
     Spent { statement: u32, ticks: u64, left: [i32; VARIABLES] },
     Fault { statement: u32, steps: u32, ticks: u64 },
@@ -63,24 +64,31 @@ impl From<Outcome> for Ending {
 }
 
 impl Ending {
-    /// What the runner prints.
-    fn text(&self) -> String {
+    /// The line of the answer.
+    pub fn line(&self) -> String {
         match self {
             Ending::Ended { value, steps, ticks, kept } => {
                 let kept = kept.map(|value| value.to_string()).join(" ");
                 format!("ended {value} steps {steps} ticks {ticks} kept {kept}\n")
             }
-            Ending::Spent { statement, ticks, left } => {
-                let mut text = format!("spent at {statement} ticks {ticks}\n");
-                for (x, value) in left.iter().enumerate() {
-                    text += &format!("i{x} = {value}\n");
-                }
-                text
+            Ending::Spent { statement, ticks, .. } => {
+                format!("spent at {statement} ticks {ticks}\n")
             }
             Ending::Fault { statement, steps, ticks } => {
                 format!("fault at {statement} steps {steps} ticks {ticks}\n")
             }
         }
+    }
+
+    /// What the runner prints: that line, and the values of a run that is spent.
+    fn text(&self) -> String {
+        let mut text = self.line();
+        if let Ending::Spent { left, .. } = self {
+            for (x, value) in left.iter().enumerate() {
+                text += &format!("i{x} = {value}\n");
+            }
+        }
+        text
     }
 }
 
@@ -112,11 +120,13 @@ impl Arguments {
         folder.is_there("a program in `given` and a start in `start`")?;
         let given = folder.read("given")?;
         let (start, file) = self.start(folder)?;
-        let Start { input, budget, values } = start;
-        match rewrites::run(&given.bytes, &values.map(|value| value as u32), input as u32, budget) {
-            Ok(outcome) => Some(Answer { input, budget, values, ending: outcome.into() }),
+        match start.run(&given.bytes, &Prices::ours()) {
+            Ok(outcome) => {
+                let Start { input, budget, values } = start;
+                Some(Answer { input, budget, values, ending: outcome.into() })
+            }
             Err(Refusal::Budget) => {
-                folder.refuse(self.budget_fault(budget, file));
+                folder.refuse(self.budget_fault(start.budget, file));
                 None
             }
             Err(refusal) => {
@@ -128,12 +138,12 @@ impl Arguments {
 
     /// The budget is the option's, or stands on line 2 of the start.
     fn budget_fault(&self, budget: u32, file: Option<Text>) -> Fault {
-        let bytes = budget.to_string().into_bytes();
         match (self.budget, file) {
-            (None, Some(Text { name, .. })) => {
-                Fault { line: Some(2), ..Fault::refused(Refusal::Budget, &Text { name, bytes }) }
+            (None, Some(Text { name, .. })) => Fault::of_budget(budget, name),
+            _ => {
+                let bytes = budget.to_string().into_bytes();
+                Fault::refused(Refusal::Budget, &Text { name: "--budget".to_string(), bytes })
             }
-            _ => Fault::refused(Refusal::Budget, &Text { name: "--budget".to_string(), bytes }),
         }
     }
 

@@ -1,7 +1,7 @@
 //! A start: the input, the budget and up to 32 values, one a line, each ended by byte 10.
 
 use crate::blame::lines;
-use rewrites::{MOST_STEPS, VARIABLES};
+use rewrites::{Outcome, Prices, Refusal, MOST_STEPS, VARIABLES};
 use std::ops::RangeInclusive;
 
 /// What a run starts from.
@@ -60,6 +60,12 @@ impl Start {
     /// A start that has an input alone.
     pub fn from_input(input: i32) -> Start {
         Start { input, budget: MOST_STEPS, values: [0; VARIABLES] }
+    }
+
+    /// The run of a program from here.
+    pub fn run(&self, program: &[u8], prices: &Prices) -> Result<Outcome, Refusal> {
+        let values = self.values.map(|value| value as u32);
+        rewrites::run(program, &values, self.input as u32, self.budget, prices)
     }
 
     /// The start that a text spells.

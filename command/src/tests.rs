@@ -1,6 +1,6 @@
 //! What is found by asking the library, or read here, held to the second implementation.
 
-use crate::blame::{line_of_marks, line_of_program, line_of_review, lines};
+use crate::blame::{line_of_marks, line_of_prices, line_of_program, line_of_review, lines};
 use crate::fault::grouped;
 use crate::files::shown;
 use crate::start::{self, Start};
@@ -8,8 +8,8 @@ use crate::{marks, parts};
 use oracle::condition::Condition;
 use oracle::generate::{self, Random};
 use oracle::marks::Mark;
-use oracle::{desk, folder};
-use rewrites::{mark_line, review, tabulate, Refusal, REVIEW_WORDS};
+use oracle::{desk, folder, pricing};
+use rewrites::{mark_line, review, tabulate, Prices, Refusal, REVIEW_WORDS};
 use rewrites::{TABLE_WORDS, TEXT_BYTES, VARIABLES, VERDICT_BYTES};
 use std::ffi::OsStr;
 use std::os::unix::ffi::OsStrExt;
@@ -31,7 +31,7 @@ fn lines_of_programs_are_as_by_the_oracle() {
     let mut met = [0; 6];
     for mut random in cases(6_000) {
         let (_, text) = folder::given(&mut random);
-        if let Err(refusal) = rewrites::run(&text, &[0; VARIABLES], 0, 0) {
+        if let Err(refusal) = rewrites::run(&text, &[0; VARIABLES], 0, 0, &Prices::ours()) {
             let line = line_of_program(&text, refusal);
             assert_eq!(line, line_in_words(refusal, &text), "{}", text.escape_ascii());
             met[usize::from(refusal.number())] += 1;
@@ -53,6 +53,22 @@ fn lines_of_misspelled_programs_of_any_length_are_found() {
     ] {
         assert_eq!(line_of_program(&text, Refusal::Misspelled), Some(line));
     }
+}
+
+#[test]
+fn lines_of_prices_are_the_first_that_is_none() {
+    let (mut met, mut whole) = (0, 0);
+    for mut random in cases(4_000) {
+        let text = generate::price_text(&mut random);
+        let is_wrong = |line: &[u8]| pricing::read_prices(line) == Err(19);
+        let expected = lines(&text).position(is_wrong).map(|at| at + 1);
+        assert_eq!(line_of_prices(&text), expected, "{}", text.escape_ascii());
+        let answer = Prices::ours().read(&text);
+        assert_eq!(answer == Err(Refusal::PriceMisspelled), expected.is_some());
+        met += usize::from(expected.is_some());
+        whole += usize::from(answer.is_ok());
+    }
+    assert!(met > 500 && whole > 500, "{met} {whole}");
 }
 
 #[test]

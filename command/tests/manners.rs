@@ -11,13 +11,14 @@ use std::os::unix::process::CommandExt;
 use std::path::{Path, PathBuf};
 use std::process::{Command, Stdio};
 
-const CALLS: [&[&str]; 8] = [
+const CALLS: [&[&str]; 9] = [
     &["check", "."],
     &["check", "--json", "."],
     &["check", "--text", "."],
     &["tabulate", "."],
     &["review", "."],
     &["run", "."],
+    &["price", "."],
     &["lines", "."],
     &["list", "."],
 ];
@@ -30,6 +31,7 @@ fn help_and_version() {
         &["help", "run"],
         &["review", "-h"],
         &["check", "--help"],
+        &["price", "-h"],
         &["lines", "-h"],
         &["list", "-h"],
         &["join", "-h"],
@@ -72,6 +74,9 @@ fn usage() {
         &["run", ".", "--budget", "-1"],
         &["run", ".", "--set", "i32=1"],
         &["run", ".", "--set", "i3"],
+        &["price"],
+        &["price", ".", "."],
+        &["price", ".", "--prices", "prices"],
         &["lines"],
         &["lines", ".", "."],
         &["lines", ".", "--text"],
@@ -149,7 +154,7 @@ fn a_closed_pipe_ends_quietly() {
     assert_eq!(status.code(), Some(2));
 }
 
-const NAMES: [&str; 5] = ["given", "marks", "condition", "conditions", "start"];
+const NAMES: [&str; 6] = ["given", "marks", "condition", "conditions", "start", "prices"];
 
 /// P's files, but for one.
 fn without(name: &str, left_out: &str) -> PathBuf {
@@ -168,6 +173,7 @@ fn readers(file: &str) -> Vec<&'static [&'static str]> {
         "review" => file == "given" || file == "conditions",
         "lines" => file == "marks",
         "list" => file == "given",
+        "price" => ["given", "marks", "prices", "start"].contains(&file),
         _ => file == "given" || file == "start",
     };
     CALLS.iter().filter(reads).copied().collect()
@@ -219,6 +225,7 @@ fn files_at_the_limit() {
         ("condition", b"!".repeat(65_535), 1),
         ("conditions", b"true\n".repeat(13_107), 1),
         ("start", b"1\n".repeat(32_768)[..65_535].to_vec(), 1),
+        ("prices", b"7777\n".repeat(13_107), 1),
     ] {
         let base = without("limit", file);
         assert_eq!(bytes.len(), 65_535);

@@ -22,14 +22,14 @@ use std::path::Path;
 const CASES: u64 = 3_000;
 
 #[rustfmt::skip]
-const WORDS: [&str; 37] = [
-    "check", "tabulate", "review", "force", "run", "lines", "list", "join", "help", ".", "a", "nowhere", "given", "--json", "--text", "--explain",
+const WORDS: [&str; 38] = [
+    "check", "tabulate", "review", "force", "run", "price", "lines", "list", "join", "help", ".", "a", "nowhere", "given", "--json", "--text", "--explain",
     "-o", "new", "--output=new", "-onew", "--condition", "E[", "--driver", "i0 i1", "--input", "-1", "2147483648", "--budget",
     "1000001", "--set", "--set=i32=1", "--", "-", "--help", "-V", "-x", "",
 ];
 
 /// The options of each call, some of them such that they are refused.
-const OPTIONS: [(&str, &[&[&str]]); 8] = [
+const OPTIONS: [(&str, &[&[&str]]); 9] = [
     (
         "check",
         &[&["--json"], &["--explain"], &["--text"], &["."], &["a"], &["nowhere"], &["-o", "new"]],
@@ -66,6 +66,7 @@ const OPTIONS: [(&str, &[&[&str]]); 8] = [
             &["--budget=1000001"],
         ],
     ),
+    ("price", &[&["--json"]]),
     ("lines", &[&["--json"]]),
     ("list", &[&["--json"]]),
     ("join", &[&["--json"], &["-o", "new"]]),
@@ -120,6 +121,7 @@ fn fill(random: &mut Random, base: &Path) {
     let conditions = random_folder::conditions(random, &program);
     let start = random_folder::start(random);
     let driver = random_folder::driver(random, &program);
+    let prices = random_folder::prices(random);
     for (name, content) in [
         ("given", given),
         ("marks", list),
@@ -127,6 +129,7 @@ fn fill(random: &mut Random, base: &Path) {
         ("conditions", conditions),
         ("start", start),
         ("driver", driver),
+        ("prices", prices),
     ] {
         let path = base.join(name);
         let content = match random.below(60) {

@@ -23,6 +23,8 @@ START = {"input", "budget", "values", "outcome"}
 ENDED = START | {"value", "steps", "ticks", "kept"}
 SPENT = START | {"statement", "ticks", "left"}
 FAULTED = START | {"statement", "steps", "ticks"}
+PRICE = {"table", "prices", "ticks", "runs"}
+RUNS = {"input", "budget", "values", "given", "rewritten"}
 LINES = {"marks", "bytes", "lines"}
 LINE = {"line", "begin", "end", "mark"}
 LIST = {"statements", "variables"}
@@ -69,16 +71,37 @@ def check(thing):
     assert thing["marks"] == len(thing["verdicts"])
     assert thing["accepted"] == thing["counts"]["accepted"]
     assert thing["bytes"] == len(thing["program"].encode())
-    text += thing["program"]
+    assert len(thing["prices"]["before"]) == thing["program"].count("\n")
+    text += thing["program"] + costs(thing)
+    for name in TICKS:
+        summed[name] += thing["ticks"][name]
+    return text
+
+
+def costs(thing):
     has(thing["prices"], PRICES)
     has(thing["ticks"], TICKS)
     before, after = thing["prices"]["before"], thing["prices"]["after"]
-    assert len(before) == len(after) == thing["program"].count("\n")
-    for at, pair in enumerate(zip(before, after)):
-        text += "%d %d %d\n" % (at + 1, *pair)
-    for name in TICKS:
-        summed[name] += thing["ticks"][name]
+    assert len(before) == len(after)
+    assert thing["ticks"]["given"] == sum(before) and thing["ticks"]["rewritten"] == sum(after)
+    assert thing["ticks"]["saved"] == sum(before) - sum(after)
+    text = "".join("%d %d %d\n" % (at + 1, *pair) for at, pair in enumerate(zip(before, after)))
     return text + "{given}\n{rewritten}\n{saved}\n".format(**thing["ticks"])
+
+
+def price(thing):
+    has(thing, REPORT | PRICE)
+    assert len(thing["table"]) == 11 and all(1 <= price <= 65535 for price in thing["table"])
+    assert set(thing["prices"]["before"] + thing["prices"]["after"]) <= set(thing["table"])
+    text = costs(thing)
+    if thing["runs"] is None:
+        return text
+    has(thing["runs"], RUNS)
+    start = {name: thing["runs"][name] for name in ("input", "budget", "values")}
+    for name in ("given", "rewritten"):
+        ending = dict(thing["runs"][name], **start, call="run", folder="", status=0, faults=[])
+        text += "%s %s\n" % (name, run(ending).split("\n")[0])
+    return text
 
 
 def tabulate(thing):
@@ -212,13 +235,13 @@ def told(thing):
         assert thing["status"] != 0
         return refused
     assert refused == ""
-    tells = {"check": check, "tabulate": tabulate, "review": review, "force": force, "run": run, "lines": lines, "list": listed, "join": join}
+    tells = {"check": check, "tabulate": tabulate, "review": review, "force": force, "run": run, "price": price, "lines": lines, "list": listed, "join": join}
     return tells[thing["call"]](thing)
 
 
 described = pathlib.Path(__file__).parents[2].joinpath("docs/REFERENCE.md").read_text()
 for names in (
-    VERDICTS, FAULT, REPORT, TOTAL, CHECK, PRICES, TICKS, MARK, TABULATE, ROW, REVIEW, CONDITION, FORCE, PLACE, ENDED, SPENT, FAULTED, LINES, LINE, LIST, VARIABLE, PAIR, JOIN
+    VERDICTS, FAULT, REPORT, TOTAL, CHECK, PRICES, TICKS, MARK, TABULATE, ROW, REVIEW, CONDITION, FORCE, PLACE, ENDED, SPENT, FAULTED, PRICE, RUNS, LINES, LINE, LIST, VARIABLE, PAIR, JOIN
 ):
     for name in names:
         assert "`%s`" % name in described, name

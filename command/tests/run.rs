@@ -181,7 +181,7 @@ fn runs_tell_what_is_kept() {
     let mut values = [0; VARIABLES];
     for (input, setting) in [(0, 7), (-2147483648, -2147483648), (1, 2147483647)] {
         values[FIRST_KEPT + 1] = setting as u32;
-        let answer = rewrites::run(given, &values, input as u32, 4);
+        let answer = common::run(given, &values, input as u32, 4);
         let kept = match answer {
             Ok(Outcome::Ended { value, steps: 4, kept, ticks: 13 }) if value == input => kept,
             other => panic!("{other:?}"),

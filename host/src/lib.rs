@@ -11,7 +11,7 @@
 //! zero; a division by 0 ends the run with a fault.
 //!
 //! ```
-//! use rewrites::{run, Outcome, Refusal, KEPT};
+//! use rewrites::{run, Outcome, Prices, Refusal, KEPT};
 //!
 //! // The sum 1 + 2 + .. + i0.
 //! let program = b"read i0\n\
@@ -22,17 +22,18 @@
 //!     write i1\n";
 //! let values = [0; 32];
 //!
-//! // `read` and `write` take 4 ticks each, the other 13 steps 3.
+//! // By our prices `read` and `write` take 4 ticks each, the other 13 steps 3.
+//! let ours = Prices::ours();
 //! let ended = Outcome::Ended { value: 10, steps: 15, kept: [0; KEPT], ticks: 47 };
-//! assert_eq!(run(program, &values, 4, 100), Ok(ended));
+//! assert_eq!(run(program, &values, 4, 100, &ours), Ok(ended));
 //!
 //! // Two steps read 4 into i0 and go to statement 3.
 //! let mut left = values;
 //! left[0] = 4;
 //! let spent = Outcome::Spent { statement: 3, values: left, ticks: 7 };
-//! assert_eq!(run(program, &values, 4, 2), Ok(spent));
+//! assert_eq!(run(program, &values, 4, 2, &ours), Ok(spent));
 //!
-//! assert_eq!(run(b"read i0\n", &values, 4, 100), Err(Refusal::LineCount));
+//! assert_eq!(run(b"read i0\n", &values, 4, 100, &ours), Err(Refusal::LineCount));
 //! ```
 //!
 //! A condition is a formula of branching-time logic, with past and future. It is true or false at
@@ -117,12 +118,19 @@
 //! [`report`] tells the price of each statement in ticks, before and after the accepted marks are made.
 //!
 //! ```
-//! use rewrites::report;
+//! use rewrites::{report, Prices};
 //!
 //! // Without the product, 9 ticks, statement 2 is `skip`, 1 tick.
 //! let program = b"read i0\ni1 := i0 * 3\nwrite i0\n";
-//! let answer = report(program, b"2: mark(rm, i1, i0 * 3)\n").unwrap();
+//! let marks = b"2: mark(rm, i1, i0 * 3)\n";
+//! let mut prices = Prices::ours();
+//! let answer = report(program, marks, &prices).unwrap();
 //! assert_eq!((answer.given, answer.rewritten, answer.saved), (17, 9, 8));
+//!
+//! // A buyer with another processor brings prices of his own. There `skip` takes 6, `*` takes 5.
+//! prices.read(b"2\n2\n6\n4\n3\n4\n4\n5\n4\n4\n30\n").unwrap();
+//! let answer = report(program, marks, &prices).unwrap();
+//! assert_eq!((answer.given, answer.rewritten, answer.saved), (9, 10, -1));
 //! ```
 //!
 //! [`mark_line`] tells where a mark's line lies in the list, to show its verdict beside it.
@@ -192,8 +200,85 @@ pub const VERDICT_BYTES: usize = 256;
 /// The bytes that there must be for new text.
 pub const TEXT_BYTES: usize = 8704;
 
+/// The kinds of statements that have a price of their own.
+pub const KINDS: usize = 11;
+
+/// A table of prices in ticks, which the caller holds and hands to each [`run`] and [`report`]; at first it is
+/// [`ours`](Prices::ours). The library remembers none.
+///
+/// The entries are the prices of `read`, `write`, `skip`, `if`, `X := A`, `+`, `-`, `*`, `<`, `=` and `/`, in this
+/// order. They may be any numbers. At each use one outside 1 to 65,535 counts as our price of that kind, and the
+/// others as they are.
+///
+/// ```
+/// use rewrites::{report, Prices};
+///
+/// // No price of a `read` is 0, so ours is taken, 4; `write` takes 70.
+/// let prices = Prices([0, 70, 1, 1, 1, 1, 1, 1, 1, 1, 1]);
+/// let answer = report(b"read i0\nwrite i0\n", b"", &prices)?;
+/// assert_eq!(answer.before[..2], [4, 70]);
+/// # Ok::<(), rewrites::Refusal>(())
+/// ```
+#[derive(Clone, Copy, Debug, PartialEq, Eq, Hash)]
+pub struct Prices(pub [u32; KINDS]);
+
+impl Prices {
+    /// Our own prices: `read` 4, `write` 4, `skip` 1, `if` 3, `X := A` 2, `+` 3, `-` 3, `*` 9, `<` 3, `=` 3, `/` 24.
+    ///
+    /// ```
+    /// use rewrites::Prices;
+    ///
+    /// assert_eq!(Prices::ours(), Prices([4, 4, 1, 3, 2, 3, 3, 9, 3, 3, 24]));
+    /// assert_eq!(Prices::default(), Prices::ours());
+    /// ```
+    pub fn ours() -> Prices {
+        let mut prices = Prices([0; KINDS]);
+        // SAFETY: the pointer comes from a reference.
+        unsafe { raw::rewrites_our_prices(&mut prices.0) };
+        prices
+    }
+
+    /// Puts the table that a text spells in place of this one: eleven lines in the order of the entries, each a
+    /// decimal number from 1 to 65,535 without leading zeros, ended by byte 10. A text that is refused leaves
+    /// this table as it was.
+    ///
+    /// Takes at most 16 KiB of stack.
+    ///
+    /// # Errors
+    ///
+    /// [`Refusal::PriceMisspelled`] where some line is wrong, however many there are; else
+    /// [`Refusal::PriceCount`] for other than eleven lines.
+    ///
+    /// ```
+    /// use rewrites::{Prices, Refusal};
+    ///
+    /// let mut prices = Prices::ours();
+    /// assert_eq!(prices.read(b"5\n5\n1\n2\n2\n4\n4\n12\n4\n4\n0\n"), Err(Refusal::PriceMisspelled));
+    /// assert_eq!(prices.read(b"5\n5\n1\n2\n2\n4\n4\n12\n4\n4\n"), Err(Refusal::PriceCount));
+    /// assert_eq!(prices, Prices::ours());
+    ///
+    /// prices.read(b"5\n5\n1\n2\n2\n4\n4\n12\n4\n4\n40\n")?;
+    /// assert_eq!(prices, Prices([5, 5, 1, 2, 2, 4, 4, 12, 4, 4, 40]));
+    /// # Ok::<(), Refusal>(())
+    /// ```
+    pub fn read(&mut self, text: &[u8]) -> Result<(), Refusal> {
+        // SAFETY: the pointers come from references, so none is null, and the one that is written through is the
+        // only one to its place.
+        match unsafe { raw::rewrites_prices(text.as_ptr(), text.len(), &mut self.0) } {
+            0 => Ok(()),
+            number => Err(Refusal::returned(number)),
+        }
+    }
+}
+
+impl Default for Prices {
+    fn default() -> Prices {
+        Prices::ours()
+    }
+}
+
 /// What a run answers. Each answer tells the ticks of the statements that were performed: the price of
-/// each, a statement once for each time.
+/// each by the table in force, a statement once for each time.
 #[derive(Clone, Copy, Debug, PartialEq, Eq)]
 pub enum Outcome {
     /// The run ended within the budget.
@@ -324,8 +409,7 @@ pub struct Judged {
     pub bytes: u32,
 }
 
-/// The prices of a program's statements before and after the accepted marks of a list are made, in ticks:
-/// `read` 4, `write` 4, `skip` 1, `if` 3, `X := A` 2, `+` 3, `-` 3, `*` 9, `<` 3, `=` 3, `/` 24.
+/// The prices of a program's statements before and after the accepted marks of a list are made, in ticks.
 ///
 /// Entry k of an array is that of statement k + 1; entries past the statements are 0.
 #[derive(Clone, Copy, Debug, PartialEq, Eq)]
@@ -340,7 +424,7 @@ pub struct Report {
     pub given: u32,
     /// The sum of the prices after.
     pub rewritten: u32,
-    /// The sum before less the sum after.
+    /// The sum before less the sum after, below zero where a buyer's prices make the rewritten program dearer.
     pub saved: i32,
 }
 
@@ -460,11 +544,15 @@ pub enum Refusal {
     MarkCount = 10,
     /// The joined program would have over 256 statements.
     JoinedCount = 21,
+    /// A line of a table of prices isn't a number from 1 to 65,535, or the last lacks its byte 10.
+    PriceMisspelled = 19,
+    /// A table of prices has other than eleven lines.
+    PriceCount = 20,
 }
 
 impl Refusal {
     /// Every refusal, in the order in which they apply.
-    pub const ALL: [Refusal; 15] = [
+    pub const ALL: [Refusal; 17] = [
         Refusal::Buffer,
         Refusal::Budget,
         Refusal::Misspelled,
@@ -480,6 +568,8 @@ impl Refusal {
         Refusal::MarkMisspelled,
         Refusal::MarkCount,
         Refusal::JoinedCount,
+        Refusal::PriceMisspelled,
+        Refusal::PriceCount,
     ];
 
     /// The number by which the library names the refusal.
@@ -519,6 +609,10 @@ impl fmt::Display for Refusal {
             }
             Refusal::MarkCount => "over 256 lines of marks",
             Refusal::JoinedCount => "joined program of over 256 statements",
+            Refusal::PriceMisspelled => {
+                "some line of the prices isn't a number from 1 to 65,535, or the last lacks its byte 10"
+            }
+            Refusal::PriceCount => "other than eleven lines of prices",
         })
     }
 }
@@ -530,7 +624,8 @@ impl Error for Refusal {}
 ///
 /// A run that ends tells what `write` wrote, and the values that the unit keeps for its next pass: those
 /// of the [`KEPT`] variables from [`FIRST_KEPT`] on. One that divides by 0 ends there with a fault, and
-/// tells the statement. Every answer tells the ticks of the statements performed; [`Report`] has the prices.
+/// tells the statement. Every answer tells the ticks of the statements performed, by the table of prices that is
+/// handed in. Budgets are of steps, whatever these take.
 ///
 /// # Errors
 ///
@@ -539,31 +634,37 @@ impl Error for Refusal {}
 /// [`Refusal::Target`].
 ///
 /// ```
-/// use rewrites::{run, Outcome, FIRST_KEPT, KEPT};
+/// use rewrites::{run, Outcome, Prices, FIRST_KEPT, KEPT};
+///
+/// let ours = Prices::ours();
 ///
 /// // Values keep their low 32 bits, and the written value is signed.
 /// let program = b"read i0\ni0 := i0 + 1\nwrite i0\n";
-/// let answer = run(program, &[0; 32], 2147483647, 3);
+/// let answer = run(program, &[0; 32], 2147483647, 3, &ours);
 /// let ended = |value, ticks| Ok(Outcome::Ended { value, steps: 3, kept: [0; KEPT], ticks });
 /// assert_eq!(answer, ended(-2147483648, 11));
 ///
 /// // A constant may be below zero.
 /// let program = b"read i0\ni1 := i0 - -40\nwrite i1\n";
-/// let answer = run(program, &[0; 32], 2, 3);
+/// let answer = run(program, &[0; 32], 2, 3, &ours);
 /// assert_eq!(answer, ended(42, 11));
 ///
 /// // Quotients are rounded toward zero. By 0 there is none: the second step ends the run.
 /// let program = b"read i0\ni1 := -7 / i0\nwrite i1\n";
-/// let answer = run(program, &[0; 32], 2, 3);
+/// let answer = run(program, &[0; 32], 2, 3, &ours);
 /// assert_eq!(answer, ended(-3, 32));
-/// let answer = run(program, &[0; 32], 0, 3);
+/// let answer = run(program, &[0; 32], 0, 3, &ours);
 /// assert_eq!(answer, Ok(Outcome::Fault { statement: 2, steps: 2, ticks: 28 }));
+///
+/// // Where every statement takes 100 ticks, the same run takes 200.
+/// let answer = run(program, &[0; 32], 0, 3, &Prices([100; 11]));
+/// assert_eq!(answer, Ok(Outcome::Fault { statement: 2, steps: 2, ticks: 200 }));
 ///
 /// // i24 counts the passes: what one keeps is handed to the next.
 /// let program = b"read i0\ni24 := i24 + 1\nwrite i0\n";
 /// let mut values = [0; 32];
 /// for pass in 1..=3 {
-///     match run(program, &values, 5, 3) {
+///     match run(program, &values, 5, 3, &ours) {
 ///         Ok(Outcome::Ended { value: 5, steps: 3, kept, ticks: 11 }) => {
 ///             assert_eq!(kept, [pass, 0, 0, 0, 0, 0, 0, 0]);
 ///             values[FIRST_KEPT..FIRST_KEPT + KEPT].copy_from_slice(&kept);
@@ -577,6 +678,7 @@ pub fn run(
     values: &[u32; VARIABLES],
     input: u32,
     budget: u32,
+    prices: &Prices,
 ) -> Result<Outcome, Refusal> {
     let mut ended = 0;
     let mut value = 0;
@@ -594,6 +696,7 @@ pub fn run(
             values,
             input,
             budget,
+            &prices.0,
             &mut ended,
             &mut value,
             &mut steps,
@@ -920,8 +1023,8 @@ pub fn force(
 /// assert_eq!((answer.accepted, verdicts[0]), (1, 0));
 ///
 /// // Before statement 3, i1 isn't live, and differs; i0, which 3 uses, is the same.
-/// use rewrites::{run, Outcome};
-/// let left = |program: &[u8]| match run(program, &[0; 32], 6, 2) {
+/// use rewrites::{run, Outcome, Prices};
+/// let left = |program: &[u8]| match run(program, &[0; 32], 6, 2, &Prices::ours()) {
 ///     Ok(Outcome::Spent { statement: 3, values, .. }) => (values[0], values[1]),
 ///     other => panic!("{:?}", other),
 /// };
@@ -962,7 +1065,7 @@ pub fn judge(
 }
 
 /// Tells the price of each statement of a program in ticks, before and after the accepted marks of a list
-/// are made, and the totals. The list is judged as by [`judge`]; [`Report`] has the prices.
+/// are made, and the totals, by the table of prices that is handed in. The list is judged as by [`judge`].
 ///
 /// Takes at most 128 KiB of stack.
 ///
@@ -972,21 +1075,26 @@ pub fn judge(
 /// [`Refusal::Target`]; else, for the marks, [`Refusal::MarkMisspelled`] or [`Refusal::MarkCount`].
 ///
 /// ```
-/// use rewrites::{report, Refusal};
+/// use rewrites::{report, Prices, Refusal};
 ///
 /// // A sum that is computed twice, and a product that nothing uses.
 /// let program = b"read i0\ni1 := i0 + 1\ni2 := i0 + 1\ni3 := i2 * i2\nwrite i2\n";
 /// let marks = b"3: mark(cse, i1, i0 + 1)\n4: mark(rm, i3, i2 * i2)\n";
-/// let answer = report(program, marks)?;
+/// let ours = Prices::ours();
+/// let answer = report(program, marks, &ours)?;
 /// assert_eq!(answer.statements, 5);
 /// assert_eq!(answer.before[..5], [4, 3, 3, 9, 4]);
 /// assert_eq!(answer.after[..5], [4, 3, 2, 1, 4]);
 /// assert_eq!((answer.given, answer.rewritten, answer.saved), (23, 14, 9));
 ///
-/// assert_eq!(report(program, b"4: mark(rm, i3)\n"), Err(Refusal::MarkMisspelled));
+/// // Where `skip` takes 100 ticks and all else 1, the list makes the program dearer.
+/// let answer = report(program, marks, &Prices([1, 1, 100, 1, 1, 1, 1, 1, 1, 1, 1]))?;
+/// assert_eq!((answer.given, answer.rewritten, answer.saved), (5, 104, -99));
+///
+/// assert_eq!(report(program, b"4: mark(rm, i3)\n", &ours), Err(Refusal::MarkMisspelled));
 /// # Ok::<(), Refusal>(())
 /// ```
-pub fn report(program: &[u8], marks: &[u8]) -> Result<Report, Refusal> {
+pub fn report(program: &[u8], marks: &[u8], prices: &Prices) -> Result<Report, Refusal> {
     let none = [0; STATEMENTS];
     let mut report =
         Report { statements: 0, before: none, after: none, given: 0, rewritten: 0, saved: 0 };
@@ -998,6 +1106,7 @@ pub fn report(program: &[u8], marks: &[u8]) -> Result<Report, Refusal> {
             program.len(),
             marks.as_ptr(),
             marks.len(),
+            &prices.0,
             &mut report.before,
             &mut report.after,
             &mut report.statements,
@@ -1193,7 +1302,7 @@ pub fn relist(program: &[u8], marks: &[u8], list: &mut [u64]) -> Result<Listing,
 /// road program exactly where that by itself is refused, with [`run`] for one.
 ///
 /// ```
-/// use rewrites::{join, run, Joined, Outcome, Refusal, KEPT, TEXT_BYTES};
+/// use rewrites::{join, run, Joined, Outcome, Prices, Refusal, KEPT, TEXT_BYTES};
 ///
 /// let road = b"read i0\ni1 := i0 + 1\nwrite i1\n";
 /// let creeper = b"read i2\nif i2 goto 3 else 4\ni1 := i1 * i2\nwrite i1\n";
@@ -1213,7 +1322,7 @@ pub fn relist(program: &[u8], marks: &[u8], list: &mut [u64]) -> Result<Listing,
 ///
 /// // 3 steps write 5, and with 5 in i1 and as input 4 steps write 25: 3 + 4 - 1 steps.
 /// let ended = Outcome::Ended { value: 25, steps: 6, ticks: 25, kept: [0; KEPT] };
-/// assert_eq!(run(joined, &[0; 32], 4, 100)?, ended);
+/// assert_eq!(run(joined, &[0; 32], 4, 100, &Prices::ours())?, ended);
 ///
 /// // The creeper program isn't taken: its `write` is missing.
 /// assert_eq!(join(road, b"read i2\nskip\n", &mut text), Err(Refusal::Placement));

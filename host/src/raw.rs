@@ -1,6 +1,6 @@
 //! The calls as `include/rewrites.h` declares them.
 
-use crate::{KEPT, REVIEW_LINES, STATEMENTS, VARIABLES};
+use crate::{KEPT, KINDS, REVIEW_LINES, STATEMENTS, VARIABLES};
 
 extern "C" {
     /// See [`crate::run`] and the header.
@@ -15,6 +15,7 @@ extern "C" {
         values: *const [u32; VARIABLES],
         input: u32,
         budget: u32,
+        prices: *const [u32; KINDS],
         ended: *mut u32,
         value: *mut i32,
         steps: *mut u32,
@@ -121,6 +122,7 @@ extern "C" {
         program_len: usize,
         marks: *const u8,
         marks_len: usize,
+        prices: *const [u32; KINDS],
         before: *mut [u32; STATEMENTS],
         after: *mut [u32; STATEMENTS],
         statements: *mut u32,
@@ -128,6 +130,21 @@ extern "C" {
         rewritten: *mut u32,
         saved: *mut i32,
     ) -> u8;
+
+    /// See [`crate::Prices::read`] and the header.
+    ///
+    /// # Safety
+    ///
+    /// `text` points to `text_len` bytes, and may be null where that is 0. `prices` isn't null, and overlaps
+    /// no other place lent to the call.
+    pub fn rewrites_prices(text: *const u8, text_len: usize, prices: *mut [u32; KINDS]) -> u8;
+
+    /// See [`crate::Prices::ours`] and the header.
+    ///
+    /// # Safety
+    ///
+    /// `prices` isn't null.
+    pub fn rewrites_our_prices(prices: *mut [u32; KINDS]);
 
     /// See [`crate::mark_line`] and the header.
     ///

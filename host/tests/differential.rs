@@ -14,18 +14,19 @@ use coverage::Tally;
 use lent::{Lent, Text};
 use oracle::condition::{self, Atom, Condition, Demand, Direction, Part, Quantifier};
 use oracle::forcing::{self, player, Arm, Forced, Player};
-use oracle::generate::{self, Damage, Random, WrongDriver, WrongReuse, WrongSign};
+use oracle::generate::{self, Damage, Random, WrongDriver, WrongPrice, WrongReuse, WrongSign};
 use oracle::join::{self, InTurn};
 use oracle::listing::{self, Counts, Set};
 use oracle::liveness::{differing, Liveness};
 use oracle::machine::{self, kept_of, Outcome, Run, State, Values};
 use oracle::marks::{self, Judge, Kind, Mark};
-use oracle::pricing::{self, kind, KIND_NAMES};
+use oracle::pricing::{self, in_force, kind, Prices, KIND_NAMES, OURS};
 use oracle::program::{is_kept, Expression, Operand, Operator, Program, Statement, LARGEST, LEAST};
 use oracle::review::{self, Reviewed, MOST_TABLES};
-use rewrites::{raw, FIRST_KEPT, KEPT, MOST_STEPS, VARIABLES};
+use rewrites::{raw, FIRST_KEPT, KEPT, KINDS, MOST_STEPS, VARIABLES};
 use rewrites::{LIST_WORDS, REVIEW_LINES, REVIEW_WORDS, STATEMENTS, TABLE_WORDS, TEXT_BYTES};
 use rewrites::{UNFORCED, VERDICT_BYTES};
+use std::cmp::Ordering;
 use std::ops::Range;
 
 const CASES: u64 = 100_000;
@@ -193,17 +194,35 @@ const LEFT: usize = 8;
 const KEPT_ONES: usize = LEFT + VARIABLES + 1;
 const RUN_WORDS: usize = KEPT_ONES + KEPT;
 
-/// What is lent to a run.
+/// A table of prices, lent to a call.
+fn lent_prices(random: &mut Random, prices: &Prices) -> Lent<u32> {
+    let mut lent = Lent::new(random, KINDS, |bits| bits as u32);
+    lent.part().copy_from_slice(prices);
+    lent
+}
+
+/// What is lent to a run beside the program and the values.
 #[derive(Clone)]
 struct RunPlaces {
+    prices: Lent<u32>,
     words: Lent<u32>,
     ticks: Lent<u64>,
 }
 
 impl RunPlaces {
-    fn new(random: &mut Random) -> RunPlaces {
-        let words = Lent::new(random, RUN_WORDS, |bits| bits as u32);
-        RunPlaces { words, ticks: Lent::new(random, 1, |bits| bits) }
+    fn new(random: &mut Random, prices: &Prices) -> RunPlaces {
+        RunPlaces {
+            prices: lent_prices(random, prices),
+            words: Lent::new(random, RUN_WORDS, |bits| bits as u32),
+            ticks: Lent::new(random, 1, |bits| bits),
+        }
+    }
+
+    /// Fails where a word of what is lent differs.
+    fn assert_same(&self, expected: &RunPlaces, name: &str, case: impl Fn() -> String) {
+        self.words.assert_same(&expected.words, &format!("places of {name}"), &case);
+        self.ticks.assert_same(&expected.ticks, &format!("ticks of {name}"), &case);
+        self.prices.assert_same(&expected.prices, &format!("prices of {name}"), &case);
     }
 }
 
@@ -214,8 +233,8 @@ fn lend_run(
     budget: u32,
     places: &mut RunPlaces,
 ) -> u8 {
-    let (words, ticks) = (places.words.part(), places.ticks.part());
-    assert_eq!((words.len(), ticks.len()), (RUN_WORDS, 1));
+    let (words, ticks, prices) = (places.words.part(), places.ticks.part(), places.prices.part());
+    assert_eq!((words.len(), ticks.len(), prices.len()), (RUN_WORDS, 1, KINDS));
     let first = words.as_mut_ptr();
     // SAFETY: the pointers come from references, and no two of the written places overlap.
     unsafe {
@@ -225,6 +244,7 @@ fn lend_run(
             values,
             input,
             budget,
+            prices.as_ptr().cast(),
             first.add(ENDED),
             first.add(VALUE).cast(),
             first.add(STEPS),
@@ -260,7 +280,7 @@ fn put_outcome(places: &mut RunPlaces, outcome: Outcome) {
     }
 }
 
-/// Holds a run from random values to the oracle's, and tells its answer.
+/// Holds a run from random values, by random prices, to the oracle's, and tells its answer.
 fn run_agrees(
     random: &mut Random,
     case: &str,
@@ -268,34 +288,34 @@ fn run_agrees(
     input: u32,
     budget: u32,
 ) -> Result<Outcome, u8> {
-    let values = generate::values(random);
-    run_from_agrees(random, case, text, values, input, budget)
+    let (values, prices) = (generate::values(random), generate::prices(random));
+    run_from_agrees(random, case, text, (values, input), budget, &prices)
 }
 
-/// The same from these values.
+/// The same from these values and this input, by these prices.
 fn run_from_agrees(
     random: &mut Random,
     case: &str,
     text: &[u8],
-    values: Values,
-    input: u32,
+    (values, input): (Values, u32),
     budget: u32,
+    prices: &Prices,
 ) -> Result<Outcome, u8> {
     let (mut program, lent) = (Text::new(random, text), values);
-    let mut places = RunPlaces::new(random);
+    let mut places = RunPlaces::new(random, prices);
     let mut expected = places.clone();
-    let wanted = machine::run(text, values, input, budget);
+    let wanted = machine::run(text, values, input, budget, prices);
     if let Ok(outcome) = wanted {
         put_outcome(&mut expected, outcome);
     }
     let shown = || {
         let text = escaped(text);
-        format!("case {case}: values {values:?} input {input} budget {budget} program {text}")
+        let start = format!("values {values:?} input {input} budget {budget}");
+        format!("case {case}: {start} prices {prices:?} program {text}")
     };
     let number = lend_run(program.part(), &values, input, budget, &mut places);
     assert_eq!(number, wanted.err().unwrap_or(0), "number of {}", shown());
-    places.words.assert_same(&expected.words, "places", shown);
-    places.ticks.assert_same(&expected.ticks, "ticks", shown);
+    places.assert_same(&expected, "a run", shown);
     program.assert_kept("program", shown);
     assert_eq!(values, lent, "{}", shown());
     wanted
@@ -418,34 +438,43 @@ fn fault_kinds(statement: u32, steps: u32, budget: u32) -> [&'static str; 3] {
     ]
 }
 
-const TICKS: [&str; 5] = ["none", "4", "8 to 255", "to 65,535", "more"];
+const TICKS: [&str; 5] = ["none", "of 8 bits", "of 16 bits", "of 32 bits", "of more"];
 
 /// How many ticks those are.
 fn ticks_kind(ticks: u64) -> &'static str {
     match ticks {
         0 => "none",
-        // Behind `read` alone; no statement is cheaper but `skip`.
-        1..=7 => "4",
-        8..=255 => "8 to 255",
-        256..=65_535 => "to 65,535",
-        _ => "more",
+        1..=0xff => "of 8 bits",
+        0x100..=0xffff => "of 16 bits",
+        0x1_0000..=0xffff_ffff => "of 32 bits",
+        _ => "of more",
     }
 }
 
-/// Counts the kinds of the statements that a run's first steps perform, each of which has its price.
-fn performed_met(
-    program: &Program,
-    values: Values,
-    input: u32,
-    budget: u32,
-    met: &mut Tally<&'static str>,
-) {
+/// The kinds of the statements that a run's first steps perform, each of which has its price.
+fn performed_by(program: &Program, values: Values, input: u32, budget: u32) -> [bool; KINDS] {
     let mut run = Run::start(program, values, input);
+    let mut performed = [false; KINDS];
     for _ in 0..budget.min(60) {
         if let State::Before { statement, .. } = *run.state() {
-            met.met(KIND_NAMES[kind(program.statement(statement).expect("a statement"))]);
+            performed[kind(program.statement(statement).expect("a statement"))] = true;
         }
         run.step();
+    }
+    performed
+}
+
+const PRICES: [&str; 4] =
+    ["ours", "a buyer's", "partly outside the range", "all outside the range"];
+
+/// What table of prices that is.
+fn table_kind(prices: &Prices) -> &'static str {
+    let outside = (0..KINDS).filter(|&kind| in_force(prices, kind) != prices[kind]).count();
+    match outside {
+        0 if *prices == OURS => "ours",
+        0 => "a buyer's",
+        KINDS => "all outside the range",
+        _ => "partly outside the range",
     }
 }
 
@@ -467,6 +496,9 @@ fn runs_are_as_by_the_oracle() {
     let mut kept_set = Tally::new("kept variables that a run set", kept_variables);
     let mut ticks = Tally::new("ticks of runs", TICKS);
     let mut performed = Tally::new("statements that runs performed", KIND_NAMES);
+    let mut tables = Tally::new("prices of runs", PRICES);
+    let mut by_ours =
+        Tally::new("statements performed at our price, which the table lacks", KIND_NAMES);
     for (case, mut random) in cases("run") {
         let random = &mut random;
         let program = program(random, case);
@@ -485,7 +517,8 @@ fn runs_are_as_by_the_oracle() {
             _ => generate::budget(random),
         };
         let (values_given, input) = (generate::values(random), generate::word(random));
-        let answer = run_from_agrees(random, &case.to_string(), &text, values_given, input, budget);
+        let (start, prices) = ((values_given, input), generate::prices(random));
+        let answer = run_from_agrees(random, &case.to_string(), &text, start, budget, &prices);
         budgets.met(budget);
         signs.met(sign, answer.err().unwrap_or(0));
         match answer {
@@ -509,7 +542,14 @@ fn runs_are_as_by_the_oracle() {
                 let program = Program::read(&text).expect("a program that was run is taken");
                 quotients_met(&program, values_given, input, budget, &mut quotients);
                 ticks.met(ticks_kind(outcome.ticks()));
-                performed_met(&program, values_given, input, budget, &mut performed);
+                let was_performed = performed_by(&program, values_given, input, budget);
+                for kind in (0..KINDS).filter(|&kind| was_performed[kind]) {
+                    performed.met(KIND_NAMES[kind]);
+                    if in_force(&prices, kind) != prices[kind] {
+                        by_ours.met(KIND_NAMES[kind]);
+                    }
+                }
+                tables.met(table_kind(&prices));
                 sizes.met(program.count());
                 program.statements().iter().for_each(|s| kinds.met(statement_kind(s)));
                 program.statements().iter().for_each(|s| constants.met_in(s));
@@ -530,6 +570,8 @@ fn runs_are_as_by_the_oracle() {
     kept_set.report();
     ticks.report();
     performed.report();
+    tables.report();
+    by_ours.report();
 }
 
 // Tables
@@ -1103,7 +1145,9 @@ impl<'a> Traces<'a> {
 /// Runs the given and the rewritten program by growing budgets, step by step first, until both have
 /// ended or faulted.
 fn runs_stay(random: &mut Random, case: &str, given: &[u8], new: &[u8], runs: &mut Tally<&str>) {
-    let mut places = RunPlaces::new(random);
+    // Under every table the two agree; by ours no mark makes a statement dearer.
+    let prices = if random.chance(50) { OURS } else { generate::prices(random) };
+    let mut places = RunPlaces::new(random, &prices);
     let by_steps = if given.len() < 1_000 { 30 } else { 6 };
     let starts = if given.len() < 1_000 { 2 } else { 1 };
     let traces = Traces::new(given, new);
@@ -1119,9 +1163,12 @@ fn runs_stay(random: &mut Random, case: &str, given: &[u8], new: &[u8], runs: &m
             if !differ.is_empty() {
                 runs.met("dead variables differ");
             }
-            // By our prices no mark makes a statement dearer.
-            assert!(fewer <= ticks, "case {case}: {fewer} ticks for {ticks}");
-            runs.met(if fewer < ticks { "fewer ticks" } else { "the same ticks" });
+            assert!(fewer <= ticks || prices != OURS, "case {case}: {fewer} ticks for {ticks}");
+            runs.met(match fewer.cmp(&ticks) {
+                Ordering::Less => "fewer ticks",
+                Ordering::Equal => "the same ticks",
+                Ordering::Greater => "more ticks, by a buyer's prices",
+            });
             match one {
                 Stand::Ended { kept, .. } => {
                     runs.met("ended");
@@ -1184,7 +1231,7 @@ fn live_variables_agree_before_each_step() {
         if judged.verdicts.iter().any(|&verdict| verdict == 0) {
             by_kinds.met(kinds_made(&list, &judged.verdicts));
         }
-        let mut places = RunPlaces::new(random);
+        let mut places = RunPlaces::new(random, &OURS);
         let (values, input) = (generate::values(random), generate::word(random));
         let (mut earlier, mut differed) = (Vec::new(), false);
         for budget in 0..=LONGEST {
@@ -1457,6 +1504,7 @@ fn judgements_are_as_by_the_oracle_and_keep_runs() {
         "spent",
         "fewer ticks",
         "the same ticks",
+        "more ticks, by a buyer's prices",
     ];
     let mut runs = Tally::new("runs of both programs", classes);
     let mut on_kept = Tally::new("marks on what is kept", MARKS_ON_KEPT);
@@ -1621,11 +1669,14 @@ fn report_agrees(
     case: &str,
     program: &[u8],
     list: &[u8],
+    prices: &Prices,
 ) -> Result<pricing::Report, u8> {
     let (mut given, mut asked) = (Text::new(random, program), Text::new(random, list));
+    let mut table = lent_prices(random, prices);
+    let kept = table.clone();
     let mut places = Lent::new(random, REPORT_WORDS, |bits| bits as u32);
     let mut expected = places.clone();
-    let wanted = pricing::report(program, list);
+    let wanted = pricing::report(program, list, prices);
     if let Ok(report) = &wanted {
         let (places, count) = (expected.part(), report.before.len());
         places[BEFORE..BEFORE + count].copy_from_slice(&report.before);
@@ -1635,7 +1686,10 @@ fn report_agrees(
         places[REWRITTEN] = report.rewritten;
         places[SAVED] = report.saved as u32;
     }
-    let shown = || format!("case {case}: program {} marks {}", escaped(program), escaped(list));
+    let shown = || {
+        let texts = format!("program {} marks {}", escaped(program), escaped(list));
+        format!("case {case}: prices {prices:?} {texts}")
+    };
     let (program, list) = (given.part(), asked.part());
     let first = places.part().as_mut_ptr();
     // SAFETY: the pointers come from references, and no two of the written places overlap.
@@ -1645,6 +1699,7 @@ fn report_agrees(
             program.len(),
             list.as_ptr(),
             list.len(),
+            table.part().as_ptr().cast(),
             first.add(BEFORE).cast(),
             first.add(AFTER).cast(),
             first.add(COUNT),
@@ -1655,6 +1710,7 @@ fn report_agrees(
     };
     assert_eq!(number, wanted.as_ref().err().copied().unwrap_or(0), "number of {}", shown());
     places.assert_same(&expected, "places", shown);
+    table.assert_same(&kept, "prices", shown);
     given.assert_kept("program", shown);
     asked.assert_kept("marks", shown);
     wanted
@@ -1667,6 +1723,10 @@ const CHEAPER: [&str; 13] = [
     "cse of +", "cse of -", "cse of *", "cse of <", "cse of =", "cse of /",
 ];
 
+#[rustfmt::skip]
+const SAVED_TICKS: [&str; 7] =
+    ["-65,536 and less", "below zero", "none", "1", "some", "over 255", "over 65,535"];
+
 #[test]
 fn reports_are_as_by_the_oracle() {
     let mut refusals = Tally::new("refusals of report", [2, 3, 4, 5, 9, 10]);
@@ -1674,7 +1734,10 @@ fn reports_are_as_by_the_oracle() {
     let mut counts = Tally::new("marks of a list that is priced", 0..=256);
     let mut priced = Tally::new("statements priced", KIND_NAMES);
     let mut cheaper = Tally::new("prices that change", CHEAPER);
-    let mut saved = Tally::new("ticks saved", ["none", "1", "some", "over 255"]);
+    let mut saved = Tally::new("ticks saved", SAVED_TICKS);
+    let mut tables = Tally::new("prices of reports", PRICES);
+    let mut by_ours =
+        Tally::new("statements listed at our price, which the table lacks", KIND_NAMES);
     let mut of_programs = damages("damages of programs priced");
     let mut of_lists = damages("damages of lists priced");
     for (case, mut random) in cases("report") {
@@ -1698,26 +1761,34 @@ fn reports_are_as_by_the_oracle() {
                 _ => {}
             }
         }
-        match report_agrees(random, &case.to_string(), &text, &list) {
+        let prices = if random.chance(50) { OURS } else { generate::prices(random) };
+        match report_agrees(random, &case.to_string(), &text, &list, &prices) {
             Err(number) => refusals.met(number),
             Ok(report) => {
+                tables.met(table_kind(&prices));
                 let program = Program::read(&text).expect("a program that is priced is taken");
                 sizes.met(program.count());
                 counts.met(marks::read(&list).expect("its marks are taken").len());
                 for (at, statement) in program.statements().iter().enumerate() {
                     let name = KIND_NAMES[kind(statement)];
                     priced.met(name);
+                    if report.before[at] != prices[kind(statement)] {
+                        by_ours.met(name);
+                    }
                     match (report.before[at], report.after[at]) {
-                        (before, after) if before == after => {}
+                        (before, after) if before == after || prices != OURS => {}
                         (_, 1) => cheaper.met(cheaper_kind("rm", name)),
                         _ => cheaper.met(cheaper_kind("cse", name)),
                     }
                 }
                 saved.met(match report.saved {
+                    i32::MIN..=-65_536 => "-65,536 and less",
+                    -65_535..=-1 => "below zero",
                     0 => "none",
                     1 => "1",
                     2..=255 => "some",
-                    _ => "over 255",
+                    256..=65_535 => "over 255",
+                    _ => "over 65,535",
                 });
             }
         }
@@ -1728,6 +1799,8 @@ fn reports_are_as_by_the_oracle() {
     priced.report();
     cheaper.report();
     saved.report();
+    tables.report();
+    by_ours.report();
     of_programs.report();
     of_lists.report();
 }
@@ -1736,6 +1809,113 @@ fn reports_are_as_by_the_oracle() {
 fn cheaper_kind(mark: &str, kind: &str) -> &'static str {
     let class = CHEAPER.into_iter().find(|class| *class == format!("{mark} of {kind}"));
     class.unwrap_or_else(|| panic!("{mark} of {kind} changed a price"))
+}
+
+// Prices
+
+/// Holds the reading of a table of prices to the oracle's, and tells its answer.
+fn prices_agree(random: &mut Random, case: &str, text: &[u8], held: &Prices) -> Result<Prices, u8> {
+    let mut read = Text::new(random, text);
+    let mut table = lent_prices(random, held);
+    let mut expected = table.clone();
+    let mut wanted = *held;
+    let answer = pricing::replace(text, &mut wanted);
+    expected.part().copy_from_slice(&wanted);
+    let shown = || format!("case {case}: held {held:?} text {}", escaped(text));
+    let lent = read.part();
+    // SAFETY: the pointers come from references, and they don't overlap.
+    let number = unsafe {
+        raw::rewrites_prices(lent.as_ptr(), lent.len(), table.part().as_mut_ptr().cast())
+    };
+    assert_eq!(number, answer.err().unwrap_or(0), "number of {}", shown());
+    table.assert_same(&expected, "prices", shown);
+    read.assert_kept("text", shown);
+    answer.map(|()| wanted)
+}
+
+/// Where a price lies among those of the range.
+fn price_kind(price: u32) -> &'static str {
+    match price {
+        1 => "1",
+        2..=9 => "of one digit",
+        10..=99 => "of two",
+        100..=999 => "of three",
+        1_000..=9_999 => "of four",
+        65_535 => "65,535",
+        _ => "of five",
+    }
+}
+
+#[rustfmt::skip]
+const PRICE_KINDS: [&str; 7] = ["1", "of one digit", "of two", "of three", "of four", "of five", "65,535"];
+
+#[test]
+fn tables_of_prices_are_as_by_the_oracle() {
+    let mut answers = Tally::new("answers to tables of prices", [0, 19, 20]);
+    let mut wrong_lines = Tally::new("wrong lines of prices refused", WrongPrice::ALL.map(Shown));
+    let mut wrong_places = Tally::new("places of the wrong line of eleven", 0..KINDS);
+    let mut before_20 = Tally::new("lines of a list with a wrong line", (1..14).chain([256, 300]));
+    let mut counts = Tally::new("lines of a list that is refused 20", (0..11).chain([12, 13, 256]));
+    let mut taken = Tally::new("prices read", PRICE_KINDS);
+    let mut held_tables = Tally::new("tables that were held", PRICES);
+    let mut of_texts = damages("damages of prices");
+    for (case, mut random) in cases("prices") {
+        let random = &mut random;
+        let (held, list) = (generate::prices(random), generate::price_list(random));
+        let mut text = pricing::table_text(&list);
+        let mut wrong = None;
+        if !is_whole(case) {
+            match random.below(10) {
+                0..=2 => {
+                    let kind = random.pick(&WrongPrice::ALL);
+                    text = generate::wrong_prices(random, kind, &list);
+                    wrong = Some(kind);
+                }
+                3 => damaged(random, &mut text, &mut of_texts),
+                _ => {}
+            }
+        }
+        let answer = prices_agree(random, &case.to_string(), &text, &held);
+        answers.met(answer.err().unwrap_or(0));
+        held_tables.met(table_kind(&held));
+        match (answer, wrong) {
+            (Ok(prices), _) => prices.iter().for_each(|&price| taken.met(price_kind(price))),
+            (Err(number), Some(wrong)) => {
+                assert_eq!(number, 19, "{wrong:?}");
+                wrong_lines.met(Shown(wrong));
+                let lines: Vec<&[u8]> = text.split_inclusive(|&byte| byte == b'\n').collect();
+                before_20.met(lines.len());
+                if lines.len() == KINDS {
+                    let is_wrong = |line: &&[u8]| pricing::read_prices(line) == Err(19);
+                    wrong_places.met(lines.iter().position(is_wrong).expect("a wrong line"));
+                }
+            }
+            (Err(20), None) => counts.met(text.iter().filter(|&&byte| byte == b'\n').count()),
+            (Err(_), None) => {}
+        }
+    }
+    answers.report();
+    wrong_lines.report();
+    wrong_places.report();
+    before_20.report();
+    counts.report();
+    taken.report();
+    held_tables.report();
+    of_texts.report();
+}
+
+#[test]
+fn our_prices_are_as_by_the_oracle() {
+    let random = &mut Random::new(SEED);
+    for _ in 0..100 {
+        let held = generate::prices(random);
+        let mut table = lent_prices(random, &held);
+        let mut expected = table.clone();
+        expected.part().copy_from_slice(&OURS);
+        // SAFETY: the pointer comes from a reference.
+        unsafe { raw::rewrites_our_prices(table.part().as_mut_ptr().cast()) };
+        table.assert_same(&expected, "our prices", || format!("held {held:?}"));
+    }
 }
 
 // Games
@@ -2518,11 +2698,12 @@ fn run_in_turn(
     let (values, input) = (generate::values(random), generate::word(random));
     let further = random.between(by_steps as usize, 600) as u32;
     let far = random.pick(&[2_000, 2_000, 2_000, 20_000]);
+    let prices = generate::prices(random);
     let mut both = InTurn::start(road, creeper, values, input);
     let (mut steps, mut ticks) = (0, 0);
     for budget in (0..by_steps).chain(further..further + 6).chain([far]) {
         while steps < budget && matches!(both.state(), State::Before { .. }) {
-            ticks += both.cost();
+            ticks += both.cost(&prices);
             both.step();
             steps += 1;
         }
@@ -2531,16 +2712,15 @@ fn run_in_turn(
             State::Ended { value, kept } => Outcome::Ended { value, steps, kept, ticks },
             State::Faulted { statement } => Outcome::Fault { statement, steps, ticks },
         };
-        let mut places = RunPlaces::new(random);
+        let mut places = RunPlaces::new(random, &prices);
         let mut expected = places.clone();
         put_outcome(&mut expected, wanted);
         let shown = || {
-            let text = escaped(text);
-            format!("case {case}: values {values:?} input {input} budget {budget} joined {text}")
+            let start = format!("values {values:?} input {input} budget {budget}");
+            format!("case {case}: {start} prices {prices:?} joined {}", escaped(text))
         };
         assert_eq!(lend_run(text, &values, input, budget, &mut places), 0, "{}", shown());
-        places.words.assert_same(&expected.words, "places of the joined run", shown);
-        places.ticks.assert_same(&expected.ticks, "ticks of the joined run", shown);
+        places.assert_same(&expected, "the joined run", shown);
         runs.met("steps");
         match wanted {
             Outcome::Spent { statement, .. } => {
@@ -2714,7 +2894,8 @@ fn quotients_at_the_edges_are_as_by_the_oracle() {
             ];
             for right in rights {
                 let text = format!("read i0\ni3 := {right}\nwrite i3\n");
-                let answer = run_from_agrees(random, &right, text.as_bytes(), values, 5, 3);
+                let answer =
+                    run_from_agrees(random, &right, text.as_bytes(), (values, 5), 3, &OURS);
                 assert_eq!(
                     answer == Ok(Outcome::Fault { statement: 2, steps: 2, ticks: 28 }),
                     b == 0
@@ -2923,7 +3104,25 @@ fn programs_edited_by_one_byte_are_as_by_the_oracle() {
     let mut numbers = Tally::new("answers to edited programs", [0, 2, 5]);
     for text in edits(EACH_KIND).chain(edits(BELOW_ZERO)).chain(edits(DIVIDING)) {
         numbers.met(run_agrees(random, "edit", &text, 5, 20).err().unwrap_or(0));
-        let _ = report_agrees(random, "edit", &text, b"2: mark(rm, i1, i0)\n");
+        let prices = generate::prices(random);
+        let _ = report_agrees(random, "edit", &text, b"2: mark(rm, i1, i0)\n", &prices);
+    }
+    numbers.report();
+}
+
+#[test]
+fn prices_edited_by_one_byte_are_as_by_the_oracle() {
+    let random = &mut Random::new(11);
+    let mut numbers = Tally::new("answers to edited prices", [0, 19, 20]);
+    let ours = pricing::table_text(&OURS);
+    let wide =
+        pricing::table_text(&[65_535, 1, 10, 99, 100, 999, 1_000, 9_999, 10_000, 65_529, 60_000]);
+    for whole in [&ours[..], &wide, b"7\n", b""] {
+        for text in edits(whole) {
+            let held = generate::prices(random);
+            let answer = prices_agree(random, "edit", &text, &held);
+            numbers.met(answer.err().unwrap_or(0));
+        }
     }
     numbers.report();
 }
@@ -2980,7 +3179,8 @@ fn marks_edited_by_one_byte_are_as_by_the_oracle() {
         for line in [0, 1, 2, 3, u32::MAX] {
             let _ = mark_line_agrees(random, "edit", &text, line);
         }
-        let _ = report_agrees(random, "edit", program, &text);
+        let prices = generate::prices(random);
+        let _ = report_agrees(random, "edit", program, &text, &prices);
         let answer = judgement_agrees(random, "edit", program, &text, rooms);
         numbers.met(answer.as_ref().err().copied().unwrap_or(0));
         if let Ok(judged) = answer {

@@ -16,10 +16,13 @@ static const char P[] =
     "read i0\ni1 := i0\ni2 := 7\ni3 := i1 + i2\n"
     "if i0 goto 6 else 8\ni0 := i0 - 1\nif i0 goto 4 else 8\nwrite i3\n";
 
+/* Our prices, which rewrites_our_prices sets. */
+static uint32_t ours[11];
+
 static int run_answers(void) {
-    uint8_t (*const run)(const uint8_t *, size_t, const uint32_t *, uint32_t, uint32_t, uint32_t *,
-                         int32_t *, uint32_t *, uint32_t *, uint32_t *, uint32_t *, uint64_t *) =
-        rewrites_run;
+    uint8_t (*const run)(const uint8_t *, size_t, const uint32_t *, uint32_t, uint32_t,
+                         const uint32_t *, uint32_t *, int32_t *, uint32_t *, uint32_t *, uint32_t *,
+                         uint32_t *, uint64_t *) = rewrites_run;
     const uint8_t *program = (const uint8_t *)P;
     const size_t length = strlen(P);
     const uint32_t values[32] = {0};
@@ -29,28 +32,28 @@ static int run_answers(void) {
     size_t k;
 
     for (k = 0; k < 8; k++) kept[k] = 16;
-    CHECK(run(program, length, values, 2, 1000001, &ended, &value, &steps, &statement, left, kept,
+    CHECK(run(program, length, values, 2, 1000001, ours, &ended, &value, &steps, &statement, left, kept,
               &ticks) == 15);
-    CHECK(run(program, length - 1, values, 2, 9, &ended, &value, &steps, &statement, left, kept,
+    CHECK(run(program, length - 1, values, 2, 9, ours, &ended, &value, &steps, &statement, left, kept,
               &ticks) == 2);
-    CHECK(run(program, 0, values, 2, 9, &ended, &value, &steps, &statement, left, kept,
+    CHECK(run(program, 0, values, 2, 9, ours, &ended, &value, &steps, &statement, left, kept,
               &ticks) == 3);
-    CHECK(run(NULL, 0, values, 2, 1000001, &ended, &value, &steps, &statement, left, kept,
+    CHECK(run(NULL, 0, values, 2, 1000001, ours, &ended, &value, &steps, &statement, left, kept,
               &ticks) == 15);
-    CHECK(run(NULL, 0, values, 2, 9, &ended, &value, &steps, &statement, left, kept,
+    CHECK(run(NULL, 0, values, 2, 9, ours, &ended, &value, &steps, &statement, left, kept,
               &ticks) == 3);
     CHECK(ended == 11 && value == -15 && steps == 12 && statement == 13 && left[0] == 14);
     CHECK(ticks == 17);
     for (k = 0; k < 8; k++) CHECK(kept[k] == 16);
 
-    CHECK(run(program, length, values, 2, 12, &ended, &value, &steps, &statement, left, kept,
+    CHECK(run(program, length, values, 2, 12, ours, &ended, &value, &steps, &statement, left, kept,
               &ticks) == 0);
     CHECK(ended == 1 && value == 9 && steps == 12 && statement == 13 && left[0] == 14);
     CHECK(ticks == 36);
     for (k = 0; k < 8; k++) CHECK(kept[k] == 0);
 
     for (k = 0; k < 8; k++) kept[k] = 16;
-    CHECK(run(program, length, values, 2, 11, &ended, &value, &steps, &statement, left, kept,
+    CHECK(run(program, length, values, 2, 11, ours, &ended, &value, &steps, &statement, left, kept,
               &ticks) == 0);
     CHECK(ended == 0 && value == 9 && steps == 12 && statement == 8 && ticks == 32);
     CHECK(left[0] == 0 && left[1] == 2 && left[2] == 7 && left[3] == 9 && left[31] == 0);
@@ -74,7 +77,7 @@ static int kept_answers(void) {
 
     values[25] = 7;
     for (k = 0; k < 10; k++) places[k] = 0xa5c3e187;
-    CHECK(rewrites_run(p, strlen(given), values, 0, 4, &ended, &value, &steps, &statement, left,
+    CHECK(rewrites_run(p, strlen(given), values, 0, 4, ours, &ended, &value, &steps, &statement, left,
                        places + 1, &ticks) == 0);
     CHECK(ended == 1 && value == 0 && steps == 4);
     CHECK(places[1] == 5 && places[2] == 7 && places[8] == 0xffffffff);
@@ -83,11 +86,11 @@ static int kept_answers(void) {
 
     /* The budget is spent one step before the end. */
     for (k = 0; k < 10; k++) places[k] = 0xa5c3e187;
-    CHECK(rewrites_run(b, strlen(bare), values, 9, 1, &ended, &value, &steps, &statement, left,
+    CHECK(rewrites_run(b, strlen(bare), values, 9, 1, ours, &ended, &value, &steps, &statement, left,
                        places + 1, &ticks) == 0);
     CHECK(ended == 0 && statement == 2 && left[24] == 9 && left[25] == 7);
     for (k = 0; k < 10; k++) CHECK(places[k] == 0xa5c3e187);
-    CHECK(rewrites_run(b, strlen(bare), values, 9, 2, &ended, &value, &steps, &statement, left,
+    CHECK(rewrites_run(b, strlen(bare), values, 9, 2, ours, &ended, &value, &steps, &statement, left,
                        places + 1, &ticks) == 0);
     CHECK(ended == 1 && value == 9 && steps == 2 && places[1] == 9 && places[2] == 7);
 
@@ -122,17 +125,17 @@ static int division_answers(void) {
 
     for (k = 0; k < 32; k++) left[k] = 14;
     for (k = 0; k < 8; k++) kept[k] = 16;
-    CHECK(rewrites_run(p, strlen(given), values, 0, 2, &ended, &value, &steps, &statement, left,
+    CHECK(rewrites_run(p, strlen(given), values, 0, 2, ours, &ended, &value, &steps, &statement, left,
                        kept, &ticks) == 0);
     CHECK(ended == 2 && statement == 2 && steps == 2 && value == -15 && ticks == 28);
     for (k = 0; k < 32; k++) CHECK(left[k] == 14);
     for (k = 0; k < 8; k++) CHECK(kept[k] == 16);
 
     /* One step before, and by another divisor. */
-    CHECK(rewrites_run(p, strlen(given), values, 0, 1, &ended, &value, &steps, &statement, left,
+    CHECK(rewrites_run(p, strlen(given), values, 0, 1, ours, &ended, &value, &steps, &statement, left,
                        kept, &ticks) == 0);
     CHECK(ended == 0 && statement == 2 && steps == 2 && value == -15 && left[0] == 0 && left[1] == 0);
-    CHECK(rewrites_run(p, strlen(given), values, (uint32_t)-3, 3, &ended, &value, &steps, &statement,
+    CHECK(rewrites_run(p, strlen(given), values, (uint32_t)-3, 3, ours, &ended, &value, &steps, &statement,
                        left, kept, &ticks) == 0);
     CHECK(ended == 1 && value == -3 && steps == 3 && kept[0] == 0 && ticks == 32);
 
@@ -151,8 +154,9 @@ static int division_answers(void) {
 
 /* Prices of each statement, before and after. */
 static int report_answers(void) {
-    uint8_t (*const report)(const uint8_t *, size_t, const uint8_t *, size_t, uint32_t *, uint32_t *,
-                            uint32_t *, uint32_t *, uint32_t *, int32_t *) = rewrites_report;
+    uint8_t (*const report)(const uint8_t *, size_t, const uint8_t *, size_t, const uint32_t *,
+                            uint32_t *, uint32_t *, uint32_t *, uint32_t *, uint32_t *, int32_t *) =
+        rewrites_report;
     static const char given[] = "read i0\ni1 := i0 + 1\ni2 := i0 + 1\ni3 := i2 * i2\nwrite i2\n";
     static const char list[] =
         "3: mark(cse, i1, i0 + 1)\n4: mark(rm, i3, i2 * i2)\n2: mark(rm, i1, i0 + 1)\n";
@@ -166,14 +170,14 @@ static int report_answers(void) {
     size_t k;
 
     for (k = 0; k < 515; k++) places[k] = 0xa5c30000 + (uint32_t)k;
-    CHECK(report(p, length - 1, m, bound, before, after, &statements, &total, &rewritten, &saved) == 2);
-    CHECK(report(p, 0, m, bound, before, after, &statements, &total, &rewritten, &saved) == 3);
-    CHECK(report(NULL, 0, NULL, 0, before, after, &statements, &total, &rewritten, &saved) == 3);
-    CHECK(report(p, length, m, bound - 1, before, after, &statements, &total, &rewritten, &saved) == 9);
+    CHECK(report(p, length - 1, m, bound, ours, before, after, &statements, &total, &rewritten, &saved) == 2);
+    CHECK(report(p, 0, m, bound, ours, before, after, &statements, &total, &rewritten, &saved) == 3);
+    CHECK(report(NULL, 0, NULL, 0, ours, before, after, &statements, &total, &rewritten, &saved) == 3);
+    CHECK(report(p, length, m, bound - 1, ours, before, after, &statements, &total, &rewritten, &saved) == 9);
     CHECK(statements == 11 && total == 12 && rewritten == 13 && saved == -14);
     for (k = 0; k < 515; k++) CHECK(places[k] == 0xa5c30000 + k);
 
-    CHECK(report(p, length, m, bound, before, after, &statements, &total, &rewritten, &saved) == 0);
+    CHECK(report(p, length, m, bound, ours, before, after, &statements, &total, &rewritten, &saved) == 0);
     CHECK(statements == 5 && total == 23 && rewritten == 14 && saved == 9);
     for (k = 0; k < 5; k++) CHECK(before[k] == prices[0][k] && after[k] == prices[1][k]);
     for (k = 6; k < 258; k++) CHECK(places[k] == 0xa5c30000 + k);
@@ -181,9 +185,72 @@ static int report_answers(void) {
     CHECK(places[0] == 0xa5c30000);
 
     /* Without marks both columns are the same. */
-    CHECK(report(p, length, NULL, 0, before, after, &statements, &total, &rewritten, &saved) == 0);
+    CHECK(report(p, length, NULL, 0, ours, before, after, &statements, &total, &rewritten, &saved) == 0);
     CHECK(statements == 5 && total == 23 && rewritten == 23 && saved == 0);
     for (k = 0; k < 5; k++) CHECK(before[k] == prices[0][k] && after[k] == prices[0][k]);
+    return 0;
+}
+
+/* Our prices, and a buyer's own. */
+static int prices_answers(void) {
+    uint8_t (*const read)(const uint8_t *, size_t, uint32_t *) = rewrites_prices;
+    void (*const set)(uint32_t *) = rewrites_our_prices;
+    static const uint32_t first[11] = {4, 4, 1, 3, 2, 3, 3, 9, 3, 3, 24};
+    static const char counted[] = "1\n2\n3\n4\n5\n6\n7\n8\n9\n10\n11\n12\n";
+    static const char zero[] = "1\n2\n3\n4\n5\n6\n7\n8\n9\n10\n11\n0\n";
+    static const char list[] = "2: mark(rm, i1, i0)\n", copy[] = "read i0\ni1 := i0\nwrite i0\n";
+    const uint8_t *text = (const uint8_t *)counted, *p = (const uint8_t *)P;
+    const size_t eleven = strlen(counted) - 3;
+    const uint32_t values[32] = {0};
+    uint32_t places[13], *const prices = places + 1; /* with a word on both sides */
+    uint32_t ended, steps, statement, left[32], kept[8];
+    static uint32_t before[256], after[256];
+    uint32_t statements, given, rewritten;
+    int32_t value, saved;
+    uint64_t ticks;
+    size_t k;
+
+    for (k = 0; k < 13; k++) places[k] = 0xa5c3e187;
+    set(prices);
+    for (k = 0; k < 11; k++) CHECK(prices[k] == first[k] && ours[k] == first[k]);
+
+    /* A refused table changes nothing: 19 before 20. */
+    for (k = 0; k < 11; k++) prices[k] = 70000 + (uint32_t)k;
+    CHECK(read(text, strlen(counted), prices) == 20);
+    CHECK(read(text, eleven - 3, prices) == 20);
+    CHECK(read(text, 0, prices) == 20 && read(NULL, 0, prices) == 20);
+    CHECK(read(text, eleven - 1, prices) == 19 && read(text, strlen(counted) - 1, prices) == 19);
+    CHECK(read((const uint8_t *)zero, strlen(zero), prices) == 19);
+    CHECK(read((const uint8_t *)"65536\n", 6, prices) == 19 && read((const uint8_t *)"\n", 1, prices) == 19);
+    for (k = 0; k < 11; k++) CHECK(prices[k] == 70000 + k);
+
+    CHECK(read(text, eleven, prices) == 0);
+    for (k = 0; k < 11; k++) CHECK(prices[k] == k + 1);
+    CHECK(places[0] == 0xa5c3e187 && places[12] == 0xa5c3e187);
+
+    /* P by the prices 1 to 11. */
+    CHECK(rewrites_run(p, strlen(P), values, 2, 12, prices, &ended, &value, &steps, &statement, left,
+                       kept, &ticks) == 0);
+    CHECK(ended == 1 && value == 9 && steps == 12 && ticks == 55);
+    CHECK(rewrites_report(p, strlen(P), NULL, 0, prices, before, after, &statements, &given, &rewritten,
+                          &saved) == 0);
+    CHECK(statements == 8 && given == 34 && rewritten == 34 && saved == 0);
+    CHECK(before[0] == 1 && before[1] == 5 && before[3] == 6 && before[4] == 4 && before[5] == 7);
+    CHECK(before[7] == 2 && memcmp(before, after, sizeof before) == 0);
+
+    /* Where `skip` is dear, a dropped copy costs. Entries outside the range are ours. */
+    for (k = 0; k < 11; k++) prices[k] = k == 2 ? 65535 : 1;
+    CHECK(rewrites_report((const uint8_t *)copy, strlen(copy), (const uint8_t *)list, strlen(list),
+                          prices, before, after, &statements, &given, &rewritten, &saved) == 0);
+    CHECK(given == 3 && rewritten == 65537 && saved == -65534);
+    prices[0] = 0;
+    prices[1] = 65536;
+    prices[2] = 0xffffffff;
+    CHECK(rewrites_report((const uint8_t *)copy, strlen(copy), (const uint8_t *)list, strlen(list),
+                          prices, before, after, &statements, &given, &rewritten, &saved) == 0);
+    CHECK(before[0] == 4 && before[1] == 1 && before[2] == 4 && after[1] == 1);
+    CHECK(given == 9 && rewritten == 9 && saved == 0);
+    CHECK(prices[0] == 0 && prices[1] == 65536 && prices[2] == 0xffffffff && prices[3] == 1);
     return 0;
 }
 
@@ -214,7 +281,7 @@ static int cse_answers(void) {
     CHECK(first == 2 && second == 1 && third == strlen(reused));
     CHECK(verdicts[0] == 14 && verdicts[1] == 0);
     CHECK(memcmp(text, reused, strlen(reused)) == 0);
-    CHECK(rewrites_run(text, third, values, 4, 4, &ended, &value, &steps, &statement, left, kept,
+    CHECK(rewrites_run(text, third, values, 4, 4, ours, &ended, &value, &steps, &statement, left, kept,
               &ticks) == 0);
     CHECK(ended == 1 && value == 5 && steps == 4);
     CHECK(rewrites_judge(p, length, (const uint8_t *)turned, strlen(turned), verdicts, 256, text, 8704,
@@ -467,7 +534,7 @@ static int below_zero_answers(void) {
     int32_t value;
     uint64_t ticks;
 
-    CHECK(rewrites_run(p, strlen(given), values, 2, 4, &ended, &value, &steps, &statement, left,
+    CHECK(rewrites_run(p, strlen(given), values, 2, 4, ours, &ended, &value, &steps, &statement, left,
                        kept, &ticks) == 0);
     CHECK(ended == 1 && value == 42 && steps == 4);
 
@@ -652,17 +719,19 @@ static int join_answers(void) {
     CHECK(places[0] == 1 && places[1] == 6 && places[2] == 3 && places[3] == bytes && places[4] == 5);
     CHECK(memcmp(text + 8, joined, bytes) == 0);
     for (k = 0; k < sizeof text; k++) CHECK((k >= 8 && k < 8 + bytes) || text[k] == 0xee);
-    CHECK(rewrites_run(text + 8, bytes, values, 4, 100, &ended, &value, &steps, &statement, left, kept,
+    CHECK(rewrites_run(text + 8, bytes, values, 4, 100, ours, &ended, &value, &steps, &statement, left, kept,
                        &ticks) == 0);
     CHECK(ended == 1 && value == 25 && steps == 6 && ticks == 25);
-    CHECK(rewrites_run(text + 8, bytes, values, 0xffffffff, 100, &ended, &value, &steps, &statement, left,
+    CHECK(rewrites_run(text + 8, bytes, values, 0xffffffff, 100, ours, &ended, &value, &steps, &statement, left,
                        kept, &ticks) == 0);
     CHECK(ended == 1 && value == 0 && steps == 5 && ticks == 16);
     return 0;
 }
 
 int main(void) {
-    return run_answers() || kept_answers() || division_answers() || report_answers() || cse_answers() ||
+    rewrites_our_prices(ours);
+    return run_answers() || kept_answers() || division_answers() || report_answers() || prices_answers() ||
+           cse_answers() ||
            tabulate_answers() || force_answers() || review_answers() || full_review_answers() ||
            judge_answers() ||
            below_zero_answers() || mark_line_answers() || list_answers() || join_answers();

@@ -4,8 +4,8 @@
 
 mod common;
 
-use common::{given, lines, refused_programs, shown, text, P};
-use rewrites::{join, raw, run, Joined, Outcome, Refusal, KEPT, TEXT_BYTES};
+use common::{given, lines, refused_programs, run, shown, text, P};
+use rewrites::{join, raw, Joined, Outcome, Refusal, KEPT, TEXT_BYTES};
 
 // What is lent
 

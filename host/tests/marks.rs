@@ -4,9 +4,9 @@
 
 mod common;
 
-use common::{given, lines, refused_programs, shown, text, P};
+use common::{given, lines, refused_programs, run, shown, text, P};
 use oracle::generate::{self, Random};
-use rewrites::{judge, raw, run, tabulate, Judged, Outcome, Refusal, Verdict};
+use rewrites::{judge, raw, tabulate, Judged, Outcome, Refusal, Verdict};
 use rewrites::{FIRST_KEPT, KEPT, PART_WORDS, TABLE_WORDS, TEXT_BYTES, VERDICT_BYTES};
 
 // What is lent

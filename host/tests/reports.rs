@@ -3,7 +3,12 @@
 mod common;
 
 use common::{lines, refused_programs, text, P};
-use rewrites::{judge, report, Refusal, Report, STATEMENTS, TEXT_BYTES, VERDICT_BYTES};
+use rewrites::{judge, Prices, Refusal, Report, STATEMENTS, TEXT_BYTES, VERDICT_BYTES};
+
+/// A report by our prices.
+fn report(program: &[u8], marks: &[u8]) -> Result<Report, Refusal> {
+    rewrites::report(program, marks, &Prices::ours())
+}
 
 /// The report on a program of these lines and a list of these.
 fn told<L: AsRef<str>>(program: &[L], marks: &[&str]) -> Report {

@@ -5,16 +5,17 @@ mod common;
 
 use common::{given, lines, shown, text, P};
 use oracle::machine;
-use rewrites::{raw, Outcome, Refusal, FIRST_KEPT, KEPT};
+use oracle::pricing::OURS;
+use rewrites::{raw, Outcome, Prices, Refusal, FIRST_KEPT, KEPT};
 
 /// What stands for the ticks of an answer that is compared without them.
 const ANY: u64 = u64::MAX;
 
 /// A run. Its ticks are held to the second implementation's and left out, so that only the tests of ticks have to add them up.
 fn run(program: &[u8], values: &[u32; 32], input: u32, budget: u32) -> Result<Outcome, Refusal> {
-    let mut answer = rewrites::run(program, values, input, budget);
+    let mut answer = common::run(program, values, input, budget);
     if let Ok(outcome) = &mut answer {
-        let counted = machine::run(program, *values, input, budget).map(|outcome| outcome.ticks());
+        let counted = machine::run(program, *values, input, budget, &OURS).map(|it| it.ticks());
         assert_eq!(Ok(outcome.ticks()), counted, "{}", shown(program));
         match outcome {
             Outcome::Ended { ticks, .. }
@@ -1364,7 +1365,7 @@ fn what_one_pass_keeps_starts_the_next() {
 
 /// The ticks of a run of the lines from the given values.
 fn ticks<L: AsRef<str>>(lines: &[L], input: u32, budget: u32) -> u64 {
-    let answer = rewrites::run(&text(lines), &given(), input, budget);
+    let answer = common::run(&text(lines), &given(), input, budget);
     answer.expect("the program is taken").ticks()
 }
 
@@ -1477,7 +1478,7 @@ const LENT: Lent = Lent {
 fn lend(text: &[u8], input: u32, budget: u32) -> (u8, Lent) {
     let mut lent = LENT;
     let program = text.to_vec();
-    let values = given();
+    let (values, prices) = (given(), Prices::ours());
     // SAFETY: the pointers come from references, and no two of the written places overlap.
     let number = unsafe {
         raw::rewrites_run(
@@ -1486,6 +1487,7 @@ fn lend(text: &[u8], input: u32, budget: u32) -> (u8, Lent) {
             &values,
             input,
             budget,
+            &prices.0,
             &mut lent.ended,
             &mut lent.value,
             &mut lent.steps,
@@ -1496,7 +1498,7 @@ fn lend(text: &[u8], input: u32, budget: u32) -> (u8, Lent) {
         )
     };
     assert_eq!(program, text);
-    assert_eq!(values, given());
+    assert_eq!((values, prices), (given(), Prices::ours()));
     (number, lent)
 }
 
@@ -1581,6 +1583,8 @@ fn refusals_print_their_words() {
         (9, "some line of the marks misspelled, or the last without its byte 10"),
         (10, "over 256 lines of marks"),
         (21, "joined program of over 256 statements"),
+        (19, "some line of the prices isn't a number from 1 to 65,535, or the last lacks its byte 10"),
+        (20, "other than eleven lines of prices"),
     ];
     let printed = Refusal::ALL.map(|r| (r.number(), r.to_string()));
     assert_eq!(printed, words.map(|(number, words)| (number, words.to_string())));

@@ -1,7 +1,7 @@
 /* Prints how many bytes of stack the deepest calls take. Each runs in a thread whose stack was filled
    with a pattern before; what the thread alone overwrites is not counted. Exits with 0 where `run`,
-   `judge`, `tabulate`, `review`, `mark_line`, `report`, `force`, `list`, `relist` and `join` take no
-   more than the bytes given as arguments. */
+   `judge`, `tabulate`, `review`, `mark_line`, `report`, `force`, `list`, `relist`, `join` and `prices`
+   take no more than the bytes given as arguments. */
 #define _POSIX_C_SOURCE 200112L
 #include "rewrites.h"
 
@@ -17,14 +17,17 @@ static uint8_t program[8704], condition[1024], conditions[32 * 1025], marks[8704
 static size_t program_len, condition_len, conditions_len, marks_len;
 static uint8_t number;
 
+/* A table whose entries all are outside the range, so that each counts as ours. */
+static uint32_t prices[11];
+
 static void *nothing(void *unused) { return unused; }
 
 static void *run(void *unused) {
     static uint32_t values[32], ended, steps, statement, left[32], kept[8];
     static uint64_t ticks;
     static int32_t value;
-    number = rewrites_run(program, program_len, values, 0, 1000, &ended, &value, &steps, &statement,
-                          left, kept, &ticks);
+    number = rewrites_run(program, program_len, values, 0, 1000, prices, &ended, &value, &steps,
+                          &statement, left, kept, &ticks);
     return unused;
 }
 
@@ -65,8 +68,8 @@ static void *judge(void *unused) {
 static void *report(void *unused) {
     static uint32_t before[256], after[256], statements, given, rewritten;
     static int32_t saved;
-    number = rewrites_report(program, program_len, marks, marks_len, before, after, &statements, &given,
-                             &rewritten, &saved);
+    number = rewrites_report(program, program_len, marks, marks_len, prices, before, after, &statements,
+                             &given, &rewritten, &saved);
     return unused;
 }
 
@@ -87,6 +90,16 @@ static void *relist(void *unused) {
     static uint64_t words[256];
     static uint32_t defined[32], used[32];
     number = rewrites_relist(program, program_len, marks, marks_len, words, 256, defined, used);
+    return unused;
+}
+
+/* A table of prices, or lines of one, and the digits of one line. */
+static uint8_t tariff[8704];
+static size_t tariff_len;
+
+static void *read_prices(void *unused) {
+    static uint32_t read[11];
+    number = rewrites_prices(tariff, tariff_len, read);
     return unused;
 }
 
@@ -169,11 +182,11 @@ int main(int count, char **arguments) {
         {"EX ", "true", "", 340, 8}, {"!", "true", "", 1020, 8},  {"E[", "", "", 512, 7},
         {"(", "true", "", 1020, 7},  {"(", "", "", 1024, 7},
     };
-    size_t most[10] = {ROOM, ROOM, ROOM, ROOM, ROOM, ROOM, ROOM, ROOM, ROOM, ROOM};
+    size_t most[11] = {ROOM, ROOM, ROOM, ROOM, ROOM, ROOM, ROOM, ROOM, ROOM, ROOM, ROOM};
     size_t alone = overwritten(nothing), bytes, k;
     int fails = 0, line;
 
-    for (k = 0; k < 10 && k + 1 < (size_t)count; k++) most[k] = strtoul(arguments[k + 1], NULL, 10);
+    for (k = 0; k < 11 && k + 1 < (size_t)count; k++) most[k] = strtoul(arguments[k + 1], NULL, 10);
 
     put_sums();
     bytes = overwritten(judge) - alone;
@@ -208,6 +221,18 @@ int main(int count, char **arguments) {
     bytes = overwritten(mark_line) - alone;
     printf("%7lu bytes of stack: mark_line, the last of 256 marks\n", (unsigned long)bytes);
     fails += number != 0 || bytes > most[4];
+    for (line = 0; line < 11; line++) tariff_len += sprintf((char *)tariff + tariff_len, "65535\n");
+    bytes = overwritten(read_prices) - alone;
+    printf("%7lu bytes of stack: prices, eleven lines\n", (unsigned long)bytes);
+    fails += number != 0 || bytes > most[10];
+    for (line = 11; line < 1400; line++) tariff_len += sprintf((char *)tariff + tariff_len, "65535\n");
+    bytes = overwritten(read_prices) - alone;
+    printf("%7lu bytes of stack: prices, 1,400 lines: %d\n", (unsigned long)bytes, number);
+    fails += number != 20 || bytes > most[10];
+    memset(tariff, '1', sizeof tariff);
+    bytes = overwritten(read_prices) - alone;
+    printf("%7lu bytes of stack: prices, a line of 8,400 digits: %d\n", (unsigned long)bytes, number);
+    fails += number != 19 || bytes > most[10];
     road_len = put_program(road, 128);
     creeper_len = put_program(creeper, 129);
     bytes = overwritten(join) - alone;

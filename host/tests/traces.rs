@@ -4,8 +4,8 @@
 
 mod common;
 
-use common::text;
-use rewrites::{judge, review, run, Outcome};
+use common::{run, text};
+use rewrites::{judge, review, Outcome};
 use rewrites::{KEPT, PART_WORDS, REVIEW_WORDS, TEXT_BYTES, VARIABLES, VERDICT_BYTES};
 
 /// The states before each step of a run, from the first to the last, each a statement and the values there; and how the

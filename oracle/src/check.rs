@@ -2,7 +2,7 @@
 
 use crate::desk;
 use crate::marks::{self, TEXT_BYTES, VERDICT_BYTES};
-use crate::pricing;
+use crate::pricing::{self, OURS};
 
 /// The largest file that is read.
 pub const LARGEST_FILE: usize = 65_535;
@@ -23,7 +23,7 @@ pub fn check(given: &[u8], marks: &[u8]) -> Vec<u8> {
                 output.extend(format!("{} {verdict}\n", mark.number).into_bytes());
             }
             output.extend(&text[..bytes as usize]);
-            let report = pricing::report(given, marks).expect("what was judged is priced");
+            let report = pricing::report(given, marks, &OURS).expect("what was judged is priced");
             output.extend(report.text().into_bytes());
             output
         }

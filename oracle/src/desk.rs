@@ -5,6 +5,7 @@ use crate::forcing::{self, Arm, Player};
 use crate::liveness::{differing, Liveness};
 use crate::machine::{self, Kept, Outcome, Run, State, Values, VALUES};
 use crate::marks::{self, TEXT_BYTES, VERDICT_BYTES};
+use crate::pricing::{read_prices, report, OURS};
 use crate::program::{Program, Statement};
 use crate::steps::Steps;
 use std::ops::RangeInclusive;
@@ -53,6 +54,8 @@ pub fn words(number: u8, program: &[u8]) -> String {
         8 => "over 64 parts".into(),
         9 => "some line misspelled, or the last without its byte 10".into(),
         10 => "over 256 lines".into(),
+        19 => "some line isn't a price from 1 to 65,535, or the last lacks its byte 10".into(),
+        20 => "other than eleven lines".into(),
         22 => "a misspelled or repeated variable".into(),
         _ => "budget over 1,000,000".into(),
     };
@@ -60,6 +63,7 @@ pub fn words(number: u8, program: &[u8]) -> String {
         2..=5 => "the author of the shift program",
         6..=8 => "the author of the condition",
         9 | 10 => "the optimiser",
+        19 | 20 => "the buyer",
         22 => "the author of the driver's list",
         _ => "the host program",
     };
@@ -233,7 +237,7 @@ pub fn run(program: &[u8], start: &[u8], trace: bool) -> String {
         Ok(start) => start,
         Err(words) => return words,
     };
-    let outcome = match machine::run(program, start.values, start.input, start.budget) {
+    let outcome = match machine::run(program, start.values, start.input, start.budget, &OURS) {
         Ok(outcome) => outcome,
         Err(number) => return refused(number, program),
     };
@@ -268,7 +272,7 @@ pub fn compare(program: &[u8], list: &[u8], start: &[u8]) -> String {
         Ok(start) => start,
         Err(words) => return words,
     };
-    let run = |text: &[u8]| machine::run(text, start.values, start.input, start.budget);
+    let run = |text: &[u8]| machine::run(text, start.values, start.input, start.budget, &OURS);
     let given_ends = match run(program) {
         Ok(outcome) => outcome,
         Err(number) => return refused(number, program),
@@ -296,17 +300,47 @@ pub fn compare(program: &[u8], list: &[u8], start: &[u8]) -> String {
     }
     let rewritten_ends = run(&new).expect("a rewritten program is taken");
     for (name, outcome) in [("given", given_ends), ("rewritten", rewritten_ends)] {
-        text += &match outcome {
-            Outcome::Ended { value, steps, kept, ticks } => {
-                format!("{name} {}", ended(value, steps, ticks, &kept))
-            }
-            Outcome::Spent { statement, ticks, .. } => {
-                format!("{name} {}", spent(statement, ticks))
-            }
-            Outcome::Fault { statement, steps, ticks } => {
-                format!("{name} {}", fault(statement, steps, ticks))
-            }
-        };
+        text += &format!("{name} {}", answer_line(&outcome));
     }
     text + "statements, outcome and live variables agree\n"
+}
+
+/// The line of a run's answer, without the values of one that is spent.
+fn answer_line(outcome: &Outcome) -> String {
+    match *outcome {
+        Outcome::Ended { value, steps, kept, ticks } => ended(value, steps, ticks, &kept),
+        Outcome::Spent { statement, ticks, .. } => spent(statement, ticks),
+        Outcome::Fault { statement, steps, ticks } => fault(statement, steps, ticks),
+    }
+}
+
+// A buyer's prices
+
+/// What is shown of a program and a list by a buyer's prices: the report, and where there is a start the answers of both runs.
+/// The table is read first, then the program and the list, then the start.
+pub fn price(program: &[u8], list: &[u8], table: &[u8], start: Option<&[u8]>) -> String {
+    let prices = match read_prices(table) {
+        Ok(prices) => prices,
+        Err(number) => return refused(number, program),
+    };
+    let text = match report(program, list, &prices) {
+        Ok(report) => report.text(),
+        Err(number) => return refused(number, program),
+    };
+    let start = match start.map(read_start) {
+        None => return text,
+        Some(Ok(start)) => start,
+        Some(Err(words)) => return words,
+    };
+    let mut new = vec![0; TEXT_BYTES];
+    let judged = marks::judge(program, list, &mut [0; VERDICT_BYTES], &mut new);
+    let (_, _, bytes) = judged.expect("what is priced is judged");
+    let run = |text: &[u8]| machine::run(text, start.values, start.input, start.budget, &prices);
+    match (run(program), run(&new[..bytes as usize])) {
+        (Ok(given), Ok(rewritten)) => {
+            let (given, rewritten) = (answer_line(&given), answer_line(&rewritten));
+            text + &format!("given {given}rewritten {rewritten}")
+        }
+        (Err(number), _) | (_, Err(number)) => refused(number, program),
+    }
 }

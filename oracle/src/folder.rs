@@ -124,6 +124,15 @@ pub fn conditions(random: &mut Random, given: &Program) -> Vec<u8> {
     }
 }
 
+/// A buyer's prices, at times refused, 19 or 20.
+pub fn prices(random: &mut Random) -> Vec<u8> {
+    match random.below(60) {
+        0 => long("7\n", LARGEST_FILE + random.below(5)),
+        1..=20 => generate::price_text(random),
+        _ => generate::table_text(random),
+    }
+}
+
 /// A start, at times damaged; budgets are small, so that traces are.
 pub fn start(random: &mut Random) -> Vec<u8> {
     let budget = match random.below(20) {

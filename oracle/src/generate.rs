@@ -3,6 +3,7 @@
 use crate::condition::{Condition, LONGEST_TEXT, MOST_PARTS};
 use crate::machine::{Values, LARGEST_BUDGET};
 use crate::marks::{Judge, Kind, Mark};
+use crate::pricing::{self, Prices, KINDS, OURS};
 use crate::program::{
     is_kept, Expression, Operand, Operator, Program, Statement, FIRST_KEPT, KEPT, LARGEST, LEAST,
     MOST_LINES, VARIABLES,
@@ -1526,4 +1527,146 @@ pub fn wrong_driver(random: &mut Random, wrong: WrongDriver, his: &[u8]) -> Vec<
         WrongDriver::Byte => names[at].push(random.pick(&['\0', '%', '\u{e9}', 'x', ':'])),
     }
     names.join(" ").into_bytes()
+}
+
+/// A price that a buyer's table may have, often at an end of the range or of a number of digits.
+pub fn price(random: &mut Random) -> u32 {
+    match random.below(4) {
+        0 => random.pick(&[1, 2, 65_534, 65_535]),
+        1 => random.pick(&[9, 10, 99, 100, 255, 256, 999, 1_000, 9_999, 10_000, 32_768, 65_530]),
+        2 => random.between(1, 99) as u32,
+        _ => random.between(1, 65_535) as u32,
+    }
+}
+
+/// A number outside that range.
+pub fn outside(random: &mut Random) -> u32 {
+    match random.below(3) {
+        0 => random.pick(&[0, 65_536, u32::MAX]),
+        1 => random.pick(&[65_537, 65_540, 131_072, 131_073, 1 << 31, (1 << 31) - 1, u32::MAX - 1]),
+        _ => (word(random) | 1 << random.between(16, 31)).max(65_536),
+    }
+}
+
+/// A table of prices, ours among them, of equal ones, or with entries outside the range in places.
+pub fn prices(random: &mut Random) -> Prices {
+    match random.below(10) {
+        0 => OURS,
+        1 => [price(random); KINDS],
+        2 => std::array::from_fn(|k| k as u32 + 1),
+        3 => std::array::from_fn(|_| outside(random)),
+        4..=6 => {
+            let share = random.pick(&[10, 30, 60]);
+            std::array::from_fn(|_| match random.chance(share) {
+                true => outside(random),
+                false => price(random),
+            })
+        }
+        _ => std::array::from_fn(|_| price(random)),
+    }
+}
+
+/// Right prices: eleven of them in most cases, else some other number.
+pub fn price_list(random: &mut Random) -> Vec<u32> {
+    let count = match random.below(10) {
+        0 => random.pick(&[10, 12]),
+        1 => random.below(14),
+        2 => random.pick(&[0, 1, 22, 256, 300]),
+        _ => KINDS,
+    };
+    (0..count).map(|_| price(random)).collect()
+}
+
+/// The text of a table of right prices.
+pub fn table_text(random: &mut Random) -> Vec<u8> {
+    let prices: Prices = std::array::from_fn(|_| price(random));
+    pricing::table_text(&prices)
+}
+
+/// A wrong line of a table of prices.
+#[derive(Clone, Copy, Debug, PartialEq, Eq, PartialOrd, Ord)]
+pub enum WrongPrice {
+    Zero,
+    /// 65,536 and larger numbers.
+    TooLarge,
+    /// A number that lies in the range only when it wraps at 16, 32 or 64 bits.
+    Wrapping,
+    /// A thousand digits.
+    ManyDigits,
+    /// `07`, `007`.
+    LeadingZero,
+    /// `-1`, `+1`.
+    Sign,
+    /// No byte before its byte 10.
+    Empty,
+    /// A space before it, behind it or in it.
+    Space,
+    /// Byte 13 before its byte 10.
+    Return,
+    /// A fraction, an exponent, a comma, a letter or another byte.
+    Byte,
+    /// The last without its byte 10.
+    Unfinished,
+}
+
+impl WrongPrice {
+    pub const ALL: [WrongPrice; 11] = [
+        WrongPrice::Zero,
+        WrongPrice::TooLarge,
+        WrongPrice::Wrapping,
+        WrongPrice::ManyDigits,
+        WrongPrice::LeadingZero,
+        WrongPrice::Sign,
+        WrongPrice::Empty,
+        WrongPrice::Space,
+        WrongPrice::Return,
+        WrongPrice::Byte,
+        WrongPrice::Unfinished,
+    ];
+}
+
+/// The text of a list of prices with one line wrong, one more line where it has none. No such text is a table.
+pub fn wrong_prices(random: &mut Random, wrong: WrongPrice, prices: &[u32]) -> Vec<u8> {
+    let mut lines: Vec<String> = prices.iter().map(u32::to_string).collect();
+    if lines.is_empty() {
+        lines.push(price(random).to_string());
+    }
+    let at = random.below(lines.len());
+    let place = random.below(lines[at].len() + 1);
+    match wrong {
+        WrongPrice::Zero => lines[at] = random.pick(&["0", "00", "-0"]).to_string(),
+        WrongPrice::TooLarge => lines[at] = outside(random).max(65_536).to_string(),
+        WrongPrice::Wrapping => {
+            let wide = random.pick(&[1_u128 << 16, 1 << 32, 1 << 64]);
+            lines[at] = (wide + u128::from(price(random))).to_string();
+        }
+        WrongPrice::ManyDigits => {
+            let digit = random.pick(&["0", "1", "6", "9"]);
+            lines[at] = digit.repeat(1_000) + random.pick(&["", "1", "65535"]);
+        }
+        WrongPrice::LeadingZero => lines[at].insert_str(0, random.pick(&["0", "00"])),
+        WrongPrice::Sign => lines[at].insert(0, random.pick(&['-', '+'])),
+        WrongPrice::Empty => lines[at].clear(),
+        WrongPrice::Space => lines[at].insert(place, ' '),
+        WrongPrice::Return => lines[at].push('\r'),
+        WrongPrice::Byte => {
+            let byte = random.pick(&['.', 'e', ',', 'x', '_', '\t', '\0', ':', '/', '\u{e9}']);
+            lines[at].insert(place, byte);
+        }
+        WrongPrice::Unfinished => return lines.join("\n").into_bytes(),
+    }
+    lines.iter().map(|line| line.clone() + "\n").collect::<String>().into_bytes()
+}
+
+/// A buyer's text: a table in most cases, else other than eleven lines, a wrong line, or damaged.
+pub fn price_text(random: &mut Random) -> Vec<u8> {
+    let list = price_list(random);
+    match random.below(10) {
+        0..=2 => {
+            let wrong = random.pick(&WrongPrice::ALL);
+            wrong_prices(random, wrong, &list)
+        }
+        3 => damage(random, &pricing::table_text(&list)),
+        _ => pricing::table_text(&list),
+    }
 }

@@ -2,7 +2,7 @@
 
 use crate::machine::{Outcome, Run, State, Values};
 use crate::marks::TEXT_BYTES;
-use crate::pricing::{price, OURS};
+use crate::pricing::{price, Prices};
 use crate::program::{Expression, Operand, Program, Statement, MOST_LINES};
 
 /// The one program that two become, or the refusal 21. The road's `write X` and the creeper's `read Y` become `Y := X`, and
@@ -79,7 +79,7 @@ impl<'a> InTurn<'a> {
 
     /// The price of the next step. That of the seam is one assignment's, neither a `write`'s nor a `read`'s, so the ticks of both aren't the sum of
     /// the two programs' ticks.
-    pub fn cost(&self) -> u64 {
+    pub fn cost(&self, prices: &Prices) -> u64 {
         let seam = (self.road.statements().last(), self.creeper.statement(1));
         match (*self.run.state(), seam) {
             (
@@ -87,9 +87,9 @@ impl<'a> InTurn<'a> {
                 (Some(&Statement::Write(x)), Some(&Statement::Read(y))),
             ) if !self.is_second && statement == self.road.count() => {
                 let copy = Statement::Assign(y, Expression::Single(Operand::Variable(x)));
-                u64::from(price(&OURS, &copy))
+                u64::from(price(prices, &copy))
             }
-            _ => self.run.cost(),
+            _ => self.run.cost(prices),
         }
     }
 
@@ -117,6 +117,7 @@ pub fn run_in_turn(
     values: Values,
     input: u32,
     budget: u32,
+    prices: &Prices,
 ) -> Outcome {
     let mut both = InTurn::start(road, creeper, values, input);
     let (mut steps, mut ticks) = (0, 0);
@@ -129,7 +130,7 @@ pub fn run_in_turn(
             }
             State::Before { .. } => {}
         }
-        ticks += both.cost();
+        ticks += both.cost(prices);
         both.step();
         steps += 1;
     }

@@ -1,6 +1,6 @@
 //! Runs by steps.
 
-use crate::pricing::{price, OURS};
+use crate::pricing::{price, Prices};
 use crate::program::{Expression, Operand, Operator, Program, Statement, FIRST_KEPT, KEPT};
 
 /// The number of variables.
@@ -122,12 +122,12 @@ impl<'a> Run<'a> {
         &self.state
     }
 
-    /// The price of the statement that the next step performs; nothing once the run is over.
-    pub fn cost(&self) -> u64 {
+    /// The price of the statement that the next step performs, by this table; nothing once the run is over.
+    pub fn cost(&self, prices: &Prices) -> u64 {
         match self.state {
             State::Before { statement, .. } => {
                 let statement = &self.program.statements()[statement as usize - 1];
-                u64::from(price(&OURS, statement))
+                u64::from(price(prices, statement))
             }
             State::Ended { .. } | State::Faulted { .. } => 0,
         }
@@ -163,8 +163,14 @@ impl<'a> Run<'a> {
     }
 }
 
-/// A run of a program that is taken, under a budget of any size.
-pub fn run_program(program: &Program, values: Values, input: u32, budget: u32) -> Outcome {
+/// A run of a program that is taken, under a budget of any size, with its ticks by this table of prices.
+pub fn run_program(
+    program: &Program,
+    values: Values,
+    input: u32,
+    budget: u32,
+    prices: &Prices,
+) -> Outcome {
     let mut run = Run::start(program, values, input);
     let (mut steps, mut ticks) = (0, 0);
     loop {
@@ -176,18 +182,24 @@ pub fn run_program(program: &Program, values: Values, input: u32, budget: u32) -
             }
             State::Before { .. } => {}
         }
-        ticks += run.cost();
+        ticks += run.cost(prices);
         run.step();
         steps += 1;
     }
 }
 
 /// The call: a run's outcome, or the refusal, 15 or 2 to 5.
-pub fn run(program: &[u8], values: Values, input: u32, budget: u32) -> Result<Outcome, u8> {
+pub fn run(
+    program: &[u8],
+    values: Values,
+    input: u32,
+    budget: u32,
+    prices: &Prices,
+) -> Result<Outcome, u8> {
     if budget > LARGEST_BUDGET {
         return Err(15);
     }
-    Ok(run_program(&Program::read(program)?, values, input, budget))
+    Ok(run_program(&Program::read(program)?, values, input, budget, prices))
 }
 
 /// Whether two runs stand at the same place: before one statement, ended with one value and the same kept ones, or

@@ -1,7 +1,8 @@
-//! Prices in ticks: of a statement, of a program, and the report on a list of marks.
+//! Prices in ticks: of a statement, of a program, and the report on a list of marks; a buyer's table of prices.
 
 use crate::marks::{self, Judge};
 use crate::program::{Expression, Operator, Program, Statement};
+use std::ops::RangeInclusive;
 
 /// The number of kinds of statements that have a price of their own.
 pub const KINDS: usize = 11;
@@ -35,8 +36,41 @@ pub fn kind(statement: &Statement) -> usize {
     }
 }
 
+/// The prices that a buyer's table may have.
+pub const RANGE: RangeInclusive<u32> = 1..=65_535;
+
+/// The price of a kind by the table in force: the table's own where it lies in the range, else ours.
+pub fn in_force(prices: &Prices, kind: usize) -> u32 {
+    Some(prices[kind]).filter(|price| RANGE.contains(price)).unwrap_or(OURS[kind])
+}
+
 pub fn price(prices: &Prices, statement: &Statement) -> u32 {
-    prices[kind(statement)]
+    in_force(prices, kind(statement))
+}
+
+/// The price that a line spells: the one number of the range whose decimal digits and byte 10 are this line.
+fn read_price(line: &[u8]) -> Option<u32> {
+    let digits = std::str::from_utf8(line.strip_suffix(b"\n")?).ok()?;
+    let price = digits.parse().ok().filter(|price| RANGE.contains(price))?;
+    Some(price).filter(|price| price.to_string() == digits)
+}
+
+/// The table that a text spells, or the refusal: 19 where a line is wrong, else 20 where there aren't eleven.
+pub fn read_prices(text: &[u8]) -> Result<Prices, u8> {
+    let lines = text.split_inclusive(|&byte| byte == b'\n');
+    let prices: Vec<u32> = lines.map(read_price).collect::<Option<_>>().ok_or(19)?;
+    prices.try_into().map_err(|_| 20)
+}
+
+/// The call: puts the text's table in place of the one that the caller holds, or keeps that, and tells the refusal.
+pub fn replace(text: &[u8], prices: &mut Prices) -> Result<(), u8> {
+    *prices = read_prices(text)?;
+    Ok(())
+}
+
+/// The text that spells a table.
+pub fn table_text(prices: &[u32]) -> Vec<u8> {
+    prices.iter().map(|price| format!("{price}\n")).collect::<String>().into_bytes()
 }
 
 /// The price of each statement, in the order of lines.
@@ -76,10 +110,10 @@ fn compared(prices: &Prices, given: &Program, rewritten: &Program) -> Report {
     Report { before, after, given, rewritten, saved }
 }
 
-/// The call: the report on a list of marks, or the refusal, 2 to 5, 9 or 10.
-pub fn report(program: &[u8], list: &[u8]) -> Result<Report, u8> {
+/// The call: the report on a list of marks by a table of prices, or the refusal, 2 to 5, 9 or 10.
+pub fn report(program: &[u8], list: &[u8], prices: &Prices) -> Result<Report, u8> {
     let given = Program::read(program)?;
     let list = marks::read(list)?;
     let verdicts = Judge::new(&given).verdicts(&list);
-    Ok(compared(&OURS, &given, &marks::rewritten(&given, &list, &verdicts)))
+    Ok(compared(prices, &given, &marks::rewritten(&given, &list, &verdicts)))
 }

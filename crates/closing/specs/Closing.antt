@@ -7,6 +7,7 @@ use lib.ListN.{length}
 use Rattle.statement_writer.specs.Writing.{Put}
 use Rattle.language.specs.declared.Statement.{Statement}
 use Rattle.program.specs.Program.{Taken}
+use Rattle.pricing.specs.Prices.{ours}
 use Rattle.machine.specs.Machine.{after}
 use Rattle.machine.specs.declared.Answer.{Answer}
 use Rattle.lockstep.specs.Lockstep.{Agree, Side, Alike}
@@ -27,11 +28,11 @@ closingText a b ks = bytes "given " ++ (answerLine a ks ++ (bytes "rewritten " +
 abbrev pub closing-room : ℕ
 closing-room = 6 + (answer-room + (10 + (answer-room + 45)))
 
--- demand 3 for this start: the two texts' runs answer alike, and keep the same
+-- demand 3 for this start and our prices: the two texts' runs answer alike, and keep the same
 abbrev pub RunAlike : List ℕ → List ℕ → List ℕ → ℕ → ℕ → Type 0
 RunAlike t w vs input budget =
     (a b : RunAnswer) (us ws ks hs : List ℕ)
-    → RunAnswers t vs input budget a us ks → RunAnswers w vs input budget b ws hs → RunsAlike a b × (ks ≡ hs)
+    → RunAnswers ours t vs input budget a us ks → RunAnswers ours w vs input budget b ws hs → RunsAlike a b × (ks ≡ hs)
 
 -- the same of the steps: before each both runs stand before one statement, and every variable that the given program may still use before
 -- defining it holds the same value in both
@@ -46,8 +47,8 @@ pub record Closes (t w vs : List ℕ) (input budget : ℕ) (o q : List ℕ) (n :
   pub us : List ℕ
   pub ws : List ℕ
   pub ks : List ℕ
-  pub one : RunFinished t vs input budget given us ks
-  pub two : RunFinished w vs input budget rewritten ws ks
+  pub one : RunFinished ours t vs input budget given us ks
+  pub two : RunFinished ours w vs input budget rewritten ws ks
   pub alike : Alike given rewritten
   pub traces : TraceAlike t w vs input
   pub fits : length (closingText given rewritten ks) ≤ length o

@@ -19,10 +19,11 @@ pub fn write(
     requires { ⌜ TraceAlike (now program) (now new) values input ⌝ }
     ensures { λ r. ⌜ Closes (now (program .entry)) (now (new .entry)) values input budget (now (out .entry)) (now (out .exit)) r ⌝ }
 {
-    let one = run::run(program, values, input, budget);
+    let prices = pricing::ours();
+    let one = run::run(program, values, input, budget, prices);
     let given = one.answer;
     let kept = one.kept;
-    let two = run::run(new, values, input, budget);
+    let two = run::run(new, values, input, budget, prices);
     let rewritten = two.answer;
     let others = two.kept;
     let RunAnswer::Finished(a) = given else {

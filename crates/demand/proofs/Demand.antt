@@ -13,7 +13,7 @@ use Rattle.language.specs.Spelling.{variables}
 use Rattle.language.specs.declared.Statement.{Statement}
 use Rattle.program.specs.Program.{text, Taken}
 use Rattle.program.proofs.RoundTrip.{taken-unique}
-use Rattle.pricing.specs.Prices.{ours}
+use Rattle.pricing.specs.Prices.{inForce}
 use Rattle.machine.specs.Answer.{Answers}
 use Rattle.machine.specs.declared.Answer.{Answer}
 use Rattle.marks.specs.Reading as marks
@@ -31,14 +31,14 @@ use Rattle.demand.specs.Demand.{RunsAlike, Demand3}
 use Rattle.run.specs.declared.RunAnswer.{RunAnswer}
 use Rattle.run.specs.declared.RunAnswer.the-variants.{Refused, Finished}
 
-module _ {t : List ℕ} {P : List Statement} (taken : Taken t P) (start : List ℕ) (input budget : ℕ) (allowed : budget ≤ most-steps) where
+module _ {t : List ℕ} {P : List Statement} (taken : Taken t P) (ps start : List ℕ) (input budget : ℕ) (allowed : budget ≤ most-steps) where
   -- a text that is taken gets none of 2 to 5, and an allowed budget not 15; the program that answers is the one that the text is taken as
   called-answers :
-      (r : RunAnswer) (ws ks : List ℕ) → RunAnswers t start input budget r ws ks
-      → (a : Answer) × (r ≡ Finished a) × Answers ours P start input budget a ws ks
+      (r : RunAnswer) (ws ks : List ℕ) → RunAnswers ps t start input budget r ws ks
+      → (a : Answer) × (r ≡ Finished a) × Answers (inForce ps) P start input budget a ws ks
   called-answers (Refused n) ws ks r = absurd (never-refused t budget (r .0) allowed taken)
   called-answers (Finished a) ws ks f =
-      (a, refl, subst (λ (Q : List Statement). Answers ours Q start input budget a ws ks) (taken-unique (f .taken) taken) (f .answers))
+      (a, refl, subst (λ (Q : List Statement). Answers (inForce ps) Q start input budget a ws ks) (taken-unique (f .taken) taken) (f .answers))
 
 pub demand-3 :
     {t u : List ℕ} {P : List Statement} {ms : List Mark} → Taken t P → marks.Taken u ms
@@ -64,9 +64,9 @@ demand-3 {t} {u} {P} {ms} given listed vs judged Q r = record {
     taken = record { lines = refl; program = changed-wellformed (given .program) changed }
 
     alike :
-        (start : List ℕ) → length start ≡ variables → (input budget : ℕ) → budget ≤ most-steps → (a b : RunAnswer) (ws us ks hs : List ℕ)
-        → RunAnswers t start input budget a ws ks → RunAnswers (text Q) start input budget b us hs → RunsAlike a b × (ks ≡ hs)
-    alike start l input budget allowed a b ws us ks hs p q =
-        let x = called-answers given start input budget allowed a ws ks p in
-        let y = called-answers taken start input budget allowed b us hs q in
-        rw (x .1, y .1) (answers-alike (given .program) changed start l input ours budget (x .0) (y .0) ws us ks hs (x .2) (y .2))
+        (ps start : List ℕ) → length start ≡ variables → (input budget : ℕ) → budget ≤ most-steps → (a b : RunAnswer) (ws us ks hs : List ℕ)
+        → RunAnswers ps t start input budget a ws ks → RunAnswers ps (text Q) start input budget b us hs → RunsAlike a b × (ks ≡ hs)
+    alike ps start l input budget allowed a b ws us ks hs p q =
+        let x = called-answers given ps start input budget allowed a ws ks p in
+        let y = called-answers taken ps start input budget allowed b us hs q in
+        rw (x .1, y .1) (answers-alike (given .program) changed start l input (inForce ps) budget (x .0) (y .0) ws us ks hs (x .2) (y .2))

@@ -46,6 +46,6 @@ pub record Demand3 (t u vs w : List ℕ) : Type 0 where
   -- before each step, as long as the run lasts"
   pub traces : (start : List ℕ) → length start ≡ variables → (input k : ℕ) → Side (Agree P) (after P start input k) (after Q start input k)
   -- "Under every budget that isn't refused, the two runs answer the same value and the same steps, or 'spent' at the same statement";
-  -- document 02: "given and rewritten programs must match in all nine"
-  pub alike : (start : List ℕ) → length start ≡ variables → (input budget : ℕ) → budget ≤ most-steps → (a b : RunAnswer) (ws us ks hs : List ℕ)
-      → RunAnswers t start input budget a ws ks → RunAnswers w start input budget b us hs → RunsAlike a b × (ks ≡ hs)
+  -- document 02: "given and rewritten programs must match in all nine". ps is the table of prices, the same for both and any
+  pub alike : (ps start : List ℕ) → length start ≡ variables → (input budget : ℕ) → budget ≤ most-steps → (a b : RunAnswer) (ws us ks hs : List ℕ)
+      → RunAnswers ps t start input budget a ws ks → RunAnswers ps w start input budget b us hs → RunsAlike a b × (ks ≡ hs)

@@ -28,6 +28,8 @@ refusals =
     ∷ whole 10 "the optimiser: over 256 lines"
     ∷ whole 16 "the author of the review: no line or over 32 lines"
     ∷ whole 17 "the author of the review: over 128 differing parts"
+    ∷ whole 19 "the buyer: some price misspelled or outside 1 to 65,535, or the last without its byte 10"
+    ∷ whole 20 "the buyer: other than 11 lines of prices"
     ∷ whole 21 "the author of the shift program: the joined program has over 256 statements"
     ∷ whole 22 "the author of the driver's list: a variable misspelled or named twice"
     ∷ []

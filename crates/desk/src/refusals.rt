@@ -92,6 +92,12 @@ pub fn words(out: &mut [u8], at: usize, n: u8, line: u32) -> usize
             at,
             b"the author of the review: over 128 differing parts",
         ),
+        19 => statement_writer::word(
+            out,
+            at,
+            b"the buyer: some price misspelled or outside 1 to 65,535, or the last without its byte 10",
+        ),
+        20 => statement_writer::word(out, at, b"the buyer: other than 11 lines of prices"),
         21 => statement_writer::word(
             out,
             at,

@@ -9,7 +9,7 @@ use Rattle.pricing.proofs.Columns.{column-length}
 use Rattle.price_list.specs.declared.PriceList.{PriceList}
 use Rattle.priced.specs.Priced.{ReportListed}
 
-pub listed-sizes : {t u : List ℕ} {l : PriceList} → ReportListed t u l → (l .count ≤ most) × (length (l .before) ≡ most) × (length (l .after) ≡ most)
+pub listed-sizes : {ps t u : List ℕ} {l : PriceList} → ReportListed ps t u l → (l .count ≤ most) × (length (l .before) ≡ most) × (length (l .after) ≡ most)
 listed-sizes r =
     let s = r .listed in
     (omega (arith, s .counted, r .program .program .counted .1), ap length (s .before) ∙ column-length _ _, ap length (s .after) ∙ column-length _ _)

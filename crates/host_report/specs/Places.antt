@@ -39,9 +39,9 @@ abbrev pub ReportReturned : PriceAnswer → PriceList → ℕ → ReportPlaces �
 ReportReturned (Refused n) l r o q = (r ≡ n) × (q ≡ o)
 ReportReturned Listed l r o q = (r ≡ 0) × (q ≡ placed l o)
 
--- the number and the places are those of the one answer of `report`
-pub record ReportExported (t u : List ℕ) (r : ℕ) (o q : ReportPlaces) : Type 0 where
+-- the number and the places are those of the one answer of `report` under the table ps
+pub record ReportExported (ps t u : List ℕ) (r : ℕ) (o q : ReportPlaces) : Type 0 where
   pub answer : PriceAnswer
   pub list : PriceList
-  pub answers : ReportAnswers t u answer list
+  pub answers : ReportAnswers ps t u answer list
   pub returned : ReportReturned answer list r o q

@@ -5,6 +5,7 @@ ghost use lib.ListN.{length};
 ghost use Rattle.program.specs.Program.{most};
 ghost use Rattle.host_report.specs.Places.{begun, ReportExported};
 use priced::PriceAnswer;
+use pricing::KINDS;
 use program::MOST;
 
 // The first n entries are copied, and the others are kept.
@@ -22,6 +23,7 @@ fn copy(from: &[u32; MOST], n: usize, out: &mut [u32; MOST])
 pub fn export(
     program: &[u8],
     marks: &[u8],
+    prices: &[u32; KINDS],
     before: &mut [u32; MOST],
     after: &mut [u32; MOST],
     statements: &mut u32,
@@ -29,9 +31,10 @@ pub fn export(
     rewritten: &mut u32,
     saved: &mut i32,
 ) -> u8
-    ensures { λ r. ⌜ ReportExported (now (program .entry)) (now (marks .entry)) r (record { before = now (before .entry); after = now (after .entry); statements = now (statements .entry); given = now (given .entry); rewritten = now (rewritten .entry); saved = now (saved .entry) }) (record { before = now (before .exit); after = now (after .exit); statements = now (statements .exit); given = now (given .exit); rewritten = now (rewritten .exit); saved = now (saved .exit) }) ⌝ }
+    ensures { λ r. ⌜ ReportExported (now (prices .entry)) (now (program .entry)) (now (marks .entry)) r (record { before = now (before .entry); after = now (after .entry); statements = now (statements .entry); given = now (given .entry); rewritten = now (rewritten .entry); saved = now (saved .entry) }) (record { before = now (before .exit); after = now (after .exit); statements = now (statements .exit); given = now (given .exit); rewritten = now (rewritten .exit); saved = now (saved .exit) }) ⌝ }
 {
-    let priced = priced::report(program, marks);
+    let table = *prices;
+    let priced = priced::report(program, marks, table);
     let answer = priced.answer;
     match answer {
         PriceAnswer::Refused(number) => number,

@@ -30,10 +30,10 @@ abbrev pub RunReturned : RunAnswer → List ℕ → List ℕ → ℕ → RunPlac
 RunReturned (Refused n) ws ks r o q = (r ≡ n) × (q ≡ o)
 RunReturned (Finished a) ws ks r o q = (r ≡ 0) × (q ≡ placed a ws ks o)
 
--- the number and the places are those of the one answer of `run`
-pub record RunExported (t vs : List ℕ) (input budget r : ℕ) (o q : RunPlaces) : Type 0 where
+-- the number and the places are those of the one answer of `run` under the table ps
+pub record RunExported (ps t vs : List ℕ) (input budget r : ℕ) (o q : RunPlaces) : Type 0 where
   pub answer : RunAnswer
   pub values : List ℕ
   pub eight : List ℕ
-  pub answers : RunAnswers t vs input budget answer values eight
+  pub answers : RunAnswers ps t vs input budget answer values eight
   pub returned : RunReturned answer values eight r o q

@@ -3,6 +3,7 @@ ghost use Rattle.host_run.specs.Places.{RunExported};
 use language::KEPT;
 use machine::Answer;
 use machine::VALUES;
+use pricing::KINDS;
 use run::RunAnswer;
 
 pub fn export(
@@ -10,6 +11,7 @@ pub fn export(
     values: &[u32; VALUES],
     input: u32,
     budget: u32,
+    prices: &[u32; KINDS],
     ended: &mut u32,
     value: &mut i32,
     steps: &mut u32,
@@ -18,10 +20,11 @@ pub fn export(
     kept: &mut [u32; KEPT],
     ticks: &mut u64,
 ) -> u8
-    ensures { λ r. ⌜ RunExported (now (program .entry)) (now (values .entry)) input budget r (record { ended = now (ended .entry); value = now (value .entry); steps = now (steps .entry); statement = now (statement .entry); left = now (left .entry); kept = now (kept .entry); ticks = now (ticks .entry) }) (record { ended = now (ended .exit); value = now (value .exit); steps = now (steps .exit); statement = now (statement .exit); left = now (left .exit); kept = now (kept .exit); ticks = now (ticks .exit) }) ⌝ }
+    ensures { λ r. ⌜ RunExported (now (prices .entry)) (now (program .entry)) (now (values .entry)) input budget r (record { ended = now (ended .entry); value = now (value .entry); steps = now (steps .entry); statement = now (statement .entry); left = now (left .entry); kept = now (kept .entry); ticks = now (ticks .entry) }) (record { ended = now (ended .exit); value = now (value .exit); steps = now (steps .exit); statement = now (statement .exit); left = now (left .exit); kept = now (kept .exit); ticks = now (ticks .exit) }) ⌝ }
 {
     let start = *values;
-    let ran = run::run(program, start, input, budget);
+    let table = *prices;
+    let ran = run::run(program, start, input, budget, table);
     let after = ran.values;
     let eight = ran.kept;
     let answer = ran.answer;

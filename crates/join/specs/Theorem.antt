@@ -4,7 +4,7 @@
 -- step. Where the road ends at step k, leaving the values w and writing v, the joined run after k + j steps is where the creeper program,
 -- started with w and the input v, is after j + 1 steps, N-1 places further on, with the same values, end, kept values and fault. So the steps of
 -- two programs that end are their sum less 1, and where the road never ends, or the creeper never ends after it, neither does the whole.
--- What `run` answers under a budget agrees with all this.
+-- What `run` answers under a budget and any table of prices agrees with all this.
 use mathlib.Core.List.{List}
 use Prim.Native.Nat.{ℕ}
 use Rattle.language.specs.declared.Statement.{Statement}
@@ -21,4 +21,4 @@ pub record JoinedTexts (t u w : List ℕ) : Type 0 where
   pub creeper : Taken u Q
   pub taken : Taken w (joined P Q)
   pub runs : (vs : List ℕ) (input : ℕ) → JoinedRuns P Q (joined P Q) vs input
-  pub answers : (vs : List ℕ) (input : ℕ) → JoinedAnswers P t u w vs input
+  pub answers : (ps vs : List ℕ) (input : ℕ) → JoinedAnswers ps P t u w vs input

@@ -9,6 +9,7 @@ use Rattle.language.specs.Kept.{keptOf}
 use Rattle.statement_writer.specs.Writing.{Put}
 use Rattle.statement_writer.proofs.Puts.{put-within}
 use Rattle.blame.specs.Blame.{Blamed}
+use Rattle.pricing.specs.Prices.{ours}
 use Rattle.machine.specs.declared.Answer.{Answer}
 use Rattle.run.specs.Run.{RunRefused, RunAnswers}
 use Rattle.run.specs.declared.RunAnswer.{RunAnswer}
@@ -23,7 +24,7 @@ use Rattle.outcome.specs.declared.Told.{Told}
 use Rattle.outcome.specs.declared.Told.the-variants.{Written, Refused, NoRoom}
 
 -- an answer that is told
-module _ {t : List ℕ} (vs : List ℕ) (input : ℕ) {budget : ℕ} {r : RunAnswer} {o q : List ℕ} {n : ℕ} (left kept : List ℕ) (h : RunAnswers t vs input budget r left kept) where
+module _ {t : List ℕ} (vs : List ℕ) (input : ℕ) {budget : ℕ} {r : RunAnswer} {o q : List ℕ} {n : ℕ} (left kept : List ℕ) (h : RunAnswers ours t vs input budget r left kept) where
   pub refusal-printed : (k line : ℕ) → r ≡ run.Refused k → Blamed t k line
       → length (refusalText k line) ≤ length o → Put o 0 (refusalText k line) q n → RunPrints t vs input budget o q (Refused n)
   refusal-printed k line is about fits put =

@@ -9,7 +9,7 @@ use Rattle.program.specs.Reading.{number}
 use Rattle.program.specs.declared.Refusal as program
 use Rattle.program.specs.declared.Refusal.the-variants.{Misspelled, LineCount, Placement, Target}
 use Rattle.program.proofs.RoundTrip.{taken-unique}
-use Rattle.pricing.specs.Prices.{ours}
+use Rattle.pricing.specs.Prices.{ours, inForce}
 use Rattle.machine.specs.Answer.{Answers}
 use Rattle.machine.proofs.Unique as machine
 use Rattle.blame.specs.Blame.{Blamed}
@@ -45,8 +45,8 @@ result-runs r = record { start = r .start; allowed = r .run .finished .allowed; 
 result-run : {t vs : List ℕ} {input budget : ℕ} {w x : List ℕ} → RunResult t vs input budget w → RunResult t vs input budget x → w ≡ x
 result-run {vs = vs} {input = input} {budget = budget} a b =
     let p = taken-unique (b .finished .taken) (a .finished .taken) in
-    let other : Answers ours (a .finished .P) vs input budget (b .answer) (b .left) (b .kept) = rw (← p) (b .finished .answers) in
-    let u = machine.answer-unique (a .finished .P) vs input ours budget (a .answer) (b .answer) (a .left) (b .left) (a .kept) (b .kept) (a .finished .answers) other in
+    let other : Answers (inForce ours) (a .finished .P) vs input budget (b .answer) (b .left) (b .kept) = rw (← p) (b .finished .answers) in
+    let u = machine.answer-unique (a .finished .P) vs input (inForce ours) budget (a .answer) (b .answer) (a .left) (b .left) (a .kept) (b .kept) (a .finished .answers) other in
     a .tells ∙ rw (u .0, u .1, u .2) (sym (b .tells))
 
 pub result-unique : {t u w x : List ℕ} → Result t u w → Result t u x → w ≡ x

@@ -9,6 +9,7 @@ use Rattle.statement_writer.specs.Writing.{Put}
 use Rattle.language.specs.declared.Statement.{Statement}
 use Rattle.program.specs.Program as program
 use Rattle.blame.specs.Blame.{Blamed}
+use Rattle.pricing.specs.Prices.{ours}
 use Rattle.machine.specs.declared.Answer.{Answer}
 use Rattle.machine.specs.declared.Answer.the-variants.{Ended, Fault, Spent}
 use Rattle.run.specs.Run.{most-steps, RunRefused, RunFinished}
@@ -38,12 +39,12 @@ answerValues (Spent n t) ws = valueLines variables ws
 unfoldable pub answerText : Answer → List ℕ → List ℕ → List ℕ
 answerText a ws ks = answerLine a ks ++ answerValues a ws
 
--- the run of the program text t answers so, and w tells it
+-- the run of the program text t answers so, under our prices, and w tells it
 pub record RunResult (t vs : List ℕ) (input budget : ℕ) (w : List ℕ) : Type 0 where
   pub answer : Answer
   pub left : List ℕ
   pub kept : List ℕ
-  pub finished : RunFinished t vs input budget answer left kept
+  pub finished : RunFinished ours t vs input budget answer left kept
   pub tells : w ≡ answerText answer left kept
 
 -- the run is refused, and w is the refusal in words

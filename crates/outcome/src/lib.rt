@@ -62,7 +62,7 @@ fn run_outcome(
     requires { ⌜ outcome-room ≤ length (now out) ⌝ }
     ensures { λ r. ⌜ RunPrints (now (program .entry)) values input budget (now (out .entry)) (now (out .exit)) r ⌝ }
 {
-    let ran = run::run(program, values, input, budget);
+    let ran = run::run(program, values, input, budget, pricing::ours());
     let left = ran.values;
     let kept = ran.kept;
     let answer = ran.answer;

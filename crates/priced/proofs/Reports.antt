@@ -13,7 +13,7 @@ use Rattle.marks.proofs.Lists as marks-lists
 use Rattle.rewriting.specs.Verdicts.{Rewritten}
 use Rattle.rewriting.proofs.Accepted.{rewritten-unique}
 use Rattle.judge.specs.Judge.{Room, Lent, JudgeRefused, JudgeFinished}
-use Rattle.pricing.specs.Prices.{ours}
+use Rattle.pricing.specs.Prices.{inForce}
 use Rattle.price_list.specs.PriceList.{Lists, Both}
 use Rattle.price_list.specs.declared.PriceList.{PriceList}
 use Rattle.priced.specs.Priced.{ReportRefused, ReportListed}
@@ -40,7 +40,7 @@ module _ {t u : List ℕ} {o q : Lent} {count accepted bytes : ℕ} (f : JudgeFi
   pub both-taken : Both t (take bytes (q .new))
   both-taken = record { P = f .P; Q = f .Q; given = f .program; new = new-taken; same = f .rewritten .same }
 
-  pub report-listed : {l : PriceList} → ((P Q : List Statement) → Taken t P → Taken (take bytes (q .new)) Q → Lists ours P Q l) → ReportListed t u l
+  pub report-listed : {ps : List ℕ} {l : PriceList} → ((P Q : List Statement) → Taken t P → Taken (take bytes (q .new)) Q → Lists (inForce ps) P Q l) → ReportListed ps t u l
   report-listed h =
       record {
         P = f .P;

@@ -5,6 +5,7 @@ ghost use Rattle.program.specs.Program.{most};
 ghost use Rattle.priced.specs.Priced.{nothing as nothingIs, ReportAnswers};
 use judge::JudgeAnswer;
 use price_list::PriceList;
+use pricing::KINDS;
 use program::MOST;
 
 // Refused: document 01's number. Listed: the list beside it is the report.
@@ -38,9 +39,10 @@ fn nothing() -> PriceList
     }
 }
 
-// Judges each mark of the list on the program, and lists what the program and the one with the accepted marks made cost.
-pub fn report(program: &[u8], marks: &[u8]) -> Priced
-    ensures { λ r. ⌜ ReportAnswers (now (program .entry)) (now (marks .entry)) (r .answer) (r .list) ⌝ }
+// Judges each mark of the list on the program, and lists what the program and the one with the accepted marks made cost, by the prices in force under the
+// table.
+pub fn report(program: &[u8], marks: &[u8], prices: [u32; KINDS]) -> Priced
+    ensures { λ r. ⌜ ReportAnswers prices (now (program .entry)) (now (marks .entry)) (r .answer) (r .list) ⌝ }
 {
     let mut verdicts = judge::verdict_buffer();
     let mut text = judge::text_buffer();
@@ -52,7 +54,7 @@ pub fn report(program: &[u8], marks: &[u8]) -> Priced
         },
         JudgeAnswer::Finished(_, _, bytes) => {
             let end = bytes as usize;
-            let table = pricing::ours();
+            let table = pricing::in_force(prices);
             Priced {
                 answer: PriceAnswer::Listed,
                 list: price_list::list(program, &text[..end], &table),

@@ -1,8 +1,11 @@
--- What statements cost, by a table of eleven prices: document 02, Wish 7.
+-- What statements cost, by a table of eleven prices, and which prices are in force where a caller hands a table: document 02, Wishes 7 and 8.
+use mathlib.Core.Bool.{Bool, _&&_}
 use mathlib.Core.List.{List, [], _∷_, map}
 use Prim.Native.Nat.{ℕ, _+_, _≤_}
+use lib.Dec.{leb}
 use lib.ListN.{getD, replicate}
 use lib.Seq.{sets}
+use Rattle.base.specs.Pick.{pick}
 use Rattle.language.specs.declared.Operator.{Operator}
 use Rattle.language.specs.declared.Operator.the-variants.{Add, Subtract, Multiply, Less, Equal, Divide}
 use Rattle.language.specs.declared.Expression.{Expression}
@@ -67,3 +70,21 @@ most-price = 65535
 
 abbrev pub Fair : List ℕ → Type 0
 Fair ps = AtMost most-price ps
+
+-- Wish 8: "a decimal number from 1 to 65,535"
+abbrev pub ValidPrice : ℕ → Type 0
+ValidPrice n = (1 ≤ n) × (n ≤ most-price)
+
+-- "a price in it outside 1 to 65,535 counts as ours": what n counts, where o is ours
+abbrev pub counted : ℕ → ℕ → ℕ
+counted n o = pick (leb 1 n && leb n most-price) n o
+
+-- the same of each price singly
+unfoldable pub countedEach : List ℕ → List ℕ → List ℕ
+countedEach [] os = os
+countedEach (n ∷ ns) [] = []
+countedEach (n ∷ ns) (o ∷ os) = counted n o ∷ countedEach ns os
+
+-- the prices in force where the caller hands the table ps
+unfoldable pub inForce : List ℕ → List ℕ
+inForce ps = countedEach ps ours

@@ -4,7 +4,7 @@ ghost use Prim.Native.Nat.{_≤_, _<_};
 ghost use lib.ListN.{length, take, replicate};
 ghost use Rattle.program.specs.Program.{most};
 ghost use Rattle.program.specs.Reading.{statements, Held};
-ghost use Rattle.pricing.specs.Prices.{kinds, ours as oursAre, operatorKind, expressionKind, kindOf, price, column, sum, Fair};
+ghost use Rattle.pricing.specs.Prices.{kinds, ours as oursAre, operatorKind, expressionKind, kindOf, price, column, sum, Fair, counted as countedIs, inForce};
 use language::Expression;
 use language::Operator;
 use language::Statement;
@@ -19,6 +19,35 @@ pub fn ours() -> [u32; KINDS]
     ensures { λ r. ⌜ r ≡ oursAre ⌝ }
 {
     [4, 4, 1, 3, 2, 3, 3, 9, 3, 3, 24]
+}
+
+// No price is above this one, and none below 1.
+pub const MOST_PRICE: u32 = 65535;
+
+// What a price of a caller's table counts: itself where it lies in the range, else ours.
+fn counted(price: u32, our: u32) -> u32
+    ensures { λ r. ⌜ r ≡ countedIs price our ⌝ }
+{
+    if price < 1 {
+        return our;
+    }
+    if MOST_PRICE < price {
+        return our;
+    }
+    price
+}
+
+// The prices in force where a caller hands the table.
+pub fn in_force(table: [u32; KINDS]) -> [u32; KINDS]
+    ensures { λ r. ⌜ r ≡ inForce table ⌝ }
+{
+    let mut prices = ours();
+    let mut k: usize = 0;
+    while k < KINDS {
+        prices[k] = counted(table[k], prices[k]);
+        k += 1;
+    }
+    prices
 }
 
 fn operator_kind(o: Operator) -> usize

@@ -1,4 +1,6 @@
 // The calls for C and Rust hosts: include/rewrites.h declares them. What each answers stands in the crate that it calls.
+ghost use mathlib.Core.Path.{_≡_};
+ghost use Rattle.pricing.specs.Prices.{ours};
 ghost use Rattle.host_run.specs.Places.{RunExported};
 ghost use Rattle.host_tabulate.specs.Places.{TabulateExported};
 ghost use Rattle.host_force.specs.Exports.{ForceExported};
@@ -6,11 +8,13 @@ ghost use Rattle.host_judge.specs.Places.{JudgeExported};
 ghost use Rattle.host_review.specs.Places.{ReviewExported};
 ghost use Rattle.host_mark_line.specs.Places.{MarkLineExported};
 ghost use Rattle.host_join.specs.Places.{JoinExported};
+ghost use Rattle.host_prices.specs.Places.{PricesExported};
 ghost use Rattle.host_report.specs.Places.{ReportExported};
 ghost use Rattle.host_listing.specs.Exports.{ListExported, RelistExported};
 use language::KEPT;
 use listing::COUNTS;
 use machine::VALUES;
+use pricing::KINDS;
 use program::MOST;
 use sharing::MOST_LINES;
 
@@ -20,6 +24,7 @@ pub extern "C" fn rewrites_run(
     values: &[u32; VALUES],
     input: u32,
     budget: u32,
+    prices: &[u32; KINDS],
     ended: &mut u32,
     value: &mut i32,
     steps: &mut u32,
@@ -28,13 +33,14 @@ pub extern "C" fn rewrites_run(
     kept: &mut [u32; KEPT],
     ticks: &mut u64,
 ) -> u8
-    ensures { λ r. ⌜ RunExported (now (program .entry)) (now (values .entry)) input budget r (record { ended = now (ended .entry); value = now (value .entry); steps = now (steps .entry); statement = now (statement .entry); left = now (left .entry); kept = now (kept .entry); ticks = now (ticks .entry) }) (record { ended = now (ended .exit); value = now (value .exit); steps = now (steps .exit); statement = now (statement .exit); left = now (left .exit); kept = now (kept .exit); ticks = now (ticks .exit) }) ⌝ }
+    ensures { λ r. ⌜ RunExported (now (prices .entry)) (now (program .entry)) (now (values .entry)) input budget r (record { ended = now (ended .entry); value = now (value .entry); steps = now (steps .entry); statement = now (statement .entry); left = now (left .entry); kept = now (kept .entry); ticks = now (ticks .entry) }) (record { ended = now (ended .exit); value = now (value .exit); steps = now (steps .exit); statement = now (statement .exit); left = now (left .exit); kept = now (kept .exit); ticks = now (ticks .exit) }) ⌝ }
 {
     host_run::export(
         program,
         values,
         input,
         budget,
+        prices,
         ended,
         value,
         steps,
@@ -132,6 +138,7 @@ pub extern "C" fn rewrites_review(
 pub extern "C" fn rewrites_report(
     program: &[u8],
     marks: &[u8],
+    prices: &[u32; KINDS],
     before: &mut [u32; MOST],
     after: &mut [u32; MOST],
     statements: &mut u32,
@@ -139,11 +146,12 @@ pub extern "C" fn rewrites_report(
     rewritten: &mut u32,
     saved: &mut i32,
 ) -> u8
-    ensures { λ r. ⌜ ReportExported (now (program .entry)) (now (marks .entry)) r (record { before = now (before .entry); after = now (after .entry); statements = now (statements .entry); given = now (given .entry); rewritten = now (rewritten .entry); saved = now (saved .entry) }) (record { before = now (before .exit); after = now (after .exit); statements = now (statements .exit); given = now (given .exit); rewritten = now (rewritten .exit); saved = now (saved .exit) }) ⌝ }
+    ensures { λ r. ⌜ ReportExported (now (prices .entry)) (now (program .entry)) (now (marks .entry)) r (record { before = now (before .entry); after = now (after .entry); statements = now (statements .entry); given = now (given .entry); rewritten = now (rewritten .entry); saved = now (saved .entry) }) (record { before = now (before .exit); after = now (after .exit); statements = now (statements .exit); given = now (given .exit); rewritten = now (rewritten .exit); saved = now (saved .exit) }) ⌝ }
 {
     host_report::export(
         program,
         marks,
+        prices,
         before,
         after,
         statements,
@@ -151,6 +159,20 @@ pub extern "C" fn rewrites_report(
         rewritten,
         saved,
     )
+}
+
+#[no_mangle]
+pub extern "C" fn rewrites_prices(text: &[u8], prices: &mut [u32; KINDS]) -> u8
+    ensures { λ r. ⌜ PricesExported (now (text .entry)) r (now (prices .entry)) (now (prices .exit)) ⌝ }
+{
+    host_prices::export(text, prices)
+}
+
+#[no_mangle]
+pub extern "C" fn rewrites_our_prices(prices: &mut [u32; KINDS])
+    ensures { λ _. ⌜ now (prices .exit) ≡ ours ⌝ }
+{
+    host_prices::ours(prices)
 }
 
 #[no_mangle]

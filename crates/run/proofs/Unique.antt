@@ -9,7 +9,7 @@ use Rattle.program.specs.Program.{Taken}
 use Rattle.program.specs.Reading as program
 use Rattle.program.proofs.RoundTrip.{taken-unique}
 use Rattle.program.proofs.Unique.{refused-unique, taken-refused}
-use Rattle.pricing.specs.Prices.{ours}
+use Rattle.pricing.specs.Prices.{inForce}
 use Rattle.machine.specs.Answer.{Answers}
 use Rattle.machine.specs.declared.Answer.{Answer}
 use Rattle.machine.proofs.Unique.{answer-unique}
@@ -30,18 +30,18 @@ module _ (t : List ℕ) (budget : ℕ) where
   never-refused (inl r) allowed taken = omega (arith, r .0)
   never-refused (inr r) allowed taken = taken-refused t taken (r .1) (r .2)
 
-module _ (t vs : List ℕ) (input budget : ℕ) where
+module _ (ps t vs : List ℕ) (input budget : ℕ) where
   run-finished :
       (a b : Answer) (ws us ks hs : List ℕ)
-      → RunFinished t vs input budget a ws ks → RunFinished t vs input budget b us hs → (a ≡ b) × (ws ≡ us) × (ks ≡ hs)
+      → RunFinished ps t vs input budget a ws ks → RunFinished ps t vs input budget b us hs → (a ≡ b) × (ws ≡ us) × (ks ≡ hs)
   run-finished a b ws us ks hs f g =
-      answer-unique (f .P) vs input ours budget a b ws us ks hs (f .answers)
-      (subst (λ (Q : List Statement). Answers ours Q vs input budget b us hs) (taken-unique (g .taken) (f .taken)) (g .answers))
+      answer-unique (f .P) vs input (inForce ps) budget a b ws us ks hs (f .answers)
+      (subst (λ (Q : List Statement). Answers (inForce ps) Q vs input budget b us hs) (taken-unique (g .taken) (f .taken)) (g .answers))
 
   -- a call of `run` has one answer, and one list of values and of kept ones beside it
   pub run-unique :
       (a b : RunAnswer) (ws us ks hs : List ℕ)
-      → RunAnswers t vs input budget a ws ks → RunAnswers t vs input budget b us hs → (a ≡ b) × (ws ≡ us) × (ks ≡ hs)
+      → RunAnswers ps t vs input budget a ws ks → RunAnswers ps t vs input budget b us hs → (a ≡ b) × (ws ≡ us) × (ks ≡ hs)
   run-unique (run.Refused n) (run.Refused m) ws us ks hs p q =
       (ap run.Refused (number-unique t budget (p .0) (q .0)), p .1 ∙ sym (q .1), p .2 ∙ sym (q .2))
   run-unique (run.Refused n) (run.Finished b) ws us ks hs p q = absurd (never-refused t budget (p .0) (q .allowed) (q .taken))

@@ -5,6 +5,7 @@ ghost use Rattle.run.specs.Run.{RunAnswers};
 use language::KEPT;
 use machine::Answer;
 use machine::VALUES;
+use pricing::KINDS;
 
 // A run takes at most this many steps.
 pub const MOST_STEPS: u32 = 1000000;
@@ -35,9 +36,15 @@ fn run_refused(number: u8, values: [u32; VALUES]) -> Ran
     }
 }
 
-// Runs the program that the text spells, from the values and the input, for at most `budget` steps.
-pub fn run(program: &[u8], values: [u32; VALUES], input: u32, budget: u32) -> Ran
-    ensures { λ r. ⌜ RunAnswers (now (program .entry)) values input budget (r .answer) (r .values) (r .kept) ⌝ }
+// Runs the program that the text spells, from the values and the input, for at most `budget` steps, each at the price in force under the table.
+pub fn run(
+    program: &[u8],
+    values: [u32; VALUES],
+    input: u32,
+    budget: u32,
+    prices: [u32; KINDS],
+) -> Ran
+    ensures { λ r. ⌜ RunAnswers prices (now (program .entry)) values input budget (r .answer) (r .values) (r .kept) ⌝ }
 {
     if MOST_STEPS < budget {
         return run_refused(BUDGET_NUMBER, values);
@@ -48,7 +55,7 @@ pub fn run(program: &[u8], values: [u32; VALUES], input: u32, budget: u32) -> Ra
         return run_refused(program::number_of(refusal), values);
     }
     let read = reading.program;
-    let outcome = execution::run(read, values, input, budget, pricing::ours());
+    let outcome = execution::run(read, values, input, budget, pricing::in_force(prices));
     let left = outcome.values;
     let kept = outcome.kept;
     let told = outcome.answer;

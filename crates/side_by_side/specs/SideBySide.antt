@@ -11,6 +11,7 @@ use Rattle.rewriting.specs.Verdicts.{acceptedCount}
 use Rattle.machine.specs.declared.Answer.{Answer}
 use Rattle.machine.specs.Machine.{after}
 use Rattle.lockstep.specs.Lockstep.{Agree, Side, Alike}
+use Rattle.pricing.specs.Prices.{ours}
 use Rattle.run.specs.Run.{most-steps, RunFinished}
 use Rattle.judge.specs.Judge.{text-bytes}
 use Rattle.demand.specs.Demand.{Demand3}
@@ -57,8 +58,8 @@ pub record Comparison (t m u b : List ℕ) : Type 0 where
   pub us : List ℕ
   pub ws : List ℕ
   pub ks : List ℕ
-  pub one : RunFinished t (runs .values) (runs .input) (runs .budget) given us ks
-  pub two : RunFinished x (runs .values) (runs .input) (runs .budget) rewritten ws ks
+  pub one : RunFinished ours t (runs .values) (runs .input) (runs .budget) given us ks
+  pub two : RunFinished ours x (runs .values) (runs .input) (runs .budget) rewritten ws ks
   pub alike : Alike given rewritten
   pub traces : (k : ℕ)
       → Side (Agree (runs .demand .P)) (after (runs .demand .P) (runs .values) (runs .input) k) (after (runs .demand .Q) (runs .values) (runs .input) k)

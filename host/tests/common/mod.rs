@@ -1,6 +1,7 @@
 //! What the tests share. Each test file uses a part of it.
 #![allow(dead_code)]
 
+use rewrites::{Outcome, Prices, Refusal};
 use std::path::{Path, PathBuf};
 use std::process::{Command, Output};
 use std::{env, fs};
@@ -38,6 +39,16 @@ pub fn lines(n: usize) -> Vec<String> {
 /// The values before a run: all different, none small.
 pub fn given() -> [u32; 32] {
     std::array::from_fn(|x| 1000 + x as u32)
+}
+
+/// A run by our prices.
+pub fn run(
+    program: &[u8],
+    values: &[u32; 32],
+    input: u32,
+    budget: u32,
+) -> Result<Outcome, Refusal> {
+    rewrites::run(program, values, input, budget, &Prices::ours())
 }
 
 /// Programs that are refused 2 to 5.

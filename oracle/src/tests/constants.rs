@@ -7,13 +7,14 @@ use crate::desk;
 use crate::generate::{self, Random, WrongSign};
 use crate::machine::{self, Outcome};
 use crate::marks::{self, Kind, Mark};
+use crate::pricing::OURS;
 use crate::program::{Expression, Operand, Operator, Program, Statement};
 use crate::tuned;
 
 /// The refusal of a program by the plain and the tuned reader, 0 where it is taken.
 fn program_refusal(text: &str) -> u8 {
-    let plain = machine::run(text.as_bytes(), [0; 32], 0, 0).err().unwrap_or(0);
-    let tuned = tuned::run(text.as_bytes(), &[0; 32], 0, 0).err().unwrap_or(0);
+    let plain = machine::run(text.as_bytes(), [0; 32], 0, 0, &OURS).err().unwrap_or(0);
+    let tuned = tuned::run(text.as_bytes(), &[0; 32], 0, 0, &OURS).err().unwrap_or(0);
     assert_eq!(plain, tuned, "{text}");
     plain
 }
@@ -181,8 +182,8 @@ fn statement_numbers_take_no_sign() {
 
 fn ends(program: &str, input: u32) -> (i32, u32) {
     let text = lines(program);
-    let plain = machine::run(text.as_bytes(), [0; 32], input, 100);
-    assert_eq!(tuned::run(text.as_bytes(), &[0; 32], input, 100), plain);
+    let plain = machine::run(text.as_bytes(), [0; 32], input, 100, &OURS);
+    assert_eq!(tuned::run(text.as_bytes(), &[0; 32], input, 100, &OURS), plain);
     match plain {
         Ok(Outcome::Ended { value, steps, kept: ZEROS, .. }) => (value, steps),
         other => panic!("{other:?}"),
@@ -342,7 +343,7 @@ fn bits_and_their_spelling() {
         let program = Program::read(text.as_bytes()).expect("it is taken");
         assert_eq!(program.statements()[1], Statement::Assign(0, constant(bits)));
         assert_eq!(
-            tuned::run(text.as_bytes(), &[0; 32], 0, 3),
+            tuned::run(text.as_bytes(), &[0; 32], 0, 3, &OURS),
             Ok(Outcome::Ended { value: bits as i32, steps: 3, kept: ZEROS, ticks: 10 })
         );
     }
@@ -407,7 +408,7 @@ fn damaged_signs_are_misspelled() {
             let mut text = program.text();
             generate::wrong_sign(random, sign, &mut text);
             assert_eq!(Program::read(&text), Err(2), "{}", text.escape_ascii());
-            assert_eq!(tuned::run(&text, &[0; 32], 0, 0), Err(2), "{}", text.escape_ascii());
+            assert_eq!(tuned::run(&text, &[0; 32], 0, 0, &OURS), Err(2), "{}", text.escape_ascii());
             let parts = random.between(1, 20);
             let mut text = generate::condition(random, &program, parts);
             generate::wrong_sign(random, sign, &mut text);

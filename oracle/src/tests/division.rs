@@ -8,6 +8,7 @@ use crate::desk;
 use crate::generate::{self, Random};
 use crate::machine::{first_difference, run_program, same_place, Outcome, Run, State, Values};
 use crate::marks::{self, Judge, Kind, Mark};
+use crate::pricing::OURS;
 use crate::program::{Expression, Operand, Operator, Program, Statement, LARGEST, LEAST};
 use crate::steps::Steps;
 
@@ -393,7 +394,7 @@ fn generated_programs_divide_by_numbers_of_every_kind() {
             }
             run.step();
         }
-        match run_program(&program, values, input, 100) {
+        match run_program(&program, values, input, 100, &OURS) {
             Outcome::Fault { steps, .. } => {
                 faults += 1;
                 late += usize::from(steps > 5);
@@ -475,8 +476,12 @@ fn generated_marks_put_0_for_a_divisor() {
             {
                 made += 1;
                 let (values, input) = (generate::values(random), generate::word(random));
-                let outcome = run_program(&new, values, input, 100);
-                assert_eq!(outcome, run_program(&program, values, input, 100), "{program}{mark}");
+                let outcome = run_program(&new, values, input, 100, &OURS);
+                assert_eq!(
+                    outcome,
+                    run_program(&program, values, input, 100, &OURS),
+                    "{program}{mark}"
+                );
                 together += usize::from(matches!(outcome, Outcome::Fault { .. }));
             }
         }

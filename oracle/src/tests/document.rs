@@ -5,6 +5,7 @@ use crate::check::check;
 use crate::condition::tabulate;
 use crate::machine::{run, Outcome};
 use crate::marks::judge;
+use crate::pricing::OURS;
 
 const MARKS: &str =
     "4: mark(rpl, i2, 7)\n3: mark(rm, i2, 7)\n4: mark(rpl, i1, i0)\n6: mark(rm, i0, 1)\n\
@@ -37,10 +38,10 @@ fn answers_of_tables_of_p() {
 fn runs_of_p() {
     let p = P.as_bytes();
     let ended = |value, steps, ticks| Ok(Outcome::Ended { value, steps, kept: ZEROS, ticks });
-    assert_eq!(run(p, [0; 32], 0, 1_000_000), ended(7, 6, 18));
-    assert_eq!(run(p, [0; 32], 2, 1_000_000), ended(9, 12, 36));
-    assert_eq!(run(p, [0; 32], 2, 12), ended(9, 12, 36));
-    match run(p, [0; 32], 2, 11) {
+    assert_eq!(run(p, [0; 32], 0, 1_000_000, &OURS), ended(7, 6, 18));
+    assert_eq!(run(p, [0; 32], 2, 1_000_000, &OURS), ended(9, 12, 36));
+    assert_eq!(run(p, [0; 32], 2, 12, &OURS), ended(9, 12, 36));
+    match run(p, [0; 32], 2, 11, &OURS) {
         Ok(Outcome::Spent { statement, values, ticks }) => {
             assert_eq!((statement, ticks), (8, 32));
             assert_eq!(values[..5], [0, 2, 7, 9, 0]);
@@ -80,7 +81,7 @@ fn arithmetic() {
         values[1] = i1;
         values[2] = i2;
         let text = format!("read i0\ni0 := {right}\nwrite i0\n");
-        match run(text.as_bytes(), values, 5, 3) {
+        match run(text.as_bytes(), values, 5, 3, &OURS) {
             Ok(Outcome::Ended { value, steps: 3, kept: ZEROS, .. }) => value,
             other => panic!("{other:?}"),
         }
@@ -128,8 +129,8 @@ fn refusals_by_order() {
     assert_eq!(judge(P.as_bytes(), many.as_bytes(), &mut verdicts, &mut text), Err(10));
     assert_eq!((verdicts, text), ([7; 256], [7; 8_704]));
 
-    assert_eq!(run(b"", [0; 32], 0, 1_000_001), Err(15));
-    assert_eq!(run(b"", [0; 32], 0, 1_000_000), Err(3));
+    assert_eq!(run(b"", [0; 32], 0, 1_000_001, &OURS), Err(15));
+    assert_eq!(run(b"", [0; 32], 0, 1_000_000, &OURS), Err(3));
     assert_eq!(check(b"", b"x"), b"refused 3\n");
     assert_eq!(check(P.as_bytes(), b"x"), b"refused 9\n");
 }

@@ -7,7 +7,7 @@ use crate::condition::{tabulate, Atom, Checker, Condition, Demand, Direction, Pa
 use crate::generate::{self, Random};
 use crate::machine::{first_difference, kept_of, run, run_program, Outcome, Run, State};
 use crate::marks::{self, judge, Judge, Kind};
-use crate::pricing::report;
+use crate::pricing::{report, OURS};
 use crate::program::{Expression, Operand, Operator, Program, Statement};
 use crate::steps::Steps;
 
@@ -275,8 +275,8 @@ fn given_and_rewritten_program_agree_step_by_step() {
                 "{given}{rewritten}"
             );
             let budget = generate::budget(random) % 1_000;
-            let one = run_program(&given, values, input, budget);
-            let other = run_program(&rewritten, values, input, budget);
+            let one = run_program(&given, values, input, budget, &OURS);
+            let other = run_program(&rewritten, values, input, budget, &OURS);
             assert!(one.is_alike(&other), "{one:?} {other:?}");
             // No mark makes a statement dearer, by our prices.
             assert!(one.ticks() >= other.ticks(), "{given}{rewritten}");
@@ -426,7 +426,7 @@ fn runs_are_their_steps() {
                 break;
             }
             before = values;
-            ticks += walk.cost();
+            ticks += walk.cost(&OURS);
             walk.step();
             taken += 1;
         }
@@ -439,10 +439,10 @@ fn runs_are_their_steps() {
             }
             State::Faulted { statement } => Outcome::Fault { statement, steps: taken, ticks },
         };
-        assert_eq!(run(&program.text(), values, input, budget), Ok(wanted));
+        assert_eq!(run(&program.text(), values, input, budget, &OURS), Ok(wanted));
         ended += usize::from(matches!(wanted, Outcome::Ended { .. }));
         let last = *walk.state();
-        assert_eq!(walk.cost() == 0, !matches!(last, State::Before { .. }));
+        assert_eq!(walk.cost(&OURS) == 0, !matches!(last, State::Before { .. }));
         walk.step();
         assert!(matches!(last, State::Before { .. }) || *walk.state() == last);
     }
@@ -507,7 +507,7 @@ fn refused_calls_keep_what_is_lent() {
                 let output = check(&text, &list);
                 let first = format!("marks {count} accepted {accepted}\n");
                 assert!(output.starts_with(first.as_bytes()));
-                let prices = report(&text, &list).expect("what is judged is priced").text();
+                let prices = report(&text, &list, &OURS).expect("what is judged is priced").text();
                 let before = output.len() - prices.len();
                 assert_eq!(output[before..], *prices.as_bytes());
                 assert!(output[..before].ends_with(&new_text[..bytes as usize]));

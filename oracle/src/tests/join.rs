@@ -4,6 +4,7 @@ use super::{lines, ran, skips, P, ZEROS};
 use crate::generate::{self, Random};
 use crate::join::{join, joined, run_in_turn, InTurn};
 use crate::machine::{run_program, Outcome, Run, Values};
+use crate::pricing::OURS;
 use crate::program::{Program, Statement};
 use crate::tuned;
 
@@ -138,7 +139,7 @@ fn kept_values_go_on() {
     values[24] = 1;
     let kept = [5, 10, 0, 0, 0, 0, 0, 0];
     let outcome = Outcome::Ended { value: 4, steps: 5, kept, ticks: 22 };
-    assert_eq!(run_program(&whole, values, 4, 99), outcome);
+    assert_eq!(run_program(&whole, values, 4, 99, &OURS), outcome);
     assert_in_turn(&road, &creeper, values, 4, 9);
 }
 
@@ -296,9 +297,9 @@ fn random_pairs_run_in_turn() {
             assert_in_turn(&road, &creeper, values, input, 300);
             // Under budgets that suffice, in terms of both runs' answers.
             const LONG: u32 = 2_000;
-            let first = run_program(&road, values, input, LONG);
-            let found = run_program(&whole, values, input, 2 * LONG);
-            assert_eq!(found, run_in_turn(&road, &creeper, values, input, 2 * LONG));
+            let first = run_program(&road, values, input, LONG, &OURS);
+            let found = run_program(&whole, values, input, 2 * LONG, &OURS);
+            assert_eq!(found, run_in_turn(&road, &creeper, values, input, 2 * LONG, &OURS));
             match first {
                 Outcome::Fault { .. } => {
                     assert_eq!(found, first);
@@ -306,11 +307,11 @@ fn random_pairs_run_in_turn() {
                 }
                 Outcome::Spent { .. } => met.road_endless += 1,
                 Outcome::Ended { value, steps, ticks, .. } => {
-                    let left = match run_program(&road, values, input, steps - 1) {
+                    let left = match run_program(&road, values, input, steps - 1, &OURS) {
                         Outcome::Spent { values, .. } => values,
                         other => panic!("{other:?}"),
                     };
-                    match run_program(&creeper, left, value as u32, LONG) {
+                    match run_program(&creeper, left, value as u32, LONG, &OURS) {
                         Outcome::Ended { value, steps: more, kept, ticks: later } => {
                             let (steps, ticks) = (steps + more - 1, ticks + later - SEAM);
                             assert_eq!(found, Outcome::Ended { value, steps, kept, ticks });

@@ -6,6 +6,7 @@ use crate::desk;
 use crate::generate::{self, Random};
 use crate::machine::{first_difference, run_program, Outcome, Values};
 use crate::marks::{self, Judge, Kind, Mark};
+use crate::pricing::OURS;
 use crate::program::{is_kept, Program};
 
 /// Values that are all different, none small.
@@ -158,7 +159,8 @@ fn runs_are_compared_in_what_is_kept() {
     assert!(Judge::new(&given).is_refused_for_kept_alone(&list[0]));
     let wrong = marks::rewritten(&given, &list, &[0]);
     assert_eq!(first_difference(&given, &wrong, [0; 32], 3, 100), Some(4));
-    let (one, other) = (run_program(&given, [0; 32], 3, 9), run_program(&wrong, [0; 32], 3, 9));
+    let (one, other) =
+        (run_program(&given, [0; 32], 3, 9, &OURS), run_program(&wrong, [0; 32], 3, 9, &OURS));
     let kept = [5, 0, 0, 0, 0, 0, 0, 0];
     assert_eq!(one, Outcome::Ended { value: 3, steps: 4, kept, ticks: 12 });
     assert_eq!(other, Outcome::Ended { value: 3, steps: 4, kept: ZEROS, ticks: 11 });
@@ -239,8 +241,10 @@ fn keeps_otherwise(random: &mut Random, given: &Program, mark: &Mark) -> bool {
     let wrong = marks::rewritten(given, &[*mark], &[0]);
     (0..4).any(|_| {
         let (values, input) = (generate::values(random), generate::word(random));
-        let answers =
-            (run_program(given, values, input, 400), run_program(&wrong, values, input, 400));
+        let answers = (
+            run_program(given, values, input, 400, &OURS),
+            run_program(&wrong, values, input, 400, &OURS),
+        );
         match answers {
             (
                 Outcome::Ended { value: a, steps: m, kept: one, .. },

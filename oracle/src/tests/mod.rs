@@ -1,5 +1,6 @@
 //! Cases from the defining documents, decided open points, and random cross tests.
 
+mod buyer;
 mod constants;
 mod cse;
 mod division;
@@ -20,6 +21,7 @@ mod tuned;
 use crate::condition;
 use crate::machine::{run, Kept, Outcome, Values};
 use crate::marks;
+use crate::pricing::OURS;
 use crate::program::{Program, KEPT};
 
 /// The document's program P.
@@ -98,7 +100,7 @@ fn all_judged(program: &str, list: &str) -> (Vec<u8>, String) {
 
 /// A run by the plain and by the tuned call.
 fn ran(program: &str, values: Values, input: u32, budget: u32) -> Outcome {
-    let plain = run(program.as_bytes(), values, input, budget);
-    assert_eq!(crate::tuned::run(program.as_bytes(), &values, input, budget), plain);
+    let plain = run(program.as_bytes(), values, input, budget, &OURS);
+    assert_eq!(crate::tuned::run(program.as_bytes(), &values, input, budget, &OURS), plain);
     plain.expect("the program is taken")
 }

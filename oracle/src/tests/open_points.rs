@@ -4,6 +4,7 @@ use super::{condition_refusal, judged, lines, refusal, skips, whole, words, P, P
 use crate::check::{check, said};
 use crate::machine::{run, Outcome};
 use crate::marks;
+use crate::pricing::OURS;
 use crate::program::Program;
 
 #[test]
@@ -454,23 +455,26 @@ fn budgets() {
     values[0] = 3;
     values[31] = u32::MAX;
     let p = P.as_bytes();
-    assert_eq!(run(p, values, 9, 0), Ok(Outcome::Spent { statement: 1, values, ticks: 0 }));
+    assert_eq!(run(p, values, 9, 0, &OURS), Ok(Outcome::Spent { statement: 1, values, ticks: 0 }));
     let after_one = {
         let mut values = values;
         values[0] = 9;
         values
     };
     let spent = Outcome::Spent { statement: 2, values: after_one, ticks: 4 };
-    assert_eq!(run(p, values, 9, 1), Ok(spent));
+    assert_eq!(run(p, values, 9, 1, &OURS), Ok(spent));
     let kept = [0, 0, 0, 0, 0, 0, 0, u32::MAX];
-    assert_eq!(run(p, values, 0, 6), Ok(Outcome::Ended { value: 7, steps: 6, kept, ticks: 18 }));
-    assert!(matches!(run(p, values, 0, 5), Ok(Outcome::Spent { statement: 8, .. })));
-    assert_eq!(run(b"rubbish", values, 0, 1_000_001), Err(15));
-    assert_eq!(run(b"rubbish", values, 0, u32::MAX), Err(15));
-    assert_eq!(run(b"rubbish", values, 0, 0), Err(2));
+    assert_eq!(
+        run(p, values, 0, 6, &OURS),
+        Ok(Outcome::Ended { value: 7, steps: 6, kept, ticks: 18 })
+    );
+    assert!(matches!(run(p, values, 0, 5, &OURS), Ok(Outcome::Spent { statement: 8, .. })));
+    assert_eq!(run(b"rubbish", values, 0, 1_000_001, &OURS), Err(15));
+    assert_eq!(run(b"rubbish", values, 0, u32::MAX, &OURS), Err(15));
+    assert_eq!(run(b"rubbish", values, 0, 0, &OURS), Err(2));
     // A run that could go on for ever.
     let endless = lines("read i0 / i1 := i1 + 1 / if i0 goto 2 else 4 / write i1");
-    match run(endless.as_bytes(), [0; 32], 1, 1_000_000) {
+    match run(endless.as_bytes(), [0; 32], 1, 1_000_000, &OURS) {
         Ok(Outcome::Spent { statement: 3, values, ticks }) => {
             // The input's step, 500,000 sums and one `if` less.
             assert_eq!((values[1], ticks), (500_000, 4 + 3 * 999_999));

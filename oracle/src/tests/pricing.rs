@@ -59,7 +59,8 @@ fn the_price_goes_by_the_kind_alone() {
 
 /// What the report tells of a program and a list, by the call and by what the check program prints.
 fn told(program: &str, list: &str) -> Report {
-    let told = report(program.as_bytes(), list.as_bytes()).expect("program and list are taken");
+    let told =
+        report(program.as_bytes(), list.as_bytes(), &OURS).expect("program and list are taken");
     let printed = check(program.as_bytes(), list.as_bytes());
     assert!(String::from_utf8_lossy(&printed).ends_with(&format!("\n{}", told.text())));
     told
@@ -123,13 +124,13 @@ fn marks_save_ticks() {
 #[test]
 fn reports_are_refused_as_judging_is() {
     let p = P.as_bytes();
-    assert_eq!(report(b"rubbish", b""), Err(2));
-    assert_eq!(report(b"", b"x"), Err(3));
-    assert_eq!(report(b"read i0\nskip\n", b"x"), Err(4));
-    assert_eq!(report(b"read i0\nif i0 goto 1 else 2\nwrite i0\n", b"x"), Err(5));
-    assert_eq!(report(p, b"x"), Err(9));
-    assert_eq!(report(p, b"3: mark(rm, i2, 7)"), Err(9));
-    assert_eq!(report(p, &b"3: mark(rm, i2, 7)\n".repeat(257)), Err(10));
+    assert_eq!(report(b"rubbish", b"", &OURS), Err(2));
+    assert_eq!(report(b"", b"x", &OURS), Err(3));
+    assert_eq!(report(b"read i0\nskip\n", b"x", &OURS), Err(4));
+    assert_eq!(report(b"read i0\nif i0 goto 1 else 2\nwrite i0\n", b"x", &OURS), Err(5));
+    assert_eq!(report(p, b"x", &OURS), Err(9));
+    assert_eq!(report(p, b"3: mark(rm, i2, 7)", &OURS), Err(9));
+    assert_eq!(report(p, &b"3: mark(rm, i2, 7)\n".repeat(257), &OURS), Err(10));
     // After a refused call nothing of the report is printed.
     assert_eq!(check(p, b"x"), b"refused 9\n");
     assert_eq!(check(b"", b""), b"refused 3\n");
@@ -252,7 +253,7 @@ fn each_step_adds_the_price_of_its_statement() {
         for budget in 0..60 {
             let ticks: u64 =
                 performed.iter().zip(OURS).map(|(n, price)| n * u64::from(price)).sum();
-            assert_eq!(run_program(&program, values, input, budget).ticks(), ticks);
+            assert_eq!(run_program(&program, values, input, budget, &OURS).ticks(), ticks);
             if let State::Before { statement, .. } = *run.state() {
                 performed[kind(program.statement(statement).expect("a statement"))] += 1;
             }

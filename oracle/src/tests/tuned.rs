@@ -26,11 +26,11 @@ fn tuned_runs_are_the_plain_ones() {
         let program = generate::program(random, size);
         let text = program_text(random, &program);
         let (values, input) = (generate::values(random), generate::word(random));
-        let budget = generate::budget(random);
+        let (budget, prices) = (generate::budget(random), generate::prices(random));
         assert_eq!(
-            tuned::run(&text, &values, input, budget),
-            run(&text, values, input, budget),
-            "{input} {budget} {}",
+            tuned::run(&text, &values, input, budget, &prices),
+            run(&text, values, input, budget, &prices),
+            "{input} {budget} {prices:?} {}",
             text.escape_ascii()
         );
     }
@@ -115,16 +115,17 @@ fn tuned_reports_are_the_plain_ones() {
             1..=3 => generate::damage(random, &list),
             _ => list,
         };
+        let prices = generate::prices(random);
         let (mut before, mut after) = ([7; MOST_LINES], [8; MOST_LINES]);
-        let answer = tuned::report(&text, &list, &mut before, &mut after);
+        let answer = tuned::report(&text, &list, &prices, &mut before, &mut after);
         let (mut wanted_before, mut wanted_after) = ([7; MOST_LINES], [8; MOST_LINES]);
-        let wanted = pricing::report(&text, &list).map(|report| {
+        let wanted = pricing::report(&text, &list, &prices).map(|report| {
             let count = report.before.len();
             wanted_before[..count].copy_from_slice(&report.before);
             wanted_after[..count].copy_from_slice(&report.after);
             (count as u32, report.given, report.rewritten, report.saved)
         });
-        let shown = || format!("{} {}", text.escape_ascii(), list.escape_ascii());
+        let shown = || format!("{} {} {prices:?}", text.escape_ascii(), list.escape_ascii());
         assert_eq!(answer, wanted, "{}", shown());
         assert!(before == wanted_before && after == wanted_after, "{}", shown());
         refused += usize::from(answer.is_err());

@@ -6,7 +6,7 @@ use super::tabulate::Rows;
 use super::write::Writer;
 use crate::condition::Direction;
 use crate::marks::{Kind, Mark, TEXT_BYTES, VERDICT_BYTES};
-use crate::pricing::{price, OURS};
+use crate::pricing::{price, Prices};
 use crate::program::{Expression, Operand, Operator, Statement, MOST_LINES};
 
 /// What verdicts are found from.
@@ -301,10 +301,10 @@ pub fn judge(
 }
 
 /// Puts the price of each statement, and tells their sum.
-fn put_prices(program: &Program, prices: &mut [u32; MOST_LINES]) -> u32 {
+fn put_prices(prices: &Prices, program: &Program, places: &mut [u32; MOST_LINES]) -> u32 {
     let mut total = 0;
-    for (place, statement) in prices.iter_mut().zip(program.statements()) {
-        *place = price(&OURS, statement);
+    for (place, statement) in places.iter_mut().zip(program.statements()) {
+        *place = price(prices, statement);
         total += *place;
     }
     total
@@ -315,18 +315,19 @@ fn put_prices(program: &Program, prices: &mut [u32; MOST_LINES]) -> u32 {
 pub fn report(
     program: &[u8],
     marks: &[u8],
+    prices: &Prices,
     before: &mut [u32; MOST_LINES],
     after: &mut [u32; MOST_LINES],
 ) -> Result<(u32, u32, u32, i32), u8> {
     let mut program = Program::read(program)?;
     let count = program.statements().len();
-    let mut prices = [0; MOST_LINES];
-    let given = put_prices(&program, &mut prices);
+    let mut old = [0; MOST_LINES];
+    let given = put_prices(prices, &program, &mut old);
     let mut list = List::empty();
     list.read(marks)?;
     rewrite(&mut program, &list);
-    before[..count].copy_from_slice(&prices[..count]);
-    let rewritten = put_prices(&program, after);
+    before[..count].copy_from_slice(&old[..count]);
+    let rewritten = put_prices(prices, &program, after);
     Ok((count as u32, given, rewritten, given as i32 - rewritten as i32))
 }
 

@@ -2,7 +2,7 @@
 
 use super::read::Program;
 use crate::machine::{kept_of, Outcome, Values, LARGEST_BUDGET, VALUES};
-use crate::pricing::{price, OURS};
+use crate::pricing::{price, Prices};
 use crate::program::{Expression, Operand, Operator, Statement, MOST_LINES};
 
 #[derive(Clone, Copy)]
@@ -50,13 +50,13 @@ impl Machine {
         }
     }
 
-    fn new(program: &Program, values: &Values) -> Machine {
+    fn new(program: &Program, values: &Values, prices: &Prices) -> Machine {
         let none = Instruction { code: Code::Skip, x: 0, price: 0, a: 0, b: 0 };
         let mut machine =
             Machine { instructions: [none; MOST_LINES], values: [0; PLACES], used: VALUES as u16 };
         machine.values[..VALUES].copy_from_slice(values);
         for (at, statement) in program.statements().iter().enumerate() {
-            let skip = Instruction { price: price(&OURS, statement) as u16, ..none };
+            let skip = Instruction { price: price(prices, statement) as u16, ..none };
             machine.instructions[at] = match *statement {
                 Statement::Read(x) => Instruction { code: Code::Read, x, ..skip },
                 Statement::Write(x) => Instruction { code: Code::Write, x, ..skip },
@@ -141,10 +141,16 @@ impl Machine {
 }
 
 /// The call: a run's outcome, or the refusal, 15 or 2 to 5.
-pub fn run(program: &[u8], values: &Values, input: u32, budget: u32) -> Result<Outcome, u8> {
+pub fn run(
+    program: &[u8],
+    values: &Values,
+    input: u32,
+    budget: u32,
+    prices: &Prices,
+) -> Result<Outcome, u8> {
     if budget > LARGEST_BUDGET {
         return Err(15);
     }
     let program = Program::read(program)?;
-    Ok(Machine::new(&program, values).run(input, budget))
+    Ok(Machine::new(&program, values, prices).run(input, budget))
 }

@@ -11,7 +11,8 @@ use Rattle.host_report.proofs.export.Tie as tie
 
 -- the answer is a report
 listed : (c : tie.After-enum-told)
-    → ReportListed (c .before .before .before .before .before .args .program .now) (c .before .before .before .before .before .args .marks .now) (c .before .before .report .result .list)
+    → let a = c .before .before .before .before .before .before .args in
+    ReportListed (a .prices .now) (a .program .now) (a .marks .now) (c .before .before .report .result .list)
 listed c = rw (c .enum-told .given .1) at (c .before .before .report .ensures)
 
 copy-requires : tie.Need-copy-requires

@@ -4,7 +4,7 @@ use native.Mathlib.Omega.{arith}
 use borrow.Author.Needs.{needs}
 use lib.Seq.{length-take-le}
 use Rattle.judge.specs.Judge.{Lent, JudgeFinished}
-use Rattle.pricing.proofs.Fair.{ours-fair}
+use Rattle.pricing.proofs.InForce.{in-force-fair}
 use Rattle.priced.proofs.Reports.{refused-report, new-within, both-taken, report-listed}
 use Rattle.priced.proofs.report.Statement.{statement}
 use Rattle.priced.proofs.report.Tie as tie
@@ -31,7 +31,7 @@ slice-aggregate-list : tie.Need-slice-aggregate-list
 slice-aggregate-list c = sym (length-take-le _ _ (new-within (finished (c .before .before .before))))
 
 list-requires : tie.Need-list-requires
-list-requires c κs = (both-taken (finished (c .before .before .before .before)), rw (c .before .before .ours .ensures) ours-fair)
+list-requires c κs = (both-taken (finished (c .before .before .before .before)), rw (c .before .before .in-force .ensures) (in-force-fair _))
 
 returns : tie.Need-returns
 returns c =
@@ -42,7 +42,7 @@ returns c =
 returns-2 : tie.Need-returns-2
 returns-2 c =
     let list = c .list .ensures in
-    report-listed (finished (c .before .before .before .before .before)) (rw (c .before .before .before .ours .ensures) at list)
+    report-listed (finished (c .before .before .before .before .before)) (rw (c .before .before .before .in-force .ensures) at list)
 
 pub report-spec : {M : Type 1} → statement M
 report-spec =

@@ -31,7 +31,7 @@ returns-3 c =
       P = statements (read .read .result .program);
       allowed = read .before .if1 .left;
       taken = taken (c .before .before .before .before .before) .0;
-      answers = rw (c .before .before .before .ours .ensures) at (c .before .before .run .ensures);
+      answers = rw (c .before .before .before .in-force .ensures) at (c .before .before .run .ensures);
     }
 
 pub run-spec : {M : Type 1} → statement M

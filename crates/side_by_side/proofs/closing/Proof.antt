@@ -2,6 +2,7 @@
 use mathlib.Core.Path.{sym}
 use native.Mathlib.Omega.{arith}
 use lib.Seq.{length-take-le}
+use Rattle.pricing.specs.Prices.{ours}
 use Rattle.priced.proofs.Reports.{new-within}
 use Rattle.side_by_side.proofs.Closings.{closes, trace-alike, never-over, never-refused}
 use borrow.Author.Needs.{needs}
@@ -22,7 +23,7 @@ write-requires c κs =
     let k = c .before .before .before in
     let s = k .before .before .before .before .before .before .before .before .before .before .before .before .before .before in
     let f = rw (k .answer .given .1) at (k .before .before .before .before .before .judge .ensures) in
-    (omega (arith, s .pre .0), (f .demand .alike _ (s .pre .1 .1 .0) _ _ (k .before .before .before .before .before .before .before .before .before .if1 .left), trace-alike (f .demand) _ (s .pre .1 .1 .0) _))
+    (omega (arith, s .pre .0), (f .demand .alike ours _ (s .pre .1 .1 .0) _ _ (k .before .before .before .before .before .before .before .before .before .if1 .left), trace-alike (f .demand) _ (s .pre .1 .1 .0) _))
 
 returns-2 : tie.Need-returns-2
 returns-2 c = λ u start.
