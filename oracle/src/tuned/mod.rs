@@ -9,6 +9,7 @@ mod listing;
 mod read;
 mod review;
 mod run;
+mod stages;
 mod tabulate;
 mod write;
 
@@ -18,4 +19,5 @@ pub use judge::{judge, judge_by_labels, report};
 pub use listing::{list, relist};
 pub use review::review;
 pub use run::run;
+pub use stages::{go_back, keep};
 pub use tabulate::tabulate;
