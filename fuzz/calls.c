@@ -1567,6 +1567,30 @@ static void check_stages(struct text program, uint8_t refused, struct text name,
     REQUIRE(text.length == program.length && memcmp(text.bytes, kept, text.length) == 0);
 }
 
+/* Each place is filled with lines to its end, and has a length past it: all are empty, and nothing is read
+   behind the eighth, where the page can't be. */
+static void check_far_lengths(void) {
+    static const struct text names[2] = {{(const uint8_t *)"a", 1}, {(const uint8_t *)"h", 1}};
+    static const uint8_t lengths[4][2] = {{0, 255}, {255, 255}, {0x25, 0x22}, {0x2e, 0x22}};
+    uint8_t *stages = lend(&stage_bytes, STAGES_BYTES);
+    struct text text;
+
+    for (size_t k = 0; k < 4; k++) {
+        for (size_t at = 0; at < PLACES; at++) {
+            uint8_t *place = stages + at * PLACE_BYTES;
+
+            memset(place, 0, NAME_BYTES);
+            place[0] = (uint8_t)('a' + at);
+            memcpy(place + NAME_BYTES, lengths[k], 2);
+            for (size_t b = NAME_BYTES + 2; b < PLACE_BYTES; b += 5) memcpy(place + b, "skip\n", 5);
+        }
+        memcpy(stage_bytes.shadow, stage_bytes.start, stage_bytes.size);
+        for (size_t n = 0; n < 2; n++)
+            REQUIRE(go_back(stages, STAGES_BYTES, names[n], TEXT_BYTES, &text) == 25);
+        require_kept(&stage_bytes);
+    }
+}
+
 /* Inputs */
 
 static struct text cut(const uint8_t **rest, size_t *length) {
@@ -1594,6 +1618,7 @@ int LLVMFuzzerInitialize(int *count, char ***arguments) {
     map(&joins, 3);
     map(&stage_bytes, 18);
     map(&stage_names, 16);
+    check_far_lengths();
     return 0;
 }
 
