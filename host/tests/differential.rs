@@ -14,8 +14,8 @@ use coverage::Tally;
 use lent::{Lent, Text};
 use oracle::condition::{self, Atom, Condition, Demand, Direction, Part, Quantifier};
 use oracle::forcing::{self, player, Arm, Forced, Player};
-use oracle::generate::WrongSign;
-use oracle::generate::{self, Damage, PlaceDamage, Random, WrongDriver, WrongName, WrongReuse};
+use oracle::generate::{self, Damage, PlaceDamage, Random};
+use oracle::generate::{WrongDriver, WrongName, WrongReuse, WrongSign};
 use oracle::join::{self, InTurn};
 use oracle::listing::{self, Counts, Set};
 use oracle::liveness::{differing, Liveness};
@@ -25,7 +25,7 @@ use oracle::pricing::{self, kind, KIND_NAMES};
 use oracle::program::{is_kept, Expression, Operand, Operator, Program, Statement, LARGEST, LEAST};
 use oracle::review::{self, Reviewed, MOST_TABLES};
 use oracle::stages::{self, Stage};
-use rewrites::{raw, FIRST_KEPT, KEPT, MOST_STEPS, VARIABLES};
+use rewrites::{raw, Outcome as Answer, FIRST_KEPT, KEPT, MOST_STEPS, VARIABLES};
 use rewrites::{LIST_WORDS, REVIEW_LINES, REVIEW_WORDS, STATEMENTS, TABLE_WORDS, TEXT_BYTES};
 use rewrites::{PLACES, PLACE_BYTES, STAGES_BYTES, UNFORCED, VERDICT_BYTES};
 use std::ops::Range;
@@ -3011,18 +3011,15 @@ fn rounds_from_a_stage_run_as_its_program() {
                 };
                 endings.met("budgets");
                 match (one, two) {
-                    (
-                        rewrites::Outcome::Spent { statement, .. },
-                        rewrites::Outcome::Spent { statement: other, .. },
-                    ) => {
+                    (Answer::Spent { statement, .. }, Answer::Spent { statement: other, .. }) => {
                         assert_eq!(statement, other, "{}", shown());
                         if budget == 2_000 {
                             endings.met("spent");
                         }
                     }
                     (
-                        rewrites::Outcome::Ended { value, steps, kept, .. },
-                        rewrites::Outcome::Ended { value: w, steps: s, kept: k, .. },
+                        Answer::Ended { value, steps, kept, .. },
+                        Answer::Ended { value: w, steps: s, kept: k, .. },
                     ) => {
                         assert_eq!((value, steps, kept), (w, s, k), "{}", shown());
                         endings.met("ended");
@@ -3032,8 +3029,8 @@ fn rounds_from_a_stage_run_as_its_program() {
                         break;
                     }
                     (
-                        rewrites::Outcome::Fault { statement, steps, .. },
-                        rewrites::Outcome::Fault { statement: other, steps: s, .. },
+                        Answer::Fault { statement, steps, .. },
+                        Answer::Fault { statement: other, steps: s, .. },
                     ) => {
                         assert_eq!((statement, steps), (other, s), "{}", shown());
                         endings.met("fault");
