@@ -1,3 +1,4 @@
 pub mod Values
 pub mod Lengths
 pub mod Rooms
+pub mod Words

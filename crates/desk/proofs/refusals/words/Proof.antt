@@ -1,19 +1,15 @@
 -- `words` meets its contract: each arm writes the words of its number. Assumes nothing.
-use mathlib.Core.Path.{refl}
-use native.Mathlib.Omega.{arith}
-use borrow.Author.Tests.{ne-eqb}
 use borrow.Author.Needs.{needs}
 use Rattle.desk.specs.Refusals.{refusalWords}
+use Rattle.desk.proofs.Words.{nothing-put}
 use Rattle.desk.proofs.refusals.words.Statement.{statement}
 use Rattle.desk.proofs.refusals.words.Tie as tie
 
 -- no row has the number
-returns-16 : tie.Need-returns-16
-unfolding refusalWords
-returns-16 c =
-    let n = c .match .rest in
-    rw (ne-eqb _ 1 (n .0 .0 .0 .0 .0 .0 .0 .0 .0 .0 .0 .0 .0 .0 .1), ne-eqb _ 15 (n .0 .0 .0 .0 .0 .0 .0 .0 .0 .0 .0 .0 .0 .1), ne-eqb _ 2 (n .0 .0 .0 .0 .0 .0 .0 .0 .0 .0 .0 .0 .1), ne-eqb _ 3 (n .0 .0 .0 .0 .0 .0 .0 .0 .0 .0 .0 .1), ne-eqb _ 4 (n .0 .0 .0 .0 .0 .0 .0 .0 .0 .0 .1), ne-eqb _ 5 (n .0 .0 .0 .0 .0 .0 .0 .0 .0 .1), ne-eqb _ 6 (n .0 .0 .0 .0 .0 .0 .0 .0 .1), ne-eqb _ 7 (n .0 .0 .0 .0 .0 .0 .0 .1), ne-eqb _ 8 (n .0 .0 .0 .0 .0 .0 .1), ne-eqb _ 9 (n .0 .0 .0 .0 .0 .1), ne-eqb _ 10 (n .0 .0 .0 .0 .1), ne-eqb _ 16 (n .0 .0 .0 .1), ne-eqb _ 17 (n .0 .0 .1), ne-eqb _ 21 (n .0 .1), ne-eqb _ 22 (n .1))
-    (record { text = refl; after = omega arith })
+returns-19 : tie.Need-returns-19
+returns-19 c =
+    let a = c .before .before .args in
+    nothing-put (a .out .now) (a .at) (a .n) (a .line) (c .match .rest)
 
 pub words-spec : {M : Type 1} → statement M
 unfolding refusalWords
@@ -54,6 +50,12 @@ words-spec =
     (λ c. search needs)
     (λ c κs. rw (c .before .before .match .keys15) at (c .before .before .before .before .pre))
     (λ c. search needs)
+    (λ c κs. rw (c .before .before .match .keys16) at (c .before .before .before .before .pre))
+    (λ c. search needs)
+    (λ c κs. rw (c .before .before .match .keys17) at (c .before .before .before .before .pre))
+    (λ c. search needs)
+    (λ c κs. rw (c .before .before .match .keys18) at (c .before .before .before .before .pre))
+    (λ c. search needs)
     (λ c. rw (c .before .before .before .before .before .match .keys1) (c .before .before .word .ensures))
     (λ c. search needs)
     (λ c. rw (c .before .before .before .before .before .match .keys2) (c .before .before .word2 .ensures))
@@ -83,4 +85,10 @@ words-spec =
     (λ c. rw (c .before .before .before .before .before .match .keys14) (c .before .before .word11 .ensures))
     (λ c. search needs)
     (λ c. rw (c .before .before .before .before .before .match .keys15) (c .before .before .word12 .ensures))
-    returns-16)
+    (λ c. search needs)
+    (λ c. rw (c .before .before .before .before .before .match .keys16) (c .before .before .word13 .ensures))
+    (λ c. search needs)
+    (λ c. rw (c .before .before .before .before .before .match .keys17) (c .before .before .word14 .ensures))
+    (λ c. search needs)
+    (λ c. rw (c .before .before .before .before .before .match .keys18) (c .before .before .word15 .ensures))
+    returns-19)
