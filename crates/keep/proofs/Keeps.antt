@@ -62,3 +62,9 @@ module _ {mem n t : List ℕ} {P : List Statement} {k : ℕ} (room : stage-bytes
     kept = e;
     holds = rw e holds;
   }
+
+-- a finished call leaves all other places as they were
+pub finished-kept : {mem n t q : List ℕ} {told : ℕ} (f : KeepFinished mem n t q told) (j : ℕ) → j < places → (j ≡ f .k → ⊥) → place q j ≡ place mem j
+finished-kept {mem} {n} {t} f j h apart =
+    let fits : length (written n t) ≤ place-room = omega (arith, written-length n t (f .valid .few), taken-short (f .taken)) in
+    ap (λ (x : List ℕ). place x j) (f .kept) ∙ place-kept mem (written n t) (f .k) (f .room) (f .inside) fits j h apart
