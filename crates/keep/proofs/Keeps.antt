@@ -23,8 +23,9 @@ pub written-length : (n t : List ℕ) → length n ≤ name-bytes → length (wr
 written-length n t h = length-append (filled n) (length t % 256 ∷ length t / 256 ∷ t) ∙ (let s = filled-length n h in omega arith)
 
 -- name, length and text one after another
-pub put-stage : (n : List ℕ) {o p q r s t key : List ℕ} {at i j k l : ℕ} → key ≡ filled n → Put o at key p i → Put p i (length t % 256 ∷ []) q j → Put q j (length t / 256 ∷ []) r k → Put r k t s l
-    → s ≡ sets o at (written n t)
+pub put-stage :
+    (n : List ℕ) {o p q r s t key : List ℕ} {at i j k l : ℕ} → key ≡ filled n → Put o at key p i → Put p i (length t % 256 ∷ []) q j
+    → Put q j (length t / 256 ∷ []) r k → Put r k t s l → s ≡ sets o at (written n t)
 put-stage n {o = o} {t = t} {at = at} is a b c d =
     let e : filled n ++ (length t % 256 ∷ []) ++ (length t / 256 ∷ []) ++ t ≡ written n t = simp append-assoc in
     put-then (put-then (put-then (rw is at a) b) c) d .text ∙ ap (sets o at) e

@@ -109,8 +109,10 @@ pub fill-zeros : (n : List ℕ) → length n ≤ name-bytes → sets (replicate 
 fill-zeros n h =
     let z = zeros name-bytes in
     let y = zeros (name-bytes - length n) in
+    let size : length (drop {A = ℕ} (0 + length n) (replicate name-bytes 0)) ≡ length {A = ℕ} (replicate (name-bytes - length n) 0) =
+    length-drop (0 + length n) (replicate name-bytes 0) ∙ (let s = z .size in let t = y .size in omega arith) in
     let tail : drop {A = ℕ} (0 + length n) (replicate name-bytes 0) ≡ replicate (name-bytes - length n) 0 =
-    ext-getD 0 _ _ (length-drop (0 + length n) (replicate name-bytes 0) ∙ (let s = z .size in let t = y .size in omega arith)) (λ i l. getD-drop (0 + length n) (replicate name-bytes 0) i 0 ∙ z .zero (0 + length n + i) ∙ sym (y .zero i)) in
+    ext-getD 0 _ _ size (λ i l. getD-drop (0 + length n) (replicate name-bytes 0) i 0 ∙ z .zero (0 + length n + i) ∙ sym (y .zero i)) in
     sets-eq n (replicate name-bytes 0) 0 (let s = z .size in omega arith) ∙ ap (λ (x : List ℕ). n ++ x) tail
 
 -- ---- the key at the front, byte by byte

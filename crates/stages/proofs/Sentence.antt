@@ -9,7 +9,8 @@ use Rattle.stages.specs.Sentence.{Sentence}
 
 module _ (mem : List ℕ) where
   -- no earlier place holds the name, so none has it that stands right
-  none-stands : (n : List ℕ) (k : ℕ) → k ≤ places → ((j : ℕ) (u : List ℕ) → j < k → Holds mem j n u → ⊥) → (j : ℕ) → j < k → (u : List ℕ) → Stands (place mem j) n u → ⊥
+  none-stands :
+      (n : List ℕ) (k : ℕ) → k ≤ places → ((j : ℕ) (u : List ℕ) → j < k → Holds mem j n u → ⊥) → (j : ℕ) → j < k → (u : List ℕ) → Stands (place mem j) n u → ⊥
   none-stands n zero h f = λ j l. absurd (omega arith)
   none-stands n (suc k) h f =
       let before = none-stands n k (omega arith) (λ j u l. f j u (omega arith)) in

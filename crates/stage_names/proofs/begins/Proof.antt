@@ -17,7 +17,7 @@ returns : tie.Need-returns Inv-loop μ-loop
 returns c =
     let l = c .before .before .before .before in
     let a = l .before .args in
-    same-not (a .s .now) (a .key .now) (l .loop .i) (c .before .before .before .loop-test .taken) (c .if1 .taken)
+    same-not (a .s .now) (a .key .now) (l .loop .i) (omega (arith, c .before .before .before .loop-test .taken)) (c .if1 .taken)
 
 loop-again : tie.Need-loop-again Inv-loop μ-loop
 loop-again c =
@@ -29,7 +29,7 @@ returns-2 : tie.Need-returns-2 Inv-loop μ-loop
 returns-2 c =
     let l = c .before in
     let a = l .before .args in
-    same-all (a .s .now) (a .key .now) (l .before .pre .0) (l .before .pre .1) (l .loop .i) (c .loop-test .left) (l .loop .inv)
+    same-all (a .s .now) (a .key .now) (l .before .pre .0) (l .before .pre .1) (l .loop .i) (omega (arith, c .loop-test .left)) (l .loop .inv)
 
 pub begins-spec : {M : Type 1} → statement M
 begins-spec =

@@ -10,9 +10,11 @@ use Rattle.stage_names.proofs.valid.Tie as tie
 
 returns-3 : tie.Need-returns-3
 returns-3 c =
-    let g = c .before .before .before .before in
+    let s = c .before .before .before .before .args .s .now in
+    let n = c .letters .result in
     let e = c .letters .ensures in
-    decides-same (eqb (c .letters .result) (length (g .args .s .now))) (all-letters (g .args .s .now) (omega (arith, c .before .before .if1 .left)) (omega (arith, c .before .if2 .left)) (e .1)) (letters-all (g .args .s .now) (e .0) (e .2)) (decides-eqb (c .letters .result) (length (g .args .s .now)))
+    decides-same (eqb n (length s)) (all-letters s (omega (arith, c .before .before .if1 .left)) (omega (arith, c .before .if2 .left)) (e .1)) (letters-all s (e .0) (e .2))
+    (decides-eqb n (length s))
 
 pub valid-spec : {M : Type 1} → statement M
 valid-spec = tie.close (tie.spec (λ c. search needs) (λ c. search needs) (λ c κs. search needs) returns-3)

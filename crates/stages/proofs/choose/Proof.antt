@@ -9,6 +9,11 @@ use Rattle.stages.proofs.choose.Tie as tie
 unknown : (c : tie.After-enum-told) → let g = c .before .before .before .before .before in Unknown (g .args .stages .now) (g .args .name .now)
 unknown c = rw (c .enum-told .given .1) at (c .before .before .find .ensures)
 
+returns-2 : tie.Need-returns-2
+returns-2 c =
+    let g = c .before .before .before .before .before .before in
+    chosen-empty (g .args .stages .now) (g .args .name .now) (c .first-empty .result) (unknown (c .before)) (c .first-empty .ensures)
+
 pub choose-spec : {M : Type 1} → statement M
 choose-spec =
     tie.close
@@ -18,4 +23,4 @@ choose-spec =
     (λ c. search needs)
     (λ c κs. let g = c .before .before .before .before .before in (g .pre .0, g .pre .1, unknown c))
     (λ c. inl (rw (c .before .known .given .1) at (c .before .before .before .find .ensures)))
-    (λ c. let g = c .before .before .before .before .before .before in chosen-empty (g .args .stages .now) (g .args .name .now) (c .first-empty .result) (unknown (c .before)) (c .first-empty .ensures)))
+    returns-2)

@@ -33,8 +33,9 @@ returns-3 c =
     let g = n .before .before .before in
     let d = c .before .before .before .before .named in
     let r = c .before .before .repeated in
-    decides-same (c .text-taken .result)
-    (occupies (g .args .stages .now) (g .args .k) (g .pre .0 .1) (rw (name-is n) at (decided-true (d .result) (not-false _ (c .before .before .before .if1 .left)) (d .ensures))) (decided-false (r .result) (c .before .if2 .left) (r .ensures)))
+    let right = rw (name-is n) at (decided-true (d .result) (not-false _ (c .before .before .before .if1 .left)) (d .ensures)) in
+    let once = decided-false (r .result) (c .before .if2 .left) (r .ensures) in
+    decides-same (c .text-taken .result) (occupies (g .args .stages .now) (g .args .k) (g .pre .0 .1) right once)
     (occupied-taken (g .args .stages .now) (g .args .k)) (rw (n .before .part .ensures .0) at (c .text-taken .ensures))
 
 pub occupied-spec : {M : Type 1} → statement M
