@@ -1,5 +1,5 @@
 -- What is known once a stage is written: its place holds it. Assumes nothing.
-use mathlib.Core.Path.{_≡_, refl, sym, ap, _∙_}
+use mathlib.Core.Path.{_≡_, ap, _∙_}
 use mathlib.Core.Logic.{inl, inr}
 use mathlib.Core.List.{List, [], _∷_, _++_, append-assoc}
 use Prim.Native.Nat.{ℕ, _+_, _*_, _/_, _%_, _≤_, _<_}
@@ -12,7 +12,7 @@ use Rattle.statement_writer.proofs.Puts.{put-then}
 use Rattle.program.specs.Program.{Taken}
 use Rattle.stage_names.specs.Names.{name-bytes, ValidName, filled}
 use Rattle.stage_names.proofs.Names.{filled-length}
-use Rattle.stages.specs.Stages.{places, stage-bytes, place-room, place, written, Stands, Holds}
+use Rattle.stages.specs.Stages.{places, stage-bytes, place-room, place, written, Holds}
 use Rattle.stages.specs.Choice.{Chosen}
 use Rattle.stages.specs.Looking.{StandsNowhere}
 use Rattle.stages.proofs.Places.{taken-short, unknown-nowhere}

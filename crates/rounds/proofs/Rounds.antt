@@ -1,5 +1,5 @@
 -- The theorem of Wish 11: by induction on the calls. Assumes nothing.
-use mathlib.Core.Path.{_≡_, refl, sym, ap, _∙_, subst}
+use mathlib.Core.Path.{_≡_, sym, ap, subst}
 use mathlib.Core.Logic.{inl, inr}
 use mathlib.Core.List.{List}
 use Prim.Native.Nat.{ℕ, _*_, _≤_, _<_}
@@ -25,7 +25,7 @@ use Rattle.stages.proofs.Places.{stands-name}
 use Rattle.keep.specs.Keep.{KeepFinished}
 use Rattle.keep.proofs.Keeps.{finished-kept}
 use Rattle.go_back.proofs.Unique.{held-returned}
-use Rattle.rounds.specs.Rounds.{Reached, start, round, other, refused, Rounds, Claim}
+use Rattle.rounds.specs.Rounds.{Reached, start, round, other, refused, Claim}
 
 -- ---- the stage is as it was
 

@@ -5,8 +5,8 @@ use Prim.Native.Nat.{ℕ, _+_, _-_, _≤_, _<_}
 use native.Mathlib.Decide.{decLt}
 use native.Mathlib.Omega.{arith}
 use borrow.Author.Count.{below-more}
-use lib.ListN.{length, getD, take, drop, replicate, length-append, length-drop, List·getD-append, List·getD-eq-default}
-use lib.Seq.{sets, sets-eq, take-at, take-length, ext-getD, getD-take, getD-drop, getD-append-add, length-take-le}
+use lib.ListN.{length, getD, take, drop, replicate, length-append, length-drop, List·getD-append}
+use lib.Seq.{sets, sets-eq, take-at, ext-getD, getD-take, getD-drop, getD-append-add, length-take-le}
 use Rattle.bits.proofs.Rows.{zeros}
 use Rattle.stage_names.specs.Names.{name-bytes, Letter, ValidName, filled, Named, Letters}
 

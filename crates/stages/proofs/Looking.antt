@@ -5,8 +5,7 @@ use mathlib.Core.List.{List}
 use Prim.Native.Nat.{ℕ, _+_, _-_, _≤_, _<_}
 use native.Mathlib.Omega.{arith}
 use borrow.Author.Count.{below-more}
-use lib.ListN.{length, take, drop}
-use Rattle.language.specs.declared.Statement.{Statement}
+use lib.ListN.{take, drop}
 use Rattle.program.specs.Reading.{statements, ProgramRead}
 use Rattle.program.specs.declared.Program.{Program}
 use Rattle.program.specs.declared.Refusal.{Refusal}
@@ -15,12 +14,12 @@ use Rattle.program.specs.declared.Answer.the-variants as answer
 use Rattle.program.proofs.Unique.{taken-refused}
 use Rattle.stage_names.specs.Names.{name-bytes, ValidName, filled, Named}
 use Rattle.stage_names.proofs.Names.{filled-unique}
-use Rattle.stages.specs.Stages.{places, head-bytes, most-text, place, lengthIn, textIn, Stands, Holds, Empty}
+use Rattle.stages.specs.Stages.{places, head-bytes, most-text, place, lengthIn, textIn, Stands, Empty}
 use Rattle.stages.specs.Choice.{HasName, Unknown, Occupied, FindsEmpty, Chooses}
 use Rattle.stages.specs.declared.Place.{Place}
 use Rattle.stages.specs.declared.Place.the-variants.{At, Nowhere}
 use Rattle.stages.specs.Looking.{TextTaken, Repeated, StandsNowhere}
-use Rattle.stages.proofs.Places.{stands-of, stands-taken, stands-name}
+use Rattle.stages.proofs.Places.{stands-of, stands-taken}
 
 -- ---- the text of a place
 

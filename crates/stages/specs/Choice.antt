@@ -1,5 +1,4 @@
 -- Which place a name has, and which one a stage that is kept under it takes.
-use mathlib.Core.Path.{_≡_}
 use mathlib.Core.Logic.{_⊎_}
 use mathlib.Core.List.{List}
 use Prim.Native.Nat.{ℕ, _<_}

@@ -1,6 +1,6 @@
 -- Stages with a name: what stands in the bytes that a host lends for them. Document 02, Wish 11.
 use mathlib.Core.Path.{_≡_}
-use mathlib.Core.List.{List, [], _∷_, _++_}
+use mathlib.Core.List.{List, _∷_, _++_}
 use Prim.Native.Nat.{ℕ, _+_, _-_, _*_, _/_, _%_, _≤_, _<_}
 use lib.ListN.{length, getD, take, drop}
 use Rattle.language.specs.declared.Statement.{Statement}

@@ -2,10 +2,9 @@
 ghost use mathlib.Core.Path.{_≡_};
 ghost use Prim.Native.Nat.{ℕ, _≤_, _<_};
 ghost use lib.ListN.{length, take};
-ghost use mathlib.Core.List.{List};
 ghost use Rattle.base.specs.Decides.{Decides};
-ghost use Rattle.stage_names.specs.Names.{name-bytes, ValidName, filled};
-ghost use Rattle.stages.specs.Stages.{places, stage-bytes, place-room, most-text, place, lengthIn};
+ghost use Rattle.stage_names.specs.Names.{name-bytes, ValidName};
+ghost use Rattle.stages.specs.Stages.{places, stage-bytes, place-room, place, lengthIn};
 ghost use Rattle.stages.specs.Choice.{Occupied, Unknown, Finds, FindsEmpty, Chooses};
 ghost use Rattle.stages.specs.Looking.{TextTaken, Repeated};
 use stage_names::NAME_BYTES;

@@ -1,9 +1,8 @@
 -- `named` meets its contract. The invariant: behind the letters all before i are zero. Assumes nothing.
-use mathlib.Core.Path.{_≡_}
-use Prim.Native.Nat.{ℕ, _-_, _≤_, _<_}
+use Prim.Native.Nat.{_-_, _≤_}
 use native.Mathlib.Omega.{arith}
 use borrow.Author.Needs.{needs}
-use lib.ListN.{length, getD}
+use lib.ListN.{length}
 use Rattle.stage_names.proofs.Names.{ZeroFrom, zero-more, bytes-named, named-letters, named-zero}
 use Rattle.stage_names.proofs.named.Statement.{statement}
 use Rattle.stage_names.proofs.named.Tie as tie

@@ -1,9 +1,9 @@
 -- `find` meets its contract. The invariant: no stage stands right under the name before place k. Assumes nothing.
-use mathlib.Core.Path.{_≡_, sym, ap, _∙_}
-use Prim.Native.Nat.{_-_, _≤_}
+use mathlib.Core.Path.{_≡_, ap, _∙_}
+use Prim.Native.Nat.{_-_}
 use native.Mathlib.Omega.{arith}
 use borrow.Author.Needs.{needs}
-use lib.ListN.{length, take}
+use lib.ListN.{length}
 use Rattle.base.proofs.Decides.{decided-true, decided-false}
 use Rattle.stage_names.specs.Names.{name-bytes}
 use Rattle.stage_names.proofs.Names.{filled-length}

@@ -4,7 +4,7 @@ use Prim.Native.Nat.{ℕ, _-_, _<_}
 use native.Mathlib.Omega.{arith}
 use borrow.Author.Needs.{needs}
 use borrow.Author.Tests.{not-true, not-false}
-use lib.ListN.{length, take}
+use lib.ListN.{length}
 use Rattle.base.proofs.Decides.{decided-true, decided-false}
 use Rattle.stage_names.specs.Names.{name-bytes}
 use Rattle.stage_names.proofs.Names.{filled-length}

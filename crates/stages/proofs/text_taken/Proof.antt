@@ -1,5 +1,4 @@
 -- `text_taken` meets its contract. Assumes nothing.
-use native.Mathlib.Omega.{arith}
 use borrow.Author.Needs.{needs}
 use Rattle.stages.proofs.Looking.{text-read, text-refused}
 use Rattle.stages.proofs.text_taken.Statement.{statement}
