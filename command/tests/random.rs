@@ -29,7 +29,7 @@ const WORDS: [&str; 43] = [
 ];
 
 /// The options of each call, some of them such that they are refused.
-const OPTIONS: [(&str, &[&[&str]]); 9] = [
+const OPTIONS: [(&str, &[&[&str]]); 10] = [
     (
         "check",
         &[&["--json"], &["--explain"], &["--text"], &["."], &["a"], &["nowhere"], &["-o", "new"]],
