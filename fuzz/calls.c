@@ -1,8 +1,8 @@
 /* A libFuzzer target over the calls. An input is a program, a condition or the conditions of a
-   review, a list of marks, some bytes that choose the rest, a driver's list and a buyer's prices, with
-   '%', which no text holds, between them. The bytes that choose are a creeper program too, which the
-   program is joined to. Runs and reports go by the buyer's prices; where these are refused, by a table
-   that the bytes choose, with entries of any size.
+   review, a list of marks, some bytes that choose the rest, a driver's list, a buyer's prices and a
+   stage's name, with '%', which no text holds, between them. The bytes that choose are a creeper program
+   too, which the program is joined to, and by them the stages are made. Runs and reports go by the buyer's
+   prices; where these are refused, by a table that the bytes choose, with entries of any size.
    What is checked holds for every input:
    - a refused call changes nothing, and a finished one only what its result sets;
    - no byte beyond a lent text or buffer is touched: each ends at a page that can't be;
@@ -43,7 +43,11 @@
    - two programs are joined unless one isn't taken, the first told before the second, or both have over
      257 lines. The joined text is taken and has a line less than both; the first's lines but the last
      stand in front as they are, then the assignment, then the second's with their targets moved. It
-     runs as the first does to its end, and then as the second does with what the first left.
+     runs as the first does to its end, and then as the second does with what the first left;
+   - stages of the input's texts and bytes, whole and damaged: of the places whose name is letters and zero
+     bytes, whose length has room there and whose text runs, the first with its name holds it. What is kept
+     stands in the place that holds its name, or else in the first that holds none; it is returned, and
+     every other held name's text is as it was. The marks' new text, kept under another name, leaves it too.
    `fuzz/run` builds it and runs it; `host/tests/fuzz.rs` runs it on the seeds. */
 #define _DEFAULT_SOURCE
 #include "rewrites.h"
@@ -78,6 +82,10 @@
 #define STATEMENTS 256
 #define KINDS 11
 #define UNFORCED UINT32_MAX
+#define STAGES_BYTES 70000
+#define PLACES 8
+#define PLACE_BYTES (STAGES_BYTES / PLACES)
+#define NAME_BYTES 8
 
 static const char P[] =
     "read i0\ni1 := i0\ni2 := 7\ni3 := i1 + i2\n"
@@ -143,7 +151,8 @@ static struct text put(struct region *r, const void *bytes, size_t length) {
     return (struct text){lent, length};
 }
 
-static struct region programs, others, conditions, tables, verdict_bytes, new_text, drivers, joins, tariffs;
+static struct region programs, others, conditions, tables, verdict_bytes, new_text, drivers, joins,
+    tariffs, stage_bytes, stage_names;
 
 /* What out-parameters hold before a call, and the words on both sides of each. */
 #define UNSET 0xa5c3e187u
@@ -1455,6 +1464,216 @@ static void check_join(struct text road, struct text creeper, uint8_t road_refus
     require_kept(&joins);
 }
 
+/* Stages */
+
+static uint8_t keep(uint8_t *stages, size_t room, struct text name, struct text program,
+                    uint32_t *place) {
+    uint32_t places[3];
+    uint8_t number;
+
+    unset(places, 3);
+    number = rewrites_keep(stages, room, name.bytes, name.length, program.bytes, program.length, &places[1]);
+    for (size_t k = 0; k < 3; k++) REQUIRE((number == 0 && k == 1) || places[k] == UNSET);
+    *place = places[1];
+    return number;
+}
+
+/* The text that is returned stands in new_text, where the next call may change it. */
+static uint8_t go_back(const uint8_t *stages, size_t stages_room, struct text name, size_t room,
+                       struct text *returned) {
+    uint32_t places[3];
+    uint8_t *text = lend(&new_text, room), number;
+
+    unset(places, 3);
+    number = rewrites_return(stages, stages_room, name.bytes, name.length, text, room, &places[1]);
+    for (size_t k = 0; k < 3; k++) REQUIRE((number == 0 && k == 1) || places[k] == UNSET);
+    if (number == 0) {
+        REQUIRE(places[1] <= TEXT_BYTES);
+        set(&new_text, text, places[1]);
+        *returned = (struct text){text, places[1]};
+    }
+    require_kept(&new_text);
+    return number;
+}
+
+static int is_name(struct text name) {
+    for (size_t k = 0; k < name.length; k++)
+        if (name.bytes[k] < 'a' || name.bytes[k] > 'z') return 0;
+    return name.length >= 1 && name.length <= NAME_BYTES;
+}
+
+/* The name and the text that stand right in a place, whatever the others have. */
+static int stands(const uint8_t *place, struct text *name, struct text *text) {
+    static const uint32_t values[VARIABLES];
+    struct run told;
+    size_t letters = 0, length = place[NAME_BYTES] + 256u * place[NAME_BYTES + 1];
+
+    while (letters < NAME_BYTES && place[letters] != 0) letters++;
+    *name = (struct text){place, letters};
+    if (!is_name(*name)) return 0;
+    while (letters < NAME_BYTES)
+        if (place[letters++] != 0) return 0;
+    if (length > PLACE_BYTES - NAME_BYTES - 2) return 0;
+    *text = (struct text){place + NAME_BYTES + 2, length};
+    return run(*text, values, 0, 0, &told) == 0;
+}
+
+static int same(struct text one, struct text other) {
+    return one.length == other.length && (one.length == 0 || memcmp(one.bytes, other.bytes, one.length) == 0);
+}
+
+/* What the places hold: a length of 0 for the name where one is empty. */
+struct held {
+    struct text name[PLACES], text[PLACES];
+    size_t count;
+};
+
+static void find_held(const uint8_t *stages, struct held *held) {
+    held->count = 0;
+    for (size_t k = 0; k < PLACES; k++) {
+        int is_held = stands(stages + k * PLACE_BYTES, &held->name[k], &held->text[k]);
+
+        for (size_t j = 0; j < k; j++)
+            if (held->name[j].length > 0 && same(held->name[j], held->name[k])) is_held = 0;
+        if (!is_held) held->name[k].length = 0;
+        held->count += (size_t)is_held;
+    }
+}
+
+/* The place that holds a name, and the first that is empty; PLACES for none. */
+static size_t place_of(const struct held *held, struct text name) {
+    size_t k = 0;
+    while (k < PLACES && !(held->name[k].length > 0 && same(held->name[k], name))) k++;
+    return k;
+}
+
+static size_t first_empty(const struct held *held) {
+    size_t k = 0;
+    while (k < PLACES && held->name[k].length > 0) k++;
+    return k;
+}
+
+/* Puts a record into a place, and damages it by some bits. */
+static void put_record(uint8_t *place, struct text name, struct text text, uint32_t bits) {
+    size_t letters = name.length < NAME_BYTES ? name.length : NAME_BYTES;
+    size_t most = PLACE_BYTES - NAME_BYTES - 2, length = text.length < most ? text.length : most;
+
+    memset(place, 0, NAME_BYTES);
+    memcpy(place, name.bytes, letters);
+    place[NAME_BYTES] = (uint8_t)length;
+    place[NAME_BYTES + 1] = (uint8_t)(length >> 8);
+    memcpy(place + NAME_BYTES + 2, text.bytes, length);
+    switch (bits % 16) {
+    case 0: place[bits / 16 % NAME_BYTES] ^= (uint8_t)(1u << (bits / 128 % 8)); break;
+    case 1: place[NAME_BYTES] = (uint8_t)(bits / 16); break;
+    case 2: place[NAME_BYTES + 1] = (uint8_t)(bits / 16); break;
+    case 3: place[NAME_BYTES + 2 + bits / 16 % (length ? length : 1)] ^= (uint8_t)(1u << (bits >> 29)); break;
+    case 4: place[NAME_BYTES] = 0, place[NAME_BYTES + 1] = 255; break;
+    default: break;
+    }
+}
+
+static void check_stages(struct text program, uint8_t refused, struct text name, struct text driver,
+                         struct text marks, uint32_t sum) {
+    static const char *const names[PLACES] = {"a",     "abcdefgh", "abcdefgi", "b",
+                                              "first", "abcdefg",  "z",        "second"};
+    static uint8_t before[STAGES_BYTES], kept[TEXT_BYTES];
+    static struct judgement judgement;
+    struct held held, after;
+    struct text text, other;
+    uint8_t *stages = lend(&stage_bytes, STAGES_BYTES), number, expected;
+    uint32_t place = 0;
+    size_t at;
+
+    /* Zeros, or the bytes that stood there, then a record in each of some places. */
+    if (sum % 2 == 0) memset(stages, 0, STAGES_BYTES);
+    for (size_t k = 0; k < PLACES; k++) {
+        uint32_t bits = (sum ^ (uint32_t)(k * 0x9e37u)) * 2654435761u;
+        int is_full = sum / 2 % 4 == 0;
+        const char *known = names[is_full ? k : bits >> 29];
+
+        if (!is_full && (bits >> 26) % 4 == 0) continue;
+        text = (struct text){(const uint8_t *)known, strlen(known)};
+        if (!is_full && bits / 64 % 4 < 2) text = bits / 64 % 4 == 0 ? name : driver;
+        other = bits / 256 % 2 ? program : (struct text){(const uint8_t *)P, strlen(P)};
+        put_record(stages + k * PLACE_BYTES, text, other, sum / 8 % 2 ? bits >> 5 : 15);
+    }
+    memcpy(before, stages, STAGES_BYTES);
+    memcpy(stage_bytes.shadow, stage_bytes.start, stage_bytes.size);
+    find_held(before, &held);
+    met(OF_CALLS, 1900 + (unsigned)held.count);
+
+    REQUIRE(keep(stages + 1, STAGES_BYTES - 1, name, program, &place) == 1);
+    REQUIRE(go_back(stages + 1, STAGES_BYTES - 1, name, TEXT_BYTES, &text) == 1);
+    REQUIRE(go_back(stages, STAGES_BYTES, name, TEXT_BYTES - 1, &text) == 1);
+    at = place_of(&held, name);
+    expected = !is_name(name) ? 23 : at == PLACES ? 25 : 0;
+    number = go_back(stages, STAGES_BYTES, name, TEXT_BYTES, &text);
+    REQUIRE(number == expected);
+    if (number == 0) REQUIRE(same(text, held.text[at]));
+    met(OF_CALLS, 1920 + number);
+    require_kept(&stage_bytes);
+
+    if (at == PLACES) at = first_empty(&held);
+    expected = refused != 0 ? refused : !is_name(name) ? 23 : at == PLACES ? 24 : 0;
+    number = keep(stages, STAGES_BYTES, name, program, &place);
+    REQUIRE(number == expected);
+    met(OF_CALLS, 1950 + number + 32 * (unsigned)(at % PLACES));
+    if (number != 0) {
+        require_kept(&stage_bytes);
+        return;
+    }
+    REQUIRE(place == at + 1);
+    put_record(before + at * PLACE_BYTES, name, program, 15);
+    REQUIRE(memcmp(before, stages, STAGES_BYTES) == 0);
+    memcpy(stage_bytes.shadow, stage_bytes.start, stage_bytes.size);
+
+    /* It is returned, and so is what every other place held. */
+    find_held(stages, &after);
+    for (size_t k = 0; k < PLACES; k++) {
+        if (k == at || held.name[k].length == 0) continue;
+        REQUIRE(go_back(stages, STAGES_BYTES, held.name[k], TEXT_BYTES, &text) == 0);
+        REQUIRE(same(text, held.text[k]));
+        REQUIRE(same(held.name[k], after.name[k]) && same(held.text[k], after.text[k]));
+    }
+    REQUIRE(go_back(stages, STAGES_BYTES, name, TEXT_BYTES, &text) == 0 && same(text, program));
+    memcpy(kept, program.bytes, program.length);
+
+    /* A round of marks, whose text is kept under another name. */
+    if (judge(program, marks, VERDICT_BYTES, TEXT_BYTES, &judgement) != 0) return;
+    other = (struct text){(const uint8_t *)names[sum % PLACES], strlen(names[sum % PLACES])};
+    if (same(other, name)) return;
+    number = keep(stages, STAGES_BYTES, other, (struct text){judgement.text, judgement.bytes}, &place);
+    REQUIRE(number == 0 || number == 24);
+    REQUIRE(number == 0 ? place != at + 1 : after.count == PLACES);
+    REQUIRE(go_back(stages, STAGES_BYTES, name, TEXT_BYTES, &text) == 0);
+    REQUIRE(text.length == program.length && memcmp(text.bytes, kept, text.length) == 0);
+}
+
+/* Each place is filled with lines to its end, and has a length past it: all are empty, and nothing is read
+   behind the eighth, where the page can't be. */
+static void check_far_lengths(void) {
+    static const struct text names[2] = {{(const uint8_t *)"a", 1}, {(const uint8_t *)"h", 1}};
+    static const uint8_t lengths[4][2] = {{0, 255}, {255, 255}, {0x25, 0x22}, {0x2e, 0x22}};
+    uint8_t *stages = lend(&stage_bytes, STAGES_BYTES);
+    struct text text;
+
+    for (size_t k = 0; k < 4; k++) {
+        for (size_t at = 0; at < PLACES; at++) {
+            uint8_t *place = stages + at * PLACE_BYTES;
+
+            memset(place, 0, NAME_BYTES);
+            place[0] = (uint8_t)('a' + at);
+            memcpy(place + NAME_BYTES, lengths[k], 2);
+            for (size_t b = NAME_BYTES + 2; b < PLACE_BYTES; b += 5) memcpy(place + b, "skip\n", 5);
+        }
+        memcpy(stage_bytes.shadow, stage_bytes.start, stage_bytes.size);
+        for (size_t n = 0; n < 2; n++)
+            REQUIRE(go_back(stages, STAGES_BYTES, names[n], TEXT_BYTES, &text) == 25);
+        require_kept(&stage_bytes);
+    }
+}
+
 /* Inputs */
 
 static struct text cut(const uint8_t **rest, size_t *length) {
@@ -1481,12 +1700,15 @@ int LLVMFuzzerInitialize(int *count, char ***arguments) {
     map(&drivers, 16);
     map(&joins, 3);
     map(&tariffs, 16);
+    map(&stage_bytes, 18);
+    map(&stage_names, 16);
+    check_far_lengths();
     return 0;
 }
 
 int LLVMFuzzerTestOneInput(const uint8_t *data, size_t size) {
     static const uint32_t edges[8] = {0, 1, 2, 0x7fffffff, 0x80000000, 0xffffffff, 0xfffffffe, 7};
-    struct text program, condition, marks, choice, driver, prices, creeper;
+    struct text program, given, condition, marks, choice, driver, prices, creeper, name;
     uint32_t values[VARIABLES], input, budget, sum = 0;
     struct run told;
     uint8_t refused, creeper_refused;
@@ -1498,6 +1720,7 @@ int LLVMFuzzerTestOneInput(const uint8_t *data, size_t size) {
     choice = cut(&data, &size);
     driver = cut(&data, &size);
     prices = cut(&data, &size);
+    name = cut(&data, &size);
     budget = choice.length > 0 ? choice.bytes[0] % 64 : 12;
     for (size_t k = 0; k < choice.length; k++) sum = sum * 31 + choice.bytes[k];
     for (size_t k = 0; k < VARIABLES; k++) {
@@ -1508,6 +1731,7 @@ int LLVMFuzzerTestOneInput(const uint8_t *data, size_t size) {
 
     prices = put(&tariffs, prices.bytes, prices.length);
     check_prices(prices, sum);
+    given = program;
     program = put(&programs, program.bytes, program.length);
     refused = check_program(program);
     if (refused == 0) {
@@ -1542,5 +1766,10 @@ int LLVMFuzzerTestOneInput(const uint8_t *data, size_t size) {
     require_kept(&programs);
     require_kept(&conditions);
     require_kept(&tariffs);
+    program = put(&programs, given.bytes, given.length);
+    name = put(&stage_names, name.bytes, name.length);
+    check_stages(program, refused, name, driver, marks, sum);
+    require_kept(&stage_names);
+    require_kept(&drivers);
     return 0;
 }

@@ -300,6 +300,45 @@ uint8_t rewrites_join(const uint8_t *road, size_t road_len, const uint8_t *creep
                       size_t creeper_len, uint8_t *text, size_t text_len, uint32_t *statements,
                       uint32_t *bytes);
 
+/* Keeps a program under a name, as a stage to go back to. Stages are eight places in the first 70,000
+   bytes that are lent, place k, counted from 1, in the 8,750 bytes from 8,750(k-1) on: the name, filled
+   up with zero bytes to 8, the text's length in 2 bytes, low byte first, then the text. 70,000 zero bytes
+   are eight empty places. A place is empty where its name isn't 1 to 8 lower-case letters with zero bytes
+   behind them, its length is above 8,740, its text isn't taken (one of 2 to 5 applies to it), or an
+   earlier place that isn't empty has its name. So of the places that stand right with one name the
+   first holds it. A known name is replaced where it stands; a new one takes the first empty place. Takes
+   at most 64 KiB of stack.
+
+   Returns 0, and sets
+   stages     the name, the length and the text of one place. Its other bytes, all other places, and all
+              bytes from 70,000 on are kept.
+   *place     that place, 1 to 8.
+
+   Returns the number of a refusal, and keeps all:
+    1: the stages have under 70,000 bytes.
+    2 to 5: the program, as with rewrites_run.
+   23: the name isn't 1 to 8 lower-case letters.
+   24: the name is new, and all eight places hold others. */
+uint8_t rewrites_keep(uint8_t *stages, size_t stages_len, const uint8_t *name, size_t name_len,
+                      const uint8_t *program, size_t program_len, uint32_t *place);
+
+/* Returns to a stage: writes the text of the program that is kept under a name. The stages are as with
+   rewrites_keep, and are kept. A program that was reached from it by rounds of rewrites_judge, each on the
+   text that the last one wrote, runs as the returned one does, with the same outcome and kept values in
+   the same steps, a fault at the same statement, or spent at the same statement, as long as nothing but
+   rewrites_keep under other names changed the stages since. Takes at most 64 KiB of stack.
+
+   Returns 0, and sets
+   text       the kept program, from byte 0 on. All further bytes are kept.
+   *bytes     the number of its bytes.
+
+   Returns the number of a refusal, and keeps all:
+    1: the stages have under 70,000 bytes or text under 8,704 bytes.
+   23: the name isn't 1 to 8 lower-case letters.
+   25: no place holds the name. */
+uint8_t rewrites_return(const uint8_t *stages, size_t stages_len, const uint8_t *name, size_t name_len,
+                        uint8_t *text, size_t text_len, uint32_t *bytes);
+
 #ifdef __cplusplus
 }
 #endif

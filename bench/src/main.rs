@@ -9,6 +9,7 @@ use inputs::{cse_and_rm_marks_for, cse_marks_for, different_marks_for, marks_for
 use oracle::pricing::{table_text, OURS};
 use oracle::tuned;
 use rewrites::{force, join, judge, list, relist, report, review, run, tabulate, Prices};
+use rewrites::{go_back, keep, PLACES, PLACE_BYTES, STAGES_BYTES};
 use rewrites::{LIST_WORDS, MOST_STEPS, REVIEW_WORDS, STATEMENTS, TABLE_WORDS, TEXT_BYTES};
 use rewrites::{UNFORCED, VERDICT_BYTES};
 use std::fs;
@@ -272,6 +273,89 @@ fn print_joining(worst: &mut Worst) {
     // Each is read whole before both are found too long.
     let longest = longest_text("i31 := -2147483648 + -2147483648");
     print_pair(worst, ", the longest, refused", false, &longest, &longest);
+}
+
+// Stages
+
+const STAGE_NAMES: [&[u8]; PLACES] =
+    [b"one", b"two", b"three", b"four", b"five", b"six", b"seven", b"eight"];
+
+/// Stages whose places all hold this program.
+fn full_stages(program: &[u8]) -> Vec<u8> {
+    let mut stages = vec![0; STAGES_BYTES];
+    for name in STAGE_NAMES {
+        keep(&mut stages, name, program).expect("there is a place");
+    }
+    stages
+}
+
+/// Keeps a program under a name in stages of which one place is emptied before, and prints the times.
+fn time_keep(stages: &[u8], emptied: Option<usize>, name: &[u8], program: &[u8]) -> [f64; 2] {
+    let (mut ours, mut other) = (stages.to_vec(), stages.to_vec());
+    // Without its first letter a place has no name.
+    let empty = |stages: &mut [u8]| {
+        if let Some(at) = emptied {
+            stages[at * PLACE_BYTES] = 0;
+        }
+    };
+    let times = medians(
+        TIMES,
+        [
+            &mut || {
+                empty(&mut ours);
+                keep(&mut ours, name, program).is_ok()
+            },
+            &mut || {
+                empty(&mut other);
+                tuned::keep(&mut other, name, program).is_ok()
+            },
+        ],
+    );
+    assert!(ours == other);
+    times
+}
+
+fn time_return(stages: &[u8], name: &[u8]) -> [f64; 2] {
+    let (mut text, mut text_2) = ([0; TEXT_BYTES], [0; TEXT_BYTES]);
+    let times = medians(
+        TIMES,
+        [&mut || go_back(stages, name, &mut text).is_ok(), &mut || {
+            tuned::go_back(stages, name, &mut text_2).is_ok()
+        }],
+    );
+    assert!(text == text_2);
+    times
+}
+
+fn print_stages(worst: &mut Worst) {
+    print_heading("Stages, in microseconds", "    ns/byte");
+    let longest = longest_text("i31 := -2147483648 + -2147483648");
+    let ordinary = [16, 64, 256].map(|lines| ("", true, inputs::ordinary(lines)));
+    for (kind, is_ordinary, program) in
+        ordinary.into_iter().chain([(", the longest", false, longest)])
+    {
+        let (empty, full) = (vec![0; STAGES_BYTES], full_stages(&program));
+        let lines = program.iter().filter(|&&byte| byte == 10).count();
+        // With how many texts are read whole: that of the program, and those in places.
+        let rows = [
+            ("keep, into empty places", 1, time_keep(&empty, Some(0), b"one", &program)),
+            ("keep, into the last empty place", 8, time_keep(&full, Some(7), b"nine", &program)),
+            ("keep, a known name", 2, time_keep(&full, None, b"eight", &program)),
+            ("keep, a ninth name", 9, time_keep(&full, None, b"nine", &program)),
+            ("return, the first place", 1, time_return(&full, b"one")),
+            ("return, the eighth place", 1, time_return(&full, b"eight")),
+            ("return, no such name", 0, time_return(&full, b"nine")),
+        ];
+        for (call, texts, times) in rows {
+            let each = match texts {
+                0 => String::new(),
+                _ => format!("{:>11.2}", times[0] * 1e9 / (texts * program.len()) as f64),
+            };
+            let name = format!("{}, {} lines{}", call, lines, kind);
+            let ratio = print_line(&name, times, &each);
+            worst.meet(is_ordinary, ratio, name);
+        }
+    }
 }
 
 // Tables
@@ -706,6 +790,7 @@ fn main() {
     print_reading(&mut worst);
     print_writing(&mut worst);
     print_joining(&mut worst);
+    print_stages(&mut worst);
     print_tables(&mut worst);
     print_table_growth(&mut worst);
     print_reviews(&mut worst);

@@ -3,7 +3,7 @@
 use crate::blame::{line_of_marks, line_of_prices, line_of_program, line_of_review, lines};
 use crate::files::{shown, Text, Unread};
 use crate::start;
-use rewrites::{Refusal, MOST_STEPS};
+use rewrites::{Refusal, MOST_STEPS, STAGES_BYTES};
 use serde::Serialize;
 use std::fmt;
 use std::path::Path;
@@ -58,6 +58,7 @@ fn whose(refusal: Refusal) -> &'static str {
         Refusal::ReviewLines | Refusal::ReviewParts => "the author of the review",
         Refusal::MarkMisspelled | Refusal::MarkCount => "the optimiser",
         Refusal::PriceMisspelled | Refusal::PriceCount => "the buyer",
+        Refusal::StageName | Refusal::StagesFull | Refusal::StageUnknown => "who names stages",
     }
 }
 
@@ -100,6 +101,9 @@ fn expected(refusal: Refusal, text: &[u8]) -> String {
         Refusal::PriceCount => {
             "the prices of `read`, `write`, `skip`, `if`, `X := A`, `+`, `-`, `*`, `<`, `=` and `/`, one a line"
         }
+        Refusal::StageName => "1 to 8 lower-case letters",
+        Refusal::StagesFull => "a name that a place holds",
+        Refusal::StageUnknown => "a name that a place holds",
     };
     words.to_string()
 }
@@ -170,6 +174,27 @@ impl Fault {
         Fault { line: Some(2), ..Fault::refused(Refusal::Budget, &text) }
     }
 
+    /// A stage's name is refused, where these names are known.
+    pub fn of_stage(refusal: Refusal, file: &str, name: &[u8], known: &[String]) -> Fault {
+        let mut expected = expected(refusal, name);
+        if refusal != Refusal::StageName && known.is_empty() {
+            expected += ", of which there is none";
+        } else if refusal != Refusal::StageName {
+            let known: Vec<String> = known.iter().map(|name| format!("`{name}`")).collect();
+            expected += &format!(", one of {}", known.join(" "));
+        }
+        Fault {
+            refusal: Some(refusal.number()),
+            file: file.to_string(),
+            line: None,
+            whose: whose(refusal),
+            words: words(refusal),
+            expected,
+            // A byte 10 at the end of a name is shown: it is what is wrong with it.
+            found: Some(quoted(&[name, &b"\n"[..]].concat())),
+        }
+    }
+
     /// A start is misspelled.
     pub fn of_start(wrong: start::Wrong, text: &Text) -> Fault {
         let line = wrong.line.and_then(|line| lines(&text.bytes).nth(line - 1));
@@ -200,6 +225,12 @@ impl Fault {
     pub fn unread(path: &Path, why: &Unread) -> Fault {
         let expected = "a file of at most 65,535 bytes";
         Fault::of_file(path, format!("can't be read: {}", why.reason()), expected)
+    }
+
+    /// A file has no stages: it can't be read, or has other than the bytes that stages have.
+    pub fn not_stages(path: &Path, why: &Unread) -> Fault {
+        let expected = format!("a file of {} bytes, or none", grouped(STAGES_BYTES));
+        Fault::of_file(path, format!("can't be read: {}", why.reason()), &expected)
     }
 
     /// A file can't be opened, and the call goes on as if it were empty.

@@ -1,5 +1,6 @@
 //! Files: read whole within their limit, and replaced whole.
 
+use crate::fault::grouped;
 use crate::output::{reason, Unwritten};
 use std::fs::{self, File};
 use std::io::{self, Read, Write};
@@ -21,8 +22,10 @@ pub enum Unread {
     Missing(io::Error),
     /// It can't be read to its end.
     Broken(io::Error),
-    /// It has over 65,535 bytes.
-    Long,
+    /// It has more bytes than so many, the most that it may have.
+    Long(usize),
+    /// It has so many bytes, fewer than it needs.
+    Short(usize),
 }
 
 impl Unread {
@@ -30,7 +33,8 @@ impl Unread {
     pub fn reason(&self) -> String {
         match self {
             Unread::Missing(error) | Unread::Broken(error) => reason(error),
-            Unread::Long => "over 65,535 bytes".to_string(),
+            Unread::Long(most) => format!("over {} bytes", grouped(*most)),
+            Unread::Short(bytes) => format!("{} bytes", grouped(*bytes)),
         }
     }
 }
@@ -43,12 +47,25 @@ pub fn shown(path: &Path) -> String {
 
 /// The bytes of a file.
 pub fn read(path: &Path) -> Result<Vec<u8>, Unread> {
+    read_at_most(path, MOST_BYTES)
+}
+
+fn read_at_most(path: &Path, most: usize) -> Result<Vec<u8>, Unread> {
     let file = File::open(path).map_err(Unread::Missing)?;
     let mut bytes = Vec::new();
     // One byte more than the most is enough to tell that a file is longer.
-    file.take(MOST_BYTES as u64 + 1).read_to_end(&mut bytes).map_err(Unread::Broken)?;
-    if bytes.len() > MOST_BYTES {
-        return Err(Unread::Long);
+    file.take(most as u64 + 1).read_to_end(&mut bytes).map_err(Unread::Broken)?;
+    if bytes.len() > most {
+        return Err(Unread::Long(most));
+    }
+    Ok(bytes)
+}
+
+/// The bytes of a file that has exactly so many.
+pub fn read_exactly(path: &Path, count: usize) -> Result<Vec<u8>, Unread> {
+    let bytes = read_at_most(path, count)?;
+    if bytes.len() < count {
+        return Err(Unread::Short(bytes.len()));
     }
     Ok(bytes)
 }

@@ -4,6 +4,7 @@ use crate::fault::Fault;
 use crate::files::{self, shown, Text, Unread};
 use crate::output::{reason, Output, Unwritten};
 use crate::status::Status;
+use rewrites::{Stages, STAGES_BYTES};
 use serde::Serialize;
 use std::ffi::OsString;
 use std::fs;
@@ -94,6 +95,19 @@ impl<'a> Folder<'a> {
         }
     }
 
+    /// The stages of a file of the folder, eight empty places where there is none.
+    pub fn read_stages(&mut self, path: &Path) -> Option<Stages> {
+        let why = match files::read_exactly(path, STAGES_BYTES) {
+            Ok(bytes) => return Stages::from_bytes(&bytes),
+            Err(Unread::Missing(error)) if error.kind() == ErrorKind::NotFound => {
+                return Some(Stages::new());
+            }
+            Err(why) => why,
+        };
+        self.add(Status::Unread, Fault::not_stages(path, &why));
+        None
+    }
+
     fn unread<T>(&mut self, path: &Path, why: &Unread) -> Option<T> {
         self.add(Status::Unread, Fault::unread(path, why));
         None
@@ -126,6 +140,18 @@ impl<'a> Folder<'a> {
         output: &mut Output,
     ) -> Result<Status, Unwritten> {
         self.say(output);
+        self.print_quietly(call, json, answer, text, output)
+    }
+
+    /// The same, where what went wrong is said already.
+    pub fn print_quietly<A: Serialize>(
+        &self,
+        call: &'static str,
+        json: bool,
+        answer: Option<A>,
+        text: impl Fn(&A) -> String,
+        output: &mut Output,
+    ) -> Result<Status, Unwritten> {
         if json {
             output.print_json(&self.report(call, answer))?;
         } else if let Some(answer) = answer {

@@ -19,6 +19,7 @@ mod parts;
 mod price;
 mod review;
 mod run;
+mod stage;
 mod start;
 mod status;
 mod tabulate;
@@ -42,7 +43,8 @@ Exit status:
 Of many folders the worst is told.";
 
 /// Shift programs: judges marks, tabulates and reviews conditions, runs, prices by a buyer's table, finds
-/// what a driver can force and the lines of marks, lists readers and writers, and joins two programs
+/// what a driver can force and the lines of marks, lists readers and writers, joins two programs, and keeps
+/// stages to go back to
 #[derive(Parser)]
 #[command(name = "rewrites", version, after_help = STATUSES)]
 struct Arguments {
@@ -79,12 +81,16 @@ enum Call {
     /// Make one program of a road program and a creeper program
     #[command(after_help = STATUSES)]
     Join(join::Arguments),
+    /// Keep a program under a name, return to one, or show what is kept
+    #[command(after_help = STATUSES)]
+    Stage(stage::Arguments),
 }
 
 /// What is wrong with the arguments of a call taken together.
 fn wrong(arguments: &Arguments) -> Option<clap::Error> {
     let (name, words) = match &arguments.call {
         Call::Check(check) => ("check", check.wrong()?),
+        Call::Stage(stage) => ("stage", stage.wrong()?),
         Call::Tabulate(_)
         | Call::Review(_)
         | Call::Force(_)
@@ -128,6 +134,7 @@ fn answered(output: &mut Output) -> Result<Status, Unwritten> {
         Call::Lines(call) => call.run(output),
         Call::List(call) => call.run(output),
         Call::Join(call) => call.run(output),
+        Call::Stage(call) => call.run(output),
     }
 }
 

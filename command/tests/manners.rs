@@ -11,7 +11,7 @@ use std::os::unix::process::CommandExt;
 use std::path::{Path, PathBuf};
 use std::process::{Command, Stdio};
 
-const CALLS: [&[&str]; 9] = [
+const CALLS: [&[&str]; 10] = [
     &["check", "."],
     &["check", "--json", "."],
     &["check", "--text", "."],
@@ -21,6 +21,7 @@ const CALLS: [&[&str]; 9] = [
     &["price", "."],
     &["lines", "."],
     &["list", "."],
+    &["stage", "."],
 ];
 
 #[test]
@@ -35,6 +36,7 @@ fn help_and_version() {
         &["lines", "-h"],
         &["list", "-h"],
         &["join", "-h"],
+        &["stage", "-h"],
     ] {
         let output = run(words);
         assert_eq!((status(&output), said(&output).as_str()), (0, ""), "{words:?}");
@@ -89,6 +91,14 @@ fn usage() {
         &["join", "given", "given", "given"],
         &["join", "given", "given", "-o"],
         &["join", "given", "given", "--text"],
+        &["stage"],
+        &["stage", ".", "keep"],
+        &["stage", ".", "return"],
+        &["stage", ".", "drop", "first"],
+        &["stage", ".", "return", "first", "second"],
+        &["stage", ".", "keep", "first", "-o", "new"],
+        &["stage", ".", "-o", "new"],
+        &["stage", ".", "--text"],
     ] {
         let output = run_in(&example("p"), words);
         assert_eq!((status(&output), printed(&output).as_str()), (2, ""), "{words:?}");
@@ -174,6 +184,7 @@ fn readers(file: &str) -> Vec<&'static [&'static str]> {
         "lines" => file == "marks",
         "list" => file == "given",
         "price" => ["given", "marks", "prices", "start"].contains(&file),
+        "stage" => false,
         _ => file == "given" || file == "start",
     };
     CALLS.iter().filter(reads).copied().collect()

@@ -22,14 +22,14 @@ use std::path::Path;
 const CASES: u64 = 3_000;
 
 #[rustfmt::skip]
-const WORDS: [&str; 38] = [
-    "check", "tabulate", "review", "force", "run", "price", "lines", "list", "join", "help", ".", "a", "nowhere", "given", "--json", "--text", "--explain",
+const WORDS: [&str; 43] = [
+    "check", "tabulate", "review", "force", "run", "price", "lines", "list", "join", "stage", "keep", "return", "first", "stages", "help", ".", "a", "nowhere", "given", "--json", "--text", "--explain",
     "-o", "new", "--output=new", "-onew", "--condition", "E[", "--driver", "i0 i1", "--input", "-1", "2147483648", "--budget",
     "1000001", "--set", "--set=i32=1", "--", "-", "--help", "-V", "-x", "",
 ];
 
 /// The options of each call, some of them such that they are refused.
-const OPTIONS: [(&str, &[&[&str]]); 9] = [
+const OPTIONS: [(&str, &[&[&str]]); 10] = [
     (
         "check",
         &[&["--json"], &["--explain"], &["--text"], &["."], &["a"], &["nowhere"], &["-o", "new"]],
@@ -70,6 +70,7 @@ const OPTIONS: [(&str, &[&[&str]]); 9] = [
     ("lines", &[&["--json"]]),
     ("list", &[&["--json"]]),
     ("join", &[&["--json"], &["-o", "new"]]),
+    ("stage", &[&["--json"]]),
 ];
 
 /// The words of a call, mostly such that it is made, at times damaged or any.
@@ -80,6 +81,14 @@ fn words(random: &mut Random) -> Vec<Vec<u8>> {
             let road = random.pick(&["given", "given", "a/given", "a"]);
             vec![call, road, random.pick(&["given", "a/given", "a/given", "nowhere"])]
         }
+        "stage" => {
+            let mut words = vec![call, random.pick(&[".", ".", "a", "given"])];
+            if random.chance(80) {
+                words.push(random.pick(&["keep", "return"]));
+                words.push(random.pick(&["first", "a", "abcdefgh", "First", ""]));
+            }
+            words
+        }
         _ => vec![call, random.pick(&[".", ".", ".", "a", "a", "a", "given"])],
     };
     for option in options {
@@ -87,8 +96,8 @@ fn words(random: &mut Random) -> Vec<Vec<u8>> {
             words.extend(*option);
         }
     }
-    // Two calls write files; to the others the option is unknown.
-    if random.chance(if ["check", "join"].contains(&call) { 20 } else { 5 }) {
+    // Three calls write files; to the others the option is unknown.
+    if random.chance(if ["check", "join", "stage"].contains(&call) { 20 } else { 5 }) {
         words.extend(["-o", random.pick(&["a", "nowhere/new", "a/given"])]);
     }
     if random.chance(20) {
@@ -122,6 +131,7 @@ fn fill(random: &mut Random, base: &Path) {
     let start = random_folder::start(random);
     let driver = random_folder::driver(random, &program);
     let prices = random_folder::prices(random);
+    let stages = generate::stages(random);
     for (name, content) in [
         ("given", given),
         ("marks", list),
@@ -130,10 +140,13 @@ fn fill(random: &mut Random, base: &Path) {
         ("start", start),
         ("driver", driver),
         ("prices", prices),
+        ("stages", stages),
     ] {
         let path = base.join(name);
         let content = match random.below(60) {
+            // Stages are many bytes, and few calls read them.
             0 => continue,
+            8..=50 if name == "stages" => continue,
             1 => {
                 fs::create_dir(path).expect("a folder is made");
                 continue;

@@ -31,6 +31,10 @@ LIST = {"statements", "variables"}
 VARIABLE = {"variable", "defined", "defining", "used", "using"}
 PAIR = {"call", "road", "creeper", "status", "faults"}
 JOIN = {"statements", "bytes", "program"}
+STAGE = {"place", "name", "lines", "bytes"}
+STAGES = {"action", "stages", "empty"}
+KEPT = STAGE | {"action"}
+RETURNED = {"action", "name", "lines", "bytes", "program"}
 
 # The totals of the folders that were checked since the last total.
 summed = dict.fromkeys(TICKS, 0)
@@ -211,6 +215,33 @@ def join(thing):
     return "statements {statements} bytes {bytes}\n".format(**thing) + thing["program"]
 
 
+def stage_line(stage):
+    assert 1 <= stage["place"] <= 8 and 1 <= len(stage["name"]) <= 8 and stage["name"].islower()
+    assert 2 <= stage["lines"] <= 256 and stage["lines"] < stage["bytes"]
+    return "place {place} name {name} lines {lines} bytes {bytes}\n".format(**stage)
+
+
+def stage(thing):
+    if thing["action"] == "keep":
+        has(thing, REPORT | KEPT)
+        return stage_line(thing)
+    if thing["action"] == "return":
+        has(thing, REPORT | RETURNED)
+        assert thing["bytes"] == len(thing["program"].encode())
+        assert thing["lines"] == thing["program"].count("\n")
+        return thing["program"]
+    has(thing, REPORT | STAGES)
+    assert thing["action"] == "list"
+    text = ""
+    for held in thing["stages"]:
+        has(held, STAGE)
+        text += stage_line(held)
+    places = [held["place"] for held in thing["stages"]]
+    assert places == sorted(set(places)) and len({held["name"] for held in thing["stages"]}) == len(places)
+    assert thing["empty"] == 8 - len(places)
+    return text + "stages %d empty {empty}\n".format(**thing) % len(places)
+
+
 def faults(thing):
     """The refusal, `refused start`, or nothing where a file wasn't read."""
     text = ""
@@ -235,13 +266,13 @@ def told(thing):
         assert thing["status"] != 0
         return refused
     assert refused == ""
-    tells = {"check": check, "tabulate": tabulate, "review": review, "force": force, "run": run, "price": price, "lines": lines, "list": listed, "join": join}
+    tells = {"check": check, "tabulate": tabulate, "review": review, "force": force, "run": run, "price": price, "lines": lines, "list": listed, "join": join, "stage": stage}
     return tells[thing["call"]](thing)
 
 
 described = pathlib.Path(__file__).parents[2].joinpath("docs/REFERENCE.md").read_text()
 for names in (
-    VERDICTS, FAULT, REPORT, TOTAL, CHECK, PRICES, TICKS, MARK, TABULATE, ROW, REVIEW, CONDITION, FORCE, PLACE, ENDED, SPENT, FAULTED, PRICE, RUNS, LINES, LINE, LIST, VARIABLE, PAIR, JOIN
+    VERDICTS, FAULT, REPORT, TOTAL, CHECK, PRICES, TICKS, MARK, TABULATE, ROW, REVIEW, CONDITION, FORCE, PLACE, ENDED, SPENT, FAULTED, PRICE, RUNS, LINES, LINE, LIST, VARIABLE, PAIR, JOIN, STAGES, KEPT, RETURNED
 ):
     for name in names:
         assert "`%s`" % name in described, name

@@ -152,6 +152,18 @@
 //! let answer = relist(program, b"3: mark(rpl, i1, i0)\n", &mut words).unwrap();
 //! assert_eq!((answer.used[1], answer.used[0]), (0, 2));
 //! ```
+//!
+//! Programs are kept as stages with a name, up to eight of them, to go back to after rounds of marks.
+//!
+//! ```
+//! use rewrites::{Refusal, Stages};
+//!
+//! let program = b"read i0\ni1 := i0\nwrite i1\n";
+//! let mut stages = Stages::new();
+//! assert_eq!(stages.keep("given", program), Ok(1));
+//! assert_eq!(stages.go_back("given").unwrap(), program);
+//! assert_eq!(stages.go_back("other"), Err(Refusal::StageUnknown));
+//! ```
 
 #![warn(missing_docs)]
 
@@ -276,6 +288,18 @@ impl Default for Prices {
         Prices::ours()
     }
 }
+
+/// The bytes that there must be for stages: eight places of [`PLACE_BYTES`].
+pub const STAGES_BYTES: usize = 70_000;
+
+/// The places of stages, each of which holds a program under a name or is empty.
+pub const PLACES: usize = 8;
+
+/// The bytes of a place: a name, a length and a text.
+pub const PLACE_BYTES: usize = STAGES_BYTES / PLACES;
+
+/// The most letters of a stage's name, and the bytes that it has in a place.
+pub const NAME_BYTES: usize = 8;
 
 /// What a run answers. Each answer tells the ticks of the statements that were performed: the price of
 /// each by the table in force, a statement once for each time.
@@ -548,11 +572,17 @@ pub enum Refusal {
     PriceMisspelled = 19,
     /// A table of prices has other than eleven lines.
     PriceCount = 20,
+    /// The name of a stage isn't 1 to 8 lower-case letters.
+    StageName = 23,
+    /// The name of a stage to be kept is new, and all [`PLACES`] hold others.
+    StagesFull = 24,
+    /// No place holds the name of the stage to return to.
+    StageUnknown = 25,
 }
 
 impl Refusal {
     /// Every refusal, in the order in which they apply.
-    pub const ALL: [Refusal; 17] = [
+    pub const ALL: [Refusal; 20] = [
         Refusal::Buffer,
         Refusal::Budget,
         Refusal::Misspelled,
@@ -570,6 +600,9 @@ impl Refusal {
         Refusal::JoinedCount,
         Refusal::PriceMisspelled,
         Refusal::PriceCount,
+        Refusal::StageName,
+        Refusal::StagesFull,
+        Refusal::StageUnknown,
     ];
 
     /// The number by which the library names the refusal.
@@ -588,8 +621,8 @@ impl fmt::Display for Refusal {
     fn fmt(&self, f: &mut fmt::Formatter<'_>) -> fmt::Result {
         f.write_str(match self {
             Refusal::Buffer => {
-                "table under 256 words, or 512 of a review, verdicts under 256 bytes or new text under \
-                 8,704 bytes"
+                "table under 256 words, or 512 of a review, verdicts under 256 bytes, new text under \
+                 8,704 bytes or stages under 70,000 bytes"
             }
             Refusal::Budget => "budget over 1,000,000",
             Refusal::Misspelled => {
@@ -613,6 +646,9 @@ impl fmt::Display for Refusal {
                 "some line of the prices isn't a number from 1 to 65,535, or the last lacks its byte 10"
             }
             Refusal::PriceCount => "other than eleven lines of prices",
+            Refusal::StageName => "a stage's name that isn't 1 to 8 lower-case letters",
+            Refusal::StagesFull => "a new name, and all eight places hold others",
+            Refusal::StageUnknown => "a name that no place holds",
         })
     }
 }
@@ -1348,4 +1384,211 @@ pub fn join(road: &[u8], creeper: &[u8], text: &mut [u8]) -> Result<Joined, Refu
         return Err(Refusal::returned(number));
     }
     Ok(joined)
+}
+
+/// Keeps a program under a name, as a stage to go back to, in bytes that the caller holds; tells the
+/// place, 1 to [`PLACES`]. [`Stages`] holds such bytes.
+///
+/// Stages are eight places in the first [`STAGES_BYTES`] bytes, place k, counted from 1, in the
+/// [`PLACE_BYTES`] bytes from 8,750(k-1) on: the name, filled up with zero bytes to [`NAME_BYTES`], the
+/// text's length in 2 bytes, low byte first, then the text. So zero bytes are eight empty places.
+///
+/// A place is empty where its name isn't 1 to 8 lower-case letters with zero bytes behind them, its length
+/// is above 8,740, its text isn't a program, or an earlier place that isn't empty has its name. A name that
+/// a place holds is known, and is replaced there; a new name takes the first empty place. Name, length and
+/// text are written; the other bytes of the place, all other places and all bytes from [`STAGES_BYTES`] on
+/// are kept.
+///
+/// Takes at most 64 KiB of stack.
+///
+/// # Errors
+///
+/// [`Refusal::Buffer`] for stages of under [`STAGES_BYTES`] bytes, whatever the rest holds; else, for the
+/// program, [`Refusal::Misspelled`], [`Refusal::LineCount`], [`Refusal::Placement`] or
+/// [`Refusal::Target`]; else [`Refusal::StageName`] for a wrong name; else [`Refusal::StagesFull`] where
+/// the name is new and no place is empty. The stages are then kept.
+///
+/// ```
+/// use rewrites::{go_back, keep, Refusal, STAGES_BYTES, TEXT_BYTES};
+///
+/// let program = b"read i0\ni1 := i0\nwrite i1\n";
+/// let mut stages = vec![0; STAGES_BYTES];
+/// assert_eq!(keep(&mut stages, b"given", program)?, 1);
+/// assert_eq!(stages[..10], *b"given\0\0\0\x1a\0");
+/// assert_eq!(stages[10..36], *program);
+///
+/// // Another name takes another place, and a known one its own.
+/// assert_eq!(keep(&mut stages, b"short", b"read i0\nwrite i0\n")?, 2);
+/// assert_eq!(keep(&mut stages, b"given", b"read i5\nwrite i5\n")?, 1);
+///
+/// let mut text = [0; TEXT_BYTES];
+/// assert_eq!(go_back(&stages, b"given", &mut text)?, 17);
+/// assert_eq!(text[..17], *b"read i5\nwrite i5\n");
+///
+/// assert_eq!(keep(&mut stages, b"Given", program), Err(Refusal::StageName));
+/// # Ok::<(), Refusal>(())
+/// ```
+pub fn keep(stages: &mut [u8], name: &[u8], program: &[u8]) -> Result<u32, Refusal> {
+    let mut place = 0;
+    // SAFETY: the pointers come from references, so none is null, and those that are written
+    // through are the only ones to their places.
+    let number = unsafe {
+        raw::rewrites_keep(
+            stages.as_mut_ptr(),
+            stages.len(),
+            name.as_ptr(),
+            name.len(),
+            program.as_ptr(),
+            program.len(),
+            &mut place,
+        )
+    };
+    if number != 0 {
+        return Err(Refusal::returned(number));
+    }
+    Ok(place)
+}
+
+/// Returns to a stage: writes the text of the program that is kept under a name to the front of `text`,
+/// and tells the number of its bytes. All further bytes of the text are kept. The stages are as with
+/// [`keep`].
+///
+/// A program that was reached from the stage by rounds of [`judge`], each on the text that the last one
+/// wrote, runs as the returned program does, from every start, as long as the stage wasn't replaced in
+/// between. Other stages may have been kept. The values of variables, and the ticks, may differ.
+///
+/// Takes at most 64 KiB of stack.
+///
+/// # Errors
+///
+/// [`Refusal::Buffer`] for stages of under [`STAGES_BYTES`] bytes or a text of under [`TEXT_BYTES`],
+/// whatever the rest holds; else [`Refusal::StageName`] for a wrong name; else [`Refusal::StageUnknown`]
+/// where no place holds it. The text is then kept.
+///
+/// ```
+/// use rewrites::{go_back, keep, Refusal, STAGES_BYTES, TEXT_BYTES};
+///
+/// let mut stages = vec![0; STAGES_BYTES];
+/// let mut text = [0; TEXT_BYTES];
+/// assert_eq!(go_back(&stages, b"given", &mut text), Err(Refusal::StageUnknown));
+///
+/// keep(&mut stages, b"given", b"read i0\nwrite i0\n")?;
+/// assert_eq!(go_back(&stages, b"given", &mut text)?, 17);
+/// assert_eq!(go_back(&stages, b"given", &mut text[..8703]), Err(Refusal::Buffer));
+/// # Ok::<(), Refusal>(())
+/// ```
+pub fn go_back(stages: &[u8], name: &[u8], text: &mut [u8]) -> Result<u32, Refusal> {
+    let mut bytes = 0;
+    // SAFETY: the pointers come from references, so none is null, and those that are written
+    // through are the only ones to their places.
+    let number = unsafe {
+        raw::rewrites_return(
+            stages.as_ptr(),
+            stages.len(),
+            name.as_ptr(),
+            name.len(),
+            text.as_mut_ptr(),
+            text.len(),
+            &mut bytes,
+        )
+    };
+    if number != 0 {
+        return Err(Refusal::returned(number));
+    }
+    Ok(bytes)
+}
+
+/// Up to [`PLACES`] programs, each kept under a name, in the [`STAGES_BYTES`] bytes of [`keep`] and
+/// [`go_back`].
+///
+/// ```
+/// use rewrites::{judge, Refusal, Stages, TEXT_BYTES, VERDICT_BYTES};
+///
+/// let program = b"read i0\ni1 := i0\ni2 := i1\nwrite i2\n";
+/// let mut stages = Stages::new();
+/// stages.keep("given", program)?;
+///
+/// // A round of marks, and its result under a name of its own.
+/// let mut text = [0; TEXT_BYTES];
+/// let judged = judge(program, b"3: mark(rpl, i1, i0)\n", &mut [0; VERDICT_BYTES], &mut text)?;
+/// assert_eq!(stages.keep("copied", &text[..judged.bytes as usize])?, 2);
+///
+/// assert_eq!(stages.go_back("given")?, program);
+/// assert_eq!(stages.go_back("copied")?, b"read i0\ni1 := i0\ni2 := i0\nwrite i2\n");
+/// assert_eq!(stages.names()[..3], [Some("given".into()), Some("copied".into()), None]);
+///
+/// // The bytes may be put into a file, and taken from it again.
+/// assert_eq!(Stages::from_bytes(stages.as_bytes()), Some(stages));
+/// # Ok::<(), Refusal>(())
+/// ```
+#[derive(Clone, PartialEq, Eq)]
+pub struct Stages {
+    bytes: Box<[u8]>,
+}
+
+impl Stages {
+    /// Eight empty places.
+    pub fn new() -> Stages {
+        Stages { bytes: vec![0; STAGES_BYTES].into_boxed_slice() }
+    }
+
+    /// The stages that these bytes hold, if there are [`STAGES_BYTES`]. No other bytes are wrong: a place
+    /// that holds no program under a right name is empty.
+    pub fn from_bytes(bytes: &[u8]) -> Option<Stages> {
+        (bytes.len() == STAGES_BYTES).then(|| Stages { bytes: bytes.into() })
+    }
+
+    /// All [`STAGES_BYTES`] bytes.
+    pub fn as_bytes(&self) -> &[u8] {
+        &self.bytes
+    }
+
+    /// Keeps a program under a name; tells the place, 1 to [`PLACES`]. See [`keep`].
+    ///
+    /// # Errors
+    ///
+    /// Those of [`keep`] but for [`Refusal::Buffer`].
+    pub fn keep(&mut self, name: impl AsRef<[u8]>, program: &[u8]) -> Result<u32, Refusal> {
+        keep(&mut self.bytes, name.as_ref(), program)
+    }
+
+    /// The text of the program that is kept under a name. See [`go_back`].
+    ///
+    /// # Errors
+    ///
+    /// [`Refusal::StageName`] for a wrong name; else [`Refusal::StageUnknown`] where no place holds it.
+    pub fn go_back(&self, name: impl AsRef<[u8]>) -> Result<Vec<u8>, Refusal> {
+        let mut text = vec![0; TEXT_BYTES];
+        let bytes = go_back(&self.bytes, name.as_ref(), &mut text)?;
+        text.truncate(bytes as usize);
+        Ok(text)
+    }
+
+    /// The name that each place holds, none where it is empty; place k is entry k-1.
+    pub fn names(&self) -> [Option<String>; PLACES] {
+        let mut names: [Option<String>; PLACES] = Default::default();
+        let mut alone = Stages::new();
+        for (at, place) in self.bytes.chunks(PLACE_BYTES).enumerate() {
+            // What the place holds where no other stands before it.
+            alone.bytes[..PLACE_BYTES].copy_from_slice(place);
+            let letters = place[..NAME_BYTES].split(|&byte| byte == 0).next().unwrap_or(&[]);
+            let name = String::from_utf8_lossy(letters).into_owned();
+            if alone.go_back(&name).is_ok() && !names.contains(&Some(name.clone())) {
+                names[at] = Some(name);
+            }
+        }
+        names
+    }
+}
+
+impl Default for Stages {
+    fn default() -> Stages {
+        Stages::new()
+    }
+}
+
+impl fmt::Debug for Stages {
+    fn fmt(&self, f: &mut fmt::Formatter<'_>) -> fmt::Result {
+        f.debug_tuple("Stages").field(&self.names()).finish()
+    }
 }

@@ -211,4 +211,38 @@ extern "C" {
         statements: *mut u32,
         bytes: *mut u32,
     ) -> u8;
+
+    /// See [`crate::keep`] and the header.
+    ///
+    /// # Safety
+    ///
+    /// `stages` points to `stages_len` bytes, `name` to `name_len` and `program` to `program_len` bytes;
+    /// each of them may be null where its length is 0. No other pointer is null. Places that the call
+    /// writes overlap no other place lent to it.
+    pub fn rewrites_keep(
+        stages: *mut u8,
+        stages_len: usize,
+        name: *const u8,
+        name_len: usize,
+        program: *const u8,
+        program_len: usize,
+        place: *mut u32,
+    ) -> u8;
+
+    /// See [`crate::go_back`] and the header.
+    ///
+    /// # Safety
+    ///
+    /// `stages` points to `stages_len` bytes, `name` to `name_len` and `text` to `text_len` bytes; each of
+    /// them may be null where its length is 0. No other pointer is null. Places that the call writes
+    /// overlap no other place lent to it.
+    pub fn rewrites_return(
+        stages: *const u8,
+        stages_len: usize,
+        name: *const u8,
+        name_len: usize,
+        text: *mut u8,
+        text_len: usize,
+        bytes: *mut u32,
+    ) -> u8;
 }

@@ -14,7 +14,8 @@ use coverage::Tally;
 use lent::{Lent, Text};
 use oracle::condition::{self, Atom, Condition, Demand, Direction, Part, Quantifier};
 use oracle::forcing::{self, player, Arm, Forced, Player};
-use oracle::generate::{self, Damage, Random, WrongDriver, WrongPrice, WrongReuse, WrongSign};
+use oracle::generate::{self, Damage, PlaceDamage, Random};
+use oracle::generate::{WrongDriver, WrongName, WrongPrice, WrongReuse, WrongSign};
 use oracle::join::{self, InTurn};
 use oracle::listing::{self, Counts, Set};
 use oracle::liveness::{differing, Liveness};
@@ -23,9 +24,10 @@ use oracle::marks::{self, Judge, Kind, Mark};
 use oracle::pricing::{self, in_force, kind, Prices, KIND_NAMES, OURS};
 use oracle::program::{is_kept, Expression, Operand, Operator, Program, Statement, LARGEST, LEAST};
 use oracle::review::{self, Reviewed, MOST_TABLES};
-use rewrites::{raw, FIRST_KEPT, KEPT, KINDS, MOST_STEPS, VARIABLES};
+use oracle::stages::{self, Stage};
+use rewrites::{raw, Outcome as Answer, Prices as Table, FIRST_KEPT, KEPT, KINDS, MOST_STEPS, VARIABLES};
 use rewrites::{LIST_WORDS, REVIEW_LINES, REVIEW_WORDS, STATEMENTS, TABLE_WORDS, TEXT_BYTES};
-use rewrites::{UNFORCED, VERDICT_BYTES};
+use rewrites::{PLACES, PLACE_BYTES, STAGES_BYTES, UNFORCED, VERDICT_BYTES};
 use std::cmp::Ordering;
 use std::ops::Range;
 
@@ -2851,6 +2853,381 @@ fn joins_are_as_by_the_oracle_and_run_in_turn() {
     seams.report();
 }
 
+// Stages
+
+/// One case of stages stands for so many of other calls: each lends 70,000 bytes, up to eight programs among them.
+const STAGES_FOR: u64 = 5;
+
+/// Holds a keep to the oracle's, with every lent byte, and tells the place.
+fn keep_agrees(
+    random: &mut Random,
+    case: &str,
+    lent: &mut Lent<u8>,
+    name: &[u8],
+    program: &[u8],
+) -> Result<u32, u8> {
+    let (mut given, mut text) = (Text::new(random, name), Text::new(random, program));
+    let mut place = Lent::new(random, 1, |bits| bits as u32);
+    let (mut expected, mut expected_place) = (lent.clone(), place.clone());
+    let wanted = stages::keep(expected.part(), name, program);
+    if let Ok(at) = wanted {
+        expected_place.part()[0] = at;
+    }
+    let room = lent.part().len();
+    let shown = || {
+        let (name, program) = (escaped(name), escaped(program));
+        format!("case {case}: room {room} name {name} program {program}")
+    };
+    let (name_len, program_len) = (given.part().len(), text.part().len());
+    // SAFETY: the pointers come from references, and no two of the written places overlap.
+    let number = unsafe {
+        raw::rewrites_keep(
+            lent.part().as_mut_ptr(),
+            room,
+            given.part().as_ptr(),
+            name_len,
+            text.part().as_ptr(),
+            program_len,
+            place.part().as_mut_ptr(),
+        )
+    };
+    assert_eq!(number, wanted.err().unwrap_or(0), "number of {}", shown());
+    place.assert_same(&expected_place, "place", shown);
+    lent.assert_same(&expected, "stages", shown);
+    given.assert_kept("name", shown);
+    text.assert_kept("program", shown);
+    wanted
+}
+
+/// Holds a return to the oracle's, with every lent byte, and tells the text.
+fn return_agrees(
+    random: &mut Random,
+    case: &str,
+    lent: &mut Lent<u8>,
+    name: &[u8],
+    room: usize,
+) -> Result<Vec<u8>, u8> {
+    let mut given = Text::new(random, name);
+    let mut text = Lent::new(random, room, |bits| bits as u8);
+    let mut bytes = Lent::new(random, 1, |bits| bits as u32);
+    let before = lent.clone();
+    let (mut expected, mut expected_bytes) = (text.clone(), bytes.clone());
+    let wanted = stages::go_back(lent.part(), name, expected.part());
+    if let Ok(count) = wanted {
+        expected_bytes.part()[0] = count;
+    }
+    let stages_room = lent.part().len();
+    let shown = || format!("case {case}: rooms {stages_room} and {room} name {}", escaped(name));
+    let name_len = given.part().len();
+    // SAFETY: the pointers come from references, and no two of the written places overlap.
+    let number = unsafe {
+        raw::rewrites_return(
+            lent.part().as_ptr(),
+            stages_room,
+            given.part().as_ptr(),
+            name_len,
+            text.part().as_mut_ptr(),
+            room,
+            bytes.part().as_mut_ptr(),
+        )
+    };
+    assert_eq!(number, wanted.err().unwrap_or(0), "number of {}", shown());
+    bytes.assert_same(&expected_bytes, "bytes", shown);
+    text.assert_same(&expected, "returned text", shown);
+    lent.assert_same(&before, "stages", shown);
+    given.assert_kept("name", shown);
+    wanted.map(|count| text.part()[..count as usize].to_vec())
+}
+
+/// Stages lent to calls, of so many bytes: those that are needed have this content, as far as there is room.
+fn lent_stages(random: &mut Random, content: &[u8], room: usize) -> Lent<u8> {
+    let mut lent = Lent::new(random, room, |bits| bits as u8);
+    let front = room.min(content.len());
+    lent.part()[..front].copy_from_slice(&content[..front]);
+    lent
+}
+
+/// Where a name stands in the places.
+const NAME_STANDS: [&str; 7] = [
+    "new, the first place is empty",
+    "new, an earlier place is held",
+    "new, no place is empty",
+    "known, in the first place",
+    "known, behind held places",
+    "known, behind an empty place",
+    "known, behind a place with the name that is empty",
+];
+
+fn name_stands(held: &[Option<Stage>], content: &[u8], name: &[u8]) -> &'static str {
+    let known = held.iter().position(|stage| matches!(stage, Some(stage) if stage.name == name));
+    let first_empty = held.iter().position(Option::is_none);
+    let mut field = name.to_vec();
+    field.resize(stages::NAME_BYTES, 0);
+    let is_named = |at: usize| content[at * PLACE_BYTES..].starts_with(&field);
+    match (known, first_empty) {
+        (None, Some(0)) => "new, the first place is empty",
+        (None, Some(_)) => "new, an earlier place is held",
+        (None, None) => "new, no place is empty",
+        (Some(0), _) => "known, in the first place",
+        (Some(at), _) if (0..at).any(is_named) => {
+            "known, behind a place with the name that is empty"
+        }
+        (Some(at), Some(empty)) if empty < at => "known, behind an empty place",
+        (Some(_), _) => "known, behind held places",
+    }
+}
+
+#[test]
+fn stages_are_as_by_the_oracle() {
+    let mut keeps = Tally::new("refusals of keep", [1, 2, 3, 4, 5, 23, 24]);
+    let mut returns = Tally::new("refusals of return", [1, 23, 25]);
+    let mut late = Tally::new("refusals of keep with a wrong name", [1, 2, 3, 4, 5, 23]);
+    let mut full_late = Tally::new("wrong names where no place is empty", [23]);
+    let mut stands = Tally::new("names kept", NAME_STANDS);
+    let mut taken = Tally::new("places written", 1..=8);
+    let mut found = Tally::new("places returned to", 1..=8);
+    let mut counts = Tally::new("places held", 0..=8);
+    let mut wrong_names = Tally::new("wrong names", WrongName::ALL.map(Shown));
+    let mut of_places = Tally::new("damages of places", PlaceDamage::ALL.map(Shown));
+    let mut stages_rooms = rooms("bytes of stages", STAGES_BYTES);
+    let mut text_rooms = rooms("bytes of returned text", TEXT_BYTES);
+    let mut of_programs = damages("damages of programs kept");
+    let mut texts =
+        Tally::new("programs kept", ["of over 255 bytes", "of 256 lines", "shorter than the last"]);
+    for (case, mut random) in cases("stages").filter(|(case, _)| case % STAGES_FOR == 0) {
+        let (case, random) = (case / STAGES_FOR, &mut random);
+        let mut content = generate::stages(random);
+        for _ in 0..random.pick(&[0, 0, 1, 1, 2, 4]) {
+            let (kind, at) = (random.pick(&PlaceDamage::ALL), random.below(PLACES));
+            generate::damage_place(random, kind, &mut content, at);
+            of_places.met(Shown(kind));
+        }
+        let held = stages::held(&content).expect("there is room");
+        counts.met(held.iter().flatten().count());
+        let known: Vec<&Stage> = held.iter().flatten().collect();
+        let mut name = match known[..] {
+            [] => generate::stage_name(random),
+            _ if random.chance(50) => generate::stage_name(random),
+            _ => known[random.below(known.len())].name.clone(),
+        };
+        let mut program = generate::kept_program(random).text();
+        let (mut bytes, mut text_bytes) = (STAGES_BYTES, TEXT_BYTES);
+        if case % 100 == 0 {
+            program = generate::program(random, 256).text();
+        }
+        if !is_whole(case) {
+            if random.below(6) == 0 {
+                let wrong = random.pick(&WrongName::ALL);
+                name = generate::wrong_name(random, wrong, &name);
+                wrong_names.met(Shown(wrong));
+            }
+            match random.below(40) {
+                0..=3 => damaged(random, &mut program, &mut of_programs),
+                4 => program = generate::statement_soup(random),
+                5 => program = b"read i0\n".repeat(random.pick(&[0, 1, 257])),
+                6 => {
+                    program = random
+                        .pick(&[
+                            &b"read i0\nskip\n"[..],
+                            b"read i0\nif i0 goto 1 else 2\nwrite i0\n",
+                        ])
+                        .to_vec()
+                }
+                _ => {}
+            }
+            if random.below(10) == 0 {
+                bytes = room(random, STAGES_BYTES);
+            }
+            if random.below(10) == 0 {
+                text_bytes = room(random, TEXT_BYTES);
+            }
+        }
+        stages_rooms.met(bytes);
+        text_rooms.met(text_bytes);
+        let case_name = case.to_string();
+        let mut lent = lent_stages(random, &content, bytes);
+        match return_agrees(random, &case_name, &mut lent, &name, text_bytes) {
+            Ok(text) => {
+                let at = held
+                    .iter()
+                    .position(|stage| matches!(stage, Some(stage) if stage.name == name));
+                let at = at.expect("a place holds it");
+                assert_eq!(Some(text), held[at].as_ref().map(|stage| stage.text.clone()));
+                found.met(at + 1);
+            }
+            Err(number) => returns.met(number),
+        }
+        let answer = keep_agrees(random, &case_name, &mut lent, &name, &program);
+        let is_right = stages::is_name(&name);
+        if !is_right {
+            late.met(answer.expect_err("a wrong name is refused"));
+            if known.len() == PLACES {
+                full_late.met(answer.expect_err("a wrong name is refused"));
+            }
+        }
+        match answer {
+            Err(number) => {
+                keeps.met(number);
+                if number == 24 {
+                    stands.met(name_stands(&held, &content, &name));
+                }
+            }
+            Ok(place) => {
+                taken.met(place);
+                stands.met(name_stands(&held, &content, &name));
+                if program.len() > 255 {
+                    texts.met("of over 255 bytes");
+                }
+                if program.iter().filter(|&&byte| byte == b'\n').count() == 256 {
+                    texts.met("of 256 lines");
+                }
+                let was = known.iter().find(|stage| stage.name == name);
+                if was.map_or(false, |stage| stage.text.len() > program.len()) {
+                    texts.met("shorter than the last");
+                }
+                // What was kept is returned, and so is each other stage as it was.
+                let again = return_agrees(random, &case_name, &mut lent, &name, TEXT_BYTES);
+                assert_eq!(again, Ok(program));
+                let other = random.pick(&known.iter().map(Some).chain([None]).collect::<Vec<_>>());
+                if let Some(stage) = other.filter(|stage| stage.name != name) {
+                    let again =
+                        return_agrees(random, &case_name, &mut lent, &stage.name, TEXT_BYTES);
+                    assert_eq!(again.as_ref(), Ok(&stage.text));
+                }
+            }
+        }
+    }
+    keeps.report();
+    returns.report();
+    late.report();
+    full_late.report();
+    stands.report();
+    taken.report();
+    found.report();
+    counts.report();
+    wrong_names.report();
+    of_places.report();
+    stages_rooms.report();
+    text_rooms.report();
+    of_programs.report();
+    texts.report();
+}
+
+/// What happens between the rounds from a stage, and how its runs and those of the reached program end.
+const BETWEEN_ROUNDS: [&str; 7] = [
+    "kept under another name",
+    "kept the reached program",
+    "kept the stage's program",
+    "refused for the name",
+    "refused as all are held",
+    "refused for the program",
+    "nothing",
+];
+
+/// Three rounds of random lists from a stage, with other stages kept between them: the stage's program is returned as it
+/// was kept, and the reached program runs as it does, by the library alone, under each of the first budgets and further on.
+#[test]
+fn rounds_from_a_stage_run_as_its_program() {
+    let mut between = Tally::new("between rounds", BETWEEN_ROUNDS);
+    let mut changes = Tally::new("rounds that changed the program", 0..=3);
+    let mut endings =
+        Tally::new("runs over rounds", ["budgets", "ended", "fault", "spent", "kept other values"]);
+    for (case, mut random) in cases("rounds").filter(|(case, _)| case % (4 * STAGES_FOR) == 0) {
+        let random = &mut random;
+        let size = if random.chance(90) { random.between(4, 40) } else { generate::size(random) };
+        let given = generate::program(random, size).text();
+        let content = generate::stages(random);
+        let mut lent = lent_stages(random, &content, STAGES_BYTES);
+        let (name, case_name) = (generate::stage_name(random), case.to_string());
+        let mut kept_as = keep_agrees(random, &case_name, &mut lent, &name, &given);
+        if kept_as == Err(24) {
+            // A place is made free.
+            let at = random.below(PLACES) * PLACE_BYTES;
+            lent.part()[at] = 0;
+            kept_as = keep_agrees(random, &case_name, &mut lent, &name, &given);
+        }
+        kept_as.expect("it is kept");
+        let (mut reached, mut changed) = (given.clone(), 0);
+        for round in 1..=3 {
+            let program = Program::read(&reached).expect("a reached program is taken");
+            let count = random.between(0, size.min(30));
+            let list = marks::text(&generate::marks(random, &program, count));
+            let judged_as = (VERDICT_BYTES, TEXT_BYTES);
+            let judged = judgement_agrees(random, &case_name, &reached, &list, judged_as);
+            let new = judged.expect("both are taken").text;
+            changed += usize::from(new != reached);
+            reached = new;
+            for _ in 0..random.below(4) {
+                let other = generate::stage_name(random);
+                if other == name {
+                    between.met("nothing");
+                    continue;
+                }
+                let (other, text, class) = match random.below(8) {
+                    0 => (b"Other".to_vec(), reached.clone(), "refused for the name"),
+                    1 => (other, b"read i0\n".to_vec(), "refused for the program"),
+                    2..=4 => (other, reached.clone(), "kept the reached program"),
+                    5 => (other, given.clone(), "kept the stage's program"),
+                    _ => (other, generate::kept_program(random).text(), "kept under another name"),
+                };
+                match keep_agrees(random, &case_name, &mut lent, &other, &text) {
+                    Err(24) => between.met("refused as all are held"),
+                    answer => {
+                        assert_eq!(answer.is_err(), class.starts_with("refused"));
+                        between.met(class);
+                    }
+                }
+            }
+            let back = return_agrees(random, &case_name, &mut lent, &name, TEXT_BYTES);
+            assert_eq!(back.as_ref(), Ok(&given), "round {round} of case {case}");
+            let (values, input) = (generate::values(random), generate::word(random));
+            let table = Table(generate::prices(random));
+            let budgets = (0..40).chain([random.between(40, 400) as u32, 2_000]);
+            for budget in budgets {
+                let run = |text: &[u8]| rewrites::run(text, &values, input, budget, &table);
+                let [one, two] = [&given, &reached].map(|text| run(text).expect("it is taken"));
+                let shown = || {
+                    let (given, reached) = (escaped(&given), escaped(&reached));
+                    format!("case {case}: values {values:?} input {input} budget {budget} given {given} reached {reached}")
+                };
+                endings.met("budgets");
+                match (one, two) {
+                    (Answer::Spent { statement, .. }, Answer::Spent { statement: other, .. }) => {
+                        assert_eq!(statement, other, "{}", shown());
+                        if budget == 2_000 {
+                            endings.met("spent");
+                        }
+                    }
+                    (
+                        Answer::Ended { value, steps, kept, .. },
+                        Answer::Ended { value: w, steps: s, kept: k, .. },
+                    ) => {
+                        assert_eq!((value, steps, kept), (w, s, k), "{}", shown());
+                        endings.met("ended");
+                        if kept != kept_of(&values) {
+                            endings.met("kept other values");
+                        }
+                        break;
+                    }
+                    (
+                        Answer::Fault { statement, steps, .. },
+                        Answer::Fault { statement: other, steps: s, .. },
+                    ) => {
+                        assert_eq!((statement, steps), (other, s), "{}", shown());
+                        endings.met("fault");
+                        break;
+                    }
+                    _ => panic!("{one:?} and {two:?} in {}", shown()),
+                }
+            }
+        }
+        changes.met(changed);
+    }
+    between.report();
+    changes.report();
+    endings.report();
+}
+
 // Whole ranges of cases
 
 #[test]
@@ -3096,6 +3473,53 @@ fn joins_edited_by_one_byte_are_as_by_the_oracle() {
             let _ = join_agrees(random, "creeper", P.as_bytes(), &edited, TEXT_BYTES);
         }
     }
+}
+
+/// Each byte of a place's name and length, of the front of its text and of its last line, as each other byte; the place is the
+/// only one, the first of two with the name, and the second.
+#[test]
+fn stages_edited_by_one_byte_are_as_by_the_oracle() {
+    let random = &mut Random::new(11);
+    let mut numbers = Tally::new("answers to edited stages", [0, 25]);
+    let mut content = vec![0; STAGES_BYTES];
+    let short = b"read i0\nwrite i0\n";
+    stages::keep(&mut content, b"first", P.as_bytes()).expect("it is kept");
+    let alone = content.clone();
+    content.copy_within(..PLACE_BYTES, PLACE_BYTES);
+    content[PLACE_BYTES + 8] = short.len() as u8;
+    content[PLACE_BYTES + 10..PLACE_BYTES + 10 + short.len()].copy_from_slice(short);
+    for (case, whole, place) in
+        [("alone", &alone, 0), ("first", &content, 0), ("second", &content, 1)]
+    {
+        let mut lent = lent_stages(random, whole, STAGES_BYTES);
+        for at in (place * PLACE_BYTES..).take(10 + 20) {
+            for byte in 0..=255 {
+                lent.part()[at] = byte;
+                let answer = return_agrees(random, case, &mut lent, b"first", TEXT_BYTES);
+                numbers.met(answer.err().unwrap_or(0));
+            }
+            lent.part()[at] = whole[at];
+        }
+    }
+    numbers.report();
+}
+
+#[test]
+fn stage_names_edited_by_one_byte_are_as_by_the_oracle() {
+    let random = &mut Random::new(12);
+    let mut numbers = Tally::new("answers to edited names", [0, 23, 25]);
+    let mut content = vec![0; STAGES_BYTES];
+    for name in ["a", "abcdefgh", "first"] {
+        stages::keep(&mut content, name.as_bytes(), P.as_bytes()).expect("it is kept");
+    }
+    let mut lent = lent_stages(random, &content, STAGES_BYTES);
+    for name in [&b"a"[..], b"abcdefgh", b"first"] {
+        for edited in edits(name) {
+            let answer = return_agrees(random, "edit", &mut lent, &edited, TEXT_BYTES);
+            numbers.met(answer.err().unwrap_or(0));
+        }
+    }
+    numbers.report();
 }
 
 #[test]

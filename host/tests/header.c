@@ -728,11 +728,99 @@ static int join_answers(void) {
     return 0;
 }
 
+static const char EIGHT[8][8] = {"one", "two", "three", "four", "five", "six", "seven", "eight"};
+
+/* Stages in 70,000 bytes and more, between bytes that stay. */
+static int stages_answer(void) {
+    uint8_t (*const keep)(uint8_t *, size_t, const uint8_t *, size_t, const uint8_t *, size_t,
+                          uint32_t *) = rewrites_keep;
+    uint8_t (*const go_back)(const uint8_t *, size_t, const uint8_t *, size_t, uint8_t *, size_t,
+                             uint32_t *) = rewrites_return;
+    enum { ALL = 70000, PLACE = 8750 };
+    static const uint8_t first[10] = {'f', 'i', 'r', 's', 't', 0, 0, 0, 101, 0};
+    static const char least[] = "read i0\nwrite i0\n";
+    static uint8_t memory[8 + ALL + 8], before[ALL], text[8704 + 16];
+    const uint8_t *p = (const uint8_t *)P, *name = (const uint8_t *)"first", *l = (const uint8_t *)least;
+    const size_t length = strlen(P), short_length = strlen(least);
+    uint8_t *const stages = memory + 8;
+    uint32_t places[3] = {1, 2, 3}; /* the second is lent */
+    size_t k, j;
+
+    memset(memory, 0xee, sizeof memory);
+    memset(stages, 0, ALL);
+    memset(text, 0xee, sizeof text);
+    CHECK(keep(stages, ALL - 1, name, 5, p, length, &places[1]) == 1);
+    CHECK(keep(NULL, 0, NULL, 0, NULL, 0, &places[1]) == 1);
+    CHECK(keep(stages, ALL, NULL, 0, NULL, 0, &places[1]) == 3);
+    CHECK(keep(stages, ALL, name, 5, p, length - 1, &places[1]) == 2);
+    CHECK(keep(stages, ALL, name, 0, p, length, &places[1]) == 23);
+    CHECK(keep(stages, ALL, NULL, 0, p, length, &places[1]) == 23);
+    CHECK(keep(stages, ALL, (const uint8_t *)"abcdefghi", 9, p, length, &places[1]) == 23);
+    CHECK(keep(stages, ALL, (const uint8_t *)"A", 1, p, length, &places[1]) == 23);
+    CHECK(keep(stages, ALL, (const uint8_t *)"a\0b", 3, p, length, &places[1]) == 23);
+    CHECK(go_back(stages, ALL - 1, name, 5, text + 8, 8704, &places[1]) == 1);
+    CHECK(go_back(stages, ALL, name, 5, text + 8, 8703, &places[1]) == 1);
+    CHECK(go_back(NULL, 0, NULL, 0, NULL, 0, &places[1]) == 1);
+    CHECK(go_back(stages, ALL, NULL, 0, text + 8, 8704, &places[1]) == 23);
+    CHECK(go_back(stages, ALL, name, 5, text + 8, 8704, &places[1]) == 25);
+    for (k = 0; k < sizeof memory; k++) CHECK(memory[k] == (k < 8 || k >= 8 + ALL ? 0xee : 0));
+    for (k = 0; k < sizeof text; k++) CHECK(text[k] == 0xee);
+    CHECK(places[0] == 1 && places[1] == 2 && places[2] == 3);
+
+    CHECK(keep(stages, ALL, name, 5, p, length, &places[1]) == 0 && places[1] == 1);
+    CHECK(memcmp(stages, first, 10) == 0 && memcmp(stages + 10, p, length) == 0 && length == 101);
+    for (k = 10 + length; k < ALL; k++) CHECK(stages[k] == 0);
+    CHECK(go_back(stages, ALL, name, 5, text + 8, 8704, &places[1]) == 0 && places[1] == length);
+    CHECK(memcmp(text + 8, p, length) == 0);
+    for (k = 0; k < sizeof text; k++) CHECK((k >= 8 && k < 8 + length) || text[k] == 0xee);
+
+    /* The same record in place 2 is empty, until the text of place 1 is damaged. */
+    memcpy(stages + PLACE, stages, PLACE);
+    CHECK(keep(stages, ALL, name, 5, l, short_length, &places[1]) == 0 && places[1] == 1);
+    CHECK(stages[8] == short_length && memcmp(stages + 10 + short_length, p + short_length,
+                                              length - short_length) == 0);
+    CHECK(go_back(stages, ALL, name, 5, text + 8, 8704, &places[1]) == 0 && places[1] == short_length);
+    stages[10] = 'x';
+    CHECK(go_back(stages, ALL, name, 5, text + 8, 8704, &places[1]) == 0 && places[1] == length);
+    CHECK(keep(stages, ALL, name, 5, p, length, &places[1]) == 0 && places[1] == 2);
+
+    /* Eight names and a ninth; each known one is replaced where it stands. */
+    memset(stages, 0, ALL);
+    for (k = 0; k < 8; k++) {
+        CHECK(keep(stages, ALL, (const uint8_t *)EIGHT[k], strlen(EIGHT[k]), p, length, &places[1]) == 0);
+        CHECK(places[1] == k + 1);
+    }
+    memcpy(before, stages, ALL);
+    CHECK(keep(stages, ALL, (const uint8_t *)"nine", 4, p, length, &places[1]) == 24);
+    CHECK(go_back(stages, ALL, (const uint8_t *)"nine", 4, text + 8, 8704, &places[1]) == 25);
+    CHECK(memcmp(before, stages, ALL) == 0 && places[1] == 8);
+    for (k = 0; k < 8; k++) {
+        CHECK(keep(stages, ALL, (const uint8_t *)EIGHT[k], strlen(EIGHT[k]), l, short_length,
+                   &places[1]) == 0);
+        CHECK(places[1] == k + 1);
+    }
+
+    /* Lengths of 65,280 in all of them, the last at the end of what is lent. */
+    for (k = 0; k < 8; k++) {
+        stages[k * PLACE + 8] = 0;
+        stages[k * PLACE + 9] = 255;
+    }
+    for (k = 0; k < 8; k++) {
+        const uint8_t *its = (const uint8_t *)EIGHT[k];
+        CHECK(go_back(stages, ALL, its, strlen(EIGHT[k]), text + 8, 8704, &places[1]) == 25);
+    }
+    CHECK(keep(stages, ALL, (const uint8_t *)"nine", 4, p, length, &places[1]) == 0 && places[1] == 1);
+    for (k = 0; k < 8; k++) CHECK(memory[k] == 0xee && memory[8 + ALL + k] == 0xee);
+    for (j = 0; j < 3; j += 2) CHECK(places[j] == j + 1);
+    return 0;
+}
+
 int main(void) {
     rewrites_our_prices(ours);
     return run_answers() || kept_answers() || division_answers() || report_answers() || prices_answers() ||
            cse_answers() ||
            tabulate_answers() || force_answers() || review_answers() || full_review_answers() ||
            judge_answers() ||
-           below_zero_answers() || mark_line_answers() || list_answers() || join_answers();
+           below_zero_answers() || mark_line_answers() || list_answers() || join_answers() ||
+           stages_answer();
 }

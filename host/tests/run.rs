@@ -1566,8 +1566,8 @@ fn refusals_print_their_words() {
     let words = [
         (
             1,
-            "table under 256 words, or 512 of a review, verdicts under 256 bytes or new text under \
-             8,704 bytes",
+            "table under 256 words, or 512 of a review, verdicts under 256 bytes, new text under \
+             8,704 bytes or stages under 70,000 bytes",
         ),
         (15, "budget over 1,000,000"),
         (2, "some line isn't spelled as a statement, or the last lacks its byte 10"),
@@ -1585,6 +1585,9 @@ fn refusals_print_their_words() {
         (21, "joined program of over 256 statements"),
         (19, "some line of the prices isn't a number from 1 to 65,535, or the last lacks its byte 10"),
         (20, "other than eleven lines of prices"),
+        (23, "a stage's name that isn't 1 to 8 lower-case letters"),
+        (24, "a new name, and all eight places hold others"),
+        (25, "a name that no place holds"),
     ];
     let printed = Refusal::ALL.map(|r| (r.number(), r.to_string()));
     assert_eq!(printed, words.map(|(number, words)| (number, words.to_string())));

@@ -1,7 +1,7 @@
 /* Prints how many bytes of stack the deepest calls take. Each runs in a thread whose stack was filled
    with a pattern before; what the thread alone overwrites is not counted. Exits with 0 where `run`,
-   `judge`, `tabulate`, `review`, `mark_line`, `report`, `force`, `list`, `relist`, `join` and `prices`
-   take no more than the bytes given as arguments. */
+   `judge`, `tabulate`, `review`, `mark_line`, `report`, `force`, `list`, `relist`, `join`, `prices`,
+   `keep` and `return` take no more than the bytes given as arguments. */
 #define _POSIX_C_SOURCE 200112L
 #include "rewrites.h"
 
@@ -121,6 +121,23 @@ static void *join(void *unused) {
     return unused;
 }
 
+/* Eight places, each with a program of 256 lines of the longest statement. */
+static uint8_t stages[70000], longest[8704], name[] = "a";
+static size_t longest_len;
+
+static void *keep(void *unused) {
+    static uint32_t place;
+    number = rewrites_keep(stages, sizeof stages, name, 1, longest, longest_len, &place);
+    return unused;
+}
+
+static void *go_back(void *unused) {
+    static uint8_t text[8704];
+    static uint32_t bytes;
+    number = rewrites_return(stages, sizeof stages, name, 1, text, 8704, &bytes);
+    return unused;
+}
+
 /* The bytes of its stack that a thread overwrites. */
 static size_t overwritten(void *(*body)(void *)) {
     pthread_attr_t attributes;
@@ -182,11 +199,11 @@ int main(int count, char **arguments) {
         {"EX ", "true", "", 340, 8}, {"!", "true", "", 1020, 8},  {"E[", "", "", 512, 7},
         {"(", "true", "", 1020, 7},  {"(", "", "", 1024, 7},
     };
-    size_t most[11] = {ROOM, ROOM, ROOM, ROOM, ROOM, ROOM, ROOM, ROOM, ROOM, ROOM, ROOM};
+    size_t most[13] = {ROOM, ROOM, ROOM, ROOM, ROOM, ROOM, ROOM, ROOM, ROOM, ROOM, ROOM, ROOM, ROOM};
     size_t alone = overwritten(nothing), bytes, k;
     int fails = 0, line;
 
-    for (k = 0; k < 11 && k + 1 < (size_t)count; k++) most[k] = strtoul(arguments[k + 1], NULL, 10);
+    for (k = 0; k < 13 && k + 1 < (size_t)count; k++) most[k] = strtoul(arguments[k + 1], NULL, 10);
 
     put_sums();
     bytes = overwritten(judge) - alone;
@@ -249,6 +266,23 @@ int main(int count, char **arguments) {
     bytes = overwritten(relist) - alone;
     printf("%7lu bytes of stack: relist, 256 marks\n", (unsigned long)bytes);
     fails += number != 0 || bytes > most[8];
+    longest_len = put_program(longest, 256);
+    for (line = 0; line < 8; line++) {
+        name[0] = (uint8_t)('a' + line);
+        bytes = overwritten(keep) - alone;
+        fails += number != 0 || bytes > most[11];
+    }
+    printf("%7lu bytes of stack: keep, into the eighth place\n", (unsigned long)bytes);
+    bytes = overwritten(go_back) - alone;
+    printf("%7lu bytes of stack: return, to the eighth place\n", (unsigned long)bytes);
+    fails += number != 0 || bytes > most[12];
+    name[0] = 'i';
+    bytes = overwritten(keep) - alone;
+    printf("%7lu bytes of stack: keep, a ninth name: %d\n", (unsigned long)bytes, number);
+    fails += number != 24 || bytes > most[11];
+    bytes = overwritten(go_back) - alone;
+    printf("%7lu bytes of stack: return, a ninth name: %d\n", (unsigned long)bytes, number);
+    fails += number != 25 || bytes > most[12];
     for (k = 0; k < sizeof cases / sizeof *cases; k++) {
         condition_len = 0;
         put(cases[k].open, cases[k].depth);

@@ -9,6 +9,7 @@ use crate::program::{
     MOST_LINES, VARIABLES,
 };
 use crate::review::{MOST_TABLES, REVIEW_LINES};
+use crate::stages::{HEAD_BYTES, NAME_BYTES, PLACES, PLACE_BYTES, STAGES_BYTES};
 
 /// A source of random numbers (splitmix64).
 #[derive(Clone, Debug)]
@@ -1668,5 +1669,210 @@ pub fn price_text(random: &mut Random) -> Vec<u8> {
         }
         3 => damage(random, &pricing::table_text(&list)),
         _ => pricing::table_text(&list),
+    }
+}
+
+/// Names of stages that meet again: some are another's front, or differ from it in the first or the eighth letter.
+const STAGE_NAMES: [&str; 12] = [
+    "a", "b", "aa", "first", "second", "third", "abcdefg", "abcdefgh", "abcdefgi", "bbcdefgh",
+    "zzzzzzzz", "road",
+];
+
+/// A stage's name, mostly one of few.
+pub fn stage_name(random: &mut Random) -> Vec<u8> {
+    if random.chance(90) {
+        return random.pick(&STAGE_NAMES).as_bytes().to_vec();
+    }
+    (0..random.between(1, NAME_BYTES)).map(|_| b'a' + random.below(26) as u8).collect()
+}
+
+/// A way in which a stage's name is wrong.
+#[derive(Clone, Copy, Debug, PartialEq, Eq, PartialOrd, Ord)]
+pub enum WrongName {
+    /// No letter.
+    Empty,
+    /// Nine letters, of which eight are a name.
+    Nine,
+    /// More, as many as a record's bytes or a hundred.
+    Long,
+    /// A capital letter.
+    Capital,
+    /// A byte just below or above the letters.
+    Beside,
+    /// A zero byte behind the letters, as in a place.
+    Zero,
+    /// Letters behind a zero byte.
+    LetterBehindZero,
+    /// Any byte but a letter.
+    OtherByte,
+}
+
+impl WrongName {
+    pub const ALL: [WrongName; 8] = [
+        WrongName::Empty,
+        WrongName::Nine,
+        WrongName::Long,
+        WrongName::Capital,
+        WrongName::Beside,
+        WrongName::Zero,
+        WrongName::LetterBehindZero,
+        WrongName::OtherByte,
+    ];
+}
+
+/// A wrong name, made of a right one.
+pub fn wrong_name(random: &mut Random, wrong: WrongName, name: &[u8]) -> Vec<u8> {
+    let mut name = name.to_vec();
+    let at = random.below(name.len());
+    let front = random.between(1, NAME_BYTES - 1).min(name.len());
+    match wrong {
+        WrongName::Empty => name.clear(),
+        WrongName::Nine => name.resize(NAME_BYTES + 1, b'a'),
+        WrongName::Long => name.resize(random.pick(&[HEAD_BYTES, 16, 100]), b'z'),
+        WrongName::Capital => name[at] = name[at].to_ascii_uppercase(),
+        WrongName::Beside => name[at] = random.pick(&[b'a' - 1, b'z' + 1]),
+        WrongName::Zero => {
+            name.truncate(front);
+            name.resize(random.between(front + 1, NAME_BYTES), 0);
+        }
+        WrongName::LetterBehindZero => {
+            name.truncate(front);
+            name.resize(NAME_BYTES, 0);
+            name[NAME_BYTES - 1] = b'a';
+            if front == NAME_BYTES - 1 {
+                name[front - 1] = 0;
+            }
+        }
+        WrongName::OtherByte => {
+            let other = random.below(256 - 26) as u8;
+            name[at] = if other < b'a' { other } else { other.wrapping_add(26) };
+        }
+    }
+    name
+}
+
+/// Puts a record into a place of stages, counted from 0.
+fn put_stage(stages: &mut [u8], at: usize, name: &[u8], text: &[u8]) {
+    let place = &mut stages[at * PLACE_BYTES..][..PLACE_BYTES];
+    place[..NAME_BYTES].fill(0);
+    place[..name.len()].copy_from_slice(name);
+    place[NAME_BYTES..HEAD_BYTES].copy_from_slice(&(text.len() as u16).to_le_bytes());
+    place[HEAD_BYTES..][..text.len()].copy_from_slice(text);
+}
+
+/// A program to be kept, mostly a short one.
+pub fn kept_program(random: &mut Random) -> Program {
+    let size = if random.chance(97) { random.between(2, 9) } else { size(random) };
+    program(random, size)
+}
+
+/// The bytes that stages need: of zeros, letters or any bytes, with differing names in none to all of the places.
+pub fn stages(random: &mut Random) -> Vec<u8> {
+    let mut stages = vec![0; STAGES_BYTES];
+    match random.below(8) {
+        0 => stages.fill(b'a'),
+        1 | 2 => stages.chunks_mut(8).for_each(|bytes| {
+            bytes.copy_from_slice(&random.bits().to_le_bytes()[..bytes.len()]);
+        }),
+        _ => {}
+    }
+    let (mut names, mut places) = (STAGE_NAMES, [0, 1, 2, 3, 4, 5, 6, 7]);
+    random.shuffle(&mut names);
+    random.shuffle(&mut places);
+    for &at in &places[..random.pick(&[0, 1, 3, 5, 6, 7, 8, 8, 8, 8])] {
+        let text = kept_program(random).text();
+        put_stage(&mut stages, at, names[at].as_bytes(), &text);
+    }
+    stages
+}
+
+/// What happens to a place of stages.
+#[derive(Clone, Copy, Debug, PartialEq, Eq, PartialOrd, Ord)]
+pub enum PlaceDamage {
+    /// Its record stands in another place too.
+    Copied,
+    /// Its name does, with the text that the other has.
+    Named,
+    /// A byte of its name is another.
+    NameByte,
+    /// A letter stands behind the zero bytes of its name.
+    LastLetter,
+    /// Its name is gone.
+    NameGone,
+    /// Its length is one of those around the most that a place has room for.
+    LengthMost,
+    /// The largest that two bytes spell, or close to it: length bytes 0 255 among them.
+    LengthFar,
+    /// One more or less than it was.
+    LengthNear,
+    /// Its bytes stand in the other order.
+    LengthTurned,
+    /// A byte of its text is another.
+    TextByte,
+    /// The text is one that is refused, of its own length.
+    TextRefused,
+}
+
+impl PlaceDamage {
+    pub const ALL: [PlaceDamage; 11] = [
+        PlaceDamage::Copied,
+        PlaceDamage::Named,
+        PlaceDamage::NameByte,
+        PlaceDamage::LastLetter,
+        PlaceDamage::NameGone,
+        PlaceDamage::LengthMost,
+        PlaceDamage::LengthFar,
+        PlaceDamage::LengthNear,
+        PlaceDamage::LengthTurned,
+        PlaceDamage::TextByte,
+        PlaceDamage::TextRefused,
+    ];
+}
+
+/// Damages a place of stages, counted from 0.
+pub fn damage_place(random: &mut Random, kind: PlaceDamage, stages: &mut [u8], at: usize) {
+    let start = at * PLACE_BYTES;
+    let other = random.below(PLACES) * PLACE_BYTES;
+    let place = start..start + PLACE_BYTES;
+    let head = &mut stages[start..][..HEAD_BYTES];
+    let length = u16::from_le_bytes([head[NAME_BYTES], head[NAME_BYTES + 1]]);
+    let put_length = |stages: &mut [u8], length: u16| {
+        stages[start + NAME_BYTES..start + HEAD_BYTES].copy_from_slice(&length.to_le_bytes());
+    };
+    let most = (PLACE_BYTES - HEAD_BYTES) as u16;
+    match kind {
+        PlaceDamage::Copied => stages.copy_within(place, other),
+        PlaceDamage::Named => stages.copy_within(start..start + NAME_BYTES, other),
+        PlaceDamage::NameByte => {
+            let byte = random.pick(&[0, 1, b'A', b'`', b'a', b'z', b'{', 255]);
+            head[random.below(NAME_BYTES)] = byte;
+        }
+        PlaceDamage::LastLetter => head[NAME_BYTES - 1] = b'a',
+        PlaceDamage::NameGone => head[..NAME_BYTES].fill(0),
+        PlaceDamage::LengthMost => {
+            put_length(stages, random.pick(&[most - 1, most, most + 1, most + HEAD_BYTES as u16]));
+        }
+        PlaceDamage::LengthFar => {
+            put_length(stages, random.pick(&[0xff00, 0xffff, 0x8000, 0x4000]))
+        }
+        PlaceDamage::LengthNear => {
+            put_length(stages, random.pick(&[length.wrapping_add(1), length.wrapping_sub(1)]));
+        }
+        PlaceDamage::LengthTurned => put_length(stages, length.swap_bytes()),
+        PlaceDamage::TextByte => {
+            let text = start + HEAD_BYTES + random.below(usize::from(length.min(most)).max(1));
+            stages[text] = random.pick(&[b'x', b'\n', 0, b'0', b' ']);
+        }
+        PlaceDamage::TextRefused => {
+            let text = random.pick(&[
+                "",
+                "read i0\n",
+                "read i0\nskip\n",
+                "read i0\nif i0 goto 1 else 2\nwrite i0\n",
+                "rubbish",
+            ]);
+            put_length(stages, text.len() as u16);
+            stages[start + HEAD_BYTES..][..text.len()].copy_from_slice(text.as_bytes());
+        }
     }
 }

@@ -18,6 +18,7 @@ pub mod marks;
 pub mod pricing;
 pub mod program;
 pub mod review;
+pub mod stages;
 pub mod steps;
 pub mod tuned;
 

@@ -33,7 +33,7 @@ use Rattle.run.specs.declared.RunAnswer.the-variants.{Refused, Finished}
 
 module _ {t : List ℕ} {P : List Statement} (taken : Taken t P) (ps start : List ℕ) (input budget : ℕ) (allowed : budget ≤ most-steps) where
   -- a text that is taken gets none of 2 to 5, and an allowed budget not 15; the program that answers is the one that the text is taken as
-  called-answers :
+  pub called-answers :
       (r : RunAnswer) (ws ks : List ℕ) → RunAnswers ps t start input budget r ws ks
       → (a : Answer) × (r ≡ Finished a) × Answers (inForce ps) P start input budget a ws ks
   called-answers (Refused n) ws ks r = absurd (never-refused t budget (r .0) allowed taken)

@@ -32,6 +32,9 @@ refusals =
     ∷ whole 20 "the buyer: other than 11 lines of prices"
     ∷ whole 21 "the author of the shift program: the joined program has over 256 statements"
     ∷ whole 22 "the author of the driver's list: a variable misspelled or named twice"
+    ∷ whole 23 "who names stages: a name that isn't 1 to 8 lower-case letters"
+    ∷ whole 24 "who names stages: a new name where all eight places hold others"
+    ∷ whole 25 "who names stages: a name that no place holds"
     ∷ []
 
 -- what the row of n says, or nothing

@@ -108,6 +108,17 @@ pub fn words(out: &mut [u8], at: usize, n: u8, line: u32) -> usize
             at,
             b"the author of the driver's list: a variable misspelled or named twice",
         ),
+        23 => statement_writer::word(
+            out,
+            at,
+            b"who names stages: a name that isn't 1 to 8 lower-case letters",
+        ),
+        24 => statement_writer::word(
+            out,
+            at,
+            b"who names stages: a new name where all eight places hold others",
+        ),
+        25 => statement_writer::word(out, at, b"who names stages: a name that no place holds"),
         _ => at,
     }
 }

@@ -1,5 +1,5 @@
 -- Under every budget the given and the changed program answer alike, and keep the same: what one run answers, the run beside it answers too, and of one run
--- two answers are the same. Assumes nothing.
+-- two answers are the same. So it is of any two runs that are together, and runs that are together with one are so with each other. Assumes nothing.
 use mathlib.Core.Path.{_≡_, refl, sym, _∙_, ap, subst}
 use mathlib.Core.List.{List}
 use Prim.Native.Nat.{ℕ}
@@ -29,6 +29,20 @@ ended-beside (before t vs) (ended u) v h e = absurd h
 ended-beside (ended u) (before r ws) v h e = absurd h
 ended-beside (ended u) (ended r) v h e = cc
 
+-- ---- of three runs
+
+pub together-same : (a : State) → Together a a
+together-same (before s vs) = (refl, tt)
+together-same (ended v) = refl
+
+pub together-then : (a b c : State) → Together a b → Together b c → Together a c
+together-then (before s vs) b c h g =
+    let there = stands-beside (before s vs) b s vs h refl in
+    rw (stands-beside b c s (there .0) g (there .1) .1) (refl, tt)
+together-then (ended v) b c h g = rw (ended-beside b c v g (ended-beside (ended v) b v h refl)) refl
+
+-- ---- what two runs answer
+
 module _ (P Q : List Statement) (vs : List ℕ) (input : ℕ) (beside : (k : ℕ) → Together (after P vs input k) (after Q vs input k)) where
   ends-beside : (k : ℕ) (v : Final) → Ends P vs input k v → Ends Q vs input k v
   ends-beside k v e =
@@ -54,10 +68,14 @@ module _ (P Q : List Statement) (vs : List ℕ) (input : ℕ) (beside : (k : ℕ
       let there = stands-beside (after P vs input budget) (after Q vs input budget) s ws (beside budget) stands in
       (Spent n (ticks ps Q vs input budget), there .0, (s, is, there .1, same, refl), refl)
 
+  pub answers-together :
+      (ps : List ℕ) (budget : ℕ) (a b : Answer) (ws us ks hs : List ℕ) → Answers ps P vs input budget a ws ks → Answers ps Q vs input budget b us hs → Alike a b × (ks ≡ hs)
+  answers-together ps budget a b ws us ks hs p q =
+      let there = answers-beside ps budget a ws ks p in
+      let one = answer-unique Q vs input ps budget (there .0) b (there .1) us ks hs (there .2) q in
+      (subst (Alike a) (one .0) (there .3), one .2)
+
 pub answers-alike :
     {U : ℕ → ℕ → Type 0} {P Q : List Statement} → WellFormed P → Changed U P Q → (vs : List ℕ) → length vs ≡ variables → (input : ℕ) (ps : List ℕ) (budget : ℕ)
     (a b : Answer) (ws us ks hs : List ℕ) → Answers ps P vs input budget a ws ks → Answers ps Q vs input budget b us hs → Alike a b × (ks ≡ hs)
-answers-alike {U} {P} {Q} w changed vs l input ps budget a b ws us ks hs p q =
-    let there = answers-beside P Q vs input (together w changed vs l input) ps budget a ws ks p in
-    let one = answer-unique Q vs input ps budget (there .0) b (there .1) us ks hs (there .2) q in
-    (subst (Alike a) (one .0) (there .3), one .2)
+answers-alike {P = P} {Q = Q} w changed vs l input = answers-together P Q vs input (together w changed vs l input)

@@ -11,6 +11,8 @@ ghost use Rattle.host_join.specs.Places.{JoinExported};
 ghost use Rattle.host_prices.specs.Places.{PricesExported};
 ghost use Rattle.host_report.specs.Places.{ReportExported};
 ghost use Rattle.host_listing.specs.Exports.{ListExported, RelistExported};
+ghost use Rattle.host_keep.specs.Places.{KeepExported};
+ghost use Rattle.host_return.specs.Places.{ReturnExported};
 use language::KEPT;
 use listing::COUNTS;
 use machine::VALUES;
@@ -223,4 +225,28 @@ pub extern "C" fn rewrites_join(
     ensures { λ r. ⌜ JoinExported (now (road .entry)) (now (creeper .entry)) (now (text .entry)) (now (text .exit)) r (record { statements = now (statements .entry); bytes = now (bytes .entry) }) (record { statements = now (statements .exit); bytes = now (bytes .exit) }) ⌝ }
 {
     host_join::export(road, creeper, text, statements, bytes)
+}
+
+#[no_mangle]
+pub extern "C" fn rewrites_keep(
+    stages: &mut [u8],
+    name: &[u8],
+    program: &[u8],
+    place: &mut u32,
+) -> u8
+    ensures { λ r. ⌜ KeepExported (now (stages .entry)) (now (name .entry)) (now (program .entry)) (now (stages .exit)) r (now (place .entry)) (now (place .exit)) ⌝ }
+{
+    host_keep::export(stages, name, program, place)
+}
+
+#[no_mangle]
+pub extern "C" fn rewrites_return(
+    stages: &[u8],
+    name: &[u8],
+    text: &mut [u8],
+    bytes: &mut u32,
+) -> u8
+    ensures { λ r. ⌜ ReturnExported (now (stages .entry)) (now (name .entry)) (now (text .entry)) (now (text .exit)) r (now (bytes .entry)) (now (bytes .exit)) ⌝ }
+{
+    host_return::export(stages, name, text, bytes)
 }

@@ -15,6 +15,7 @@ mod naive;
 mod open_points;
 mod pricing;
 mod review;
+mod stages;
 mod traces;
 mod tuned;
 

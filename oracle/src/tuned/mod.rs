@@ -10,6 +10,7 @@ mod prices;
 mod read;
 mod review;
 mod run;
+mod stages;
 mod tabulate;
 mod write;
 
@@ -20,4 +21,5 @@ pub use listing::{list, relist};
 pub use prices::replace;
 pub use review::review;
 pub use run::run;
+pub use stages::{go_back, keep};
 pub use tabulate::tabulate;

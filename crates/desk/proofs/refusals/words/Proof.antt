@@ -1,18 +1,15 @@
 -- `words` meets its contract: each arm writes the words of its number. Assumes nothing.
-use mathlib.Core.Path.{refl}
-use native.Mathlib.Omega.{arith}
 use borrow.Author.Needs.{needs}
 use Rattle.desk.specs.Refusals.{refusalWords}
-use Rattle.desk.proofs.Words.{no-words}
+use Rattle.desk.proofs.Words.{nothing-put}
 use Rattle.desk.proofs.refusals.words.Statement.{statement}
 use Rattle.desk.proofs.refusals.words.Tie as tie
 
 -- no row has the number
-returns-18 : tie.Need-returns-18
-returns-18 c =
-    let n = c .match .rest in
-    rw (no-words _ _ (n .0 .0 .0 .0 .0 .0 .0 .0 .0 .0 .0 .0 .0 .0 .0 .0 .1, (n .0 .0 .0 .0 .0 .0 .0 .0 .0 .0 .0 .0 .0 .0 .0 .1, (n .0 .0 .0 .0 .0 .0 .0 .0 .0 .0 .0 .0 .0 .0 .1, (n .0 .0 .0 .0 .0 .0 .0 .0 .0 .0 .0 .0 .0 .1, (n .0 .0 .0 .0 .0 .0 .0 .0 .0 .0 .0 .0 .1, (n .0 .0 .0 .0 .0 .0 .0 .0 .0 .0 .0 .1, (n .0 .0 .0 .0 .0 .0 .0 .0 .0 .0 .1, (n .0 .0 .0 .0 .0 .0 .0 .0 .0 .1, (n .0 .0 .0 .0 .0 .0 .0 .0 .1, (n .0 .0 .0 .0 .0 .0 .0 .1, (n .0 .0 .0 .0 .0 .0 .1, (n .0 .0 .0 .0 .0 .1, (n .0 .0 .0 .0 .1, (n .0 .0 .0 .1, (n .0 .0 .1, (n .0 .1, (n .1, tt))))))))))))))))))
-    (record { text = refl; after = omega arith })
+returns-21 : tie.Need-returns-21
+returns-21 c =
+    let a = c .before .before .args in
+    nothing-put (a .out .now) (a .at) (a .n) (a .line) (c .match .rest)
 
 pub words-spec : {M : Type 1} → statement M
 unfolding refusalWords
@@ -57,6 +54,12 @@ words-spec =
     (λ c. search needs)
     (λ c κs. rw (c .before .before .match .keys17) at (c .before .before .before .before .pre))
     (λ c. search needs)
+    (λ c κs. rw (c .before .before .match .keys18) at (c .before .before .before .before .pre))
+    (λ c. search needs)
+    (λ c κs. rw (c .before .before .match .keys19) at (c .before .before .before .before .pre))
+    (λ c. search needs)
+    (λ c κs. rw (c .before .before .match .keys20) at (c .before .before .before .before .pre))
+    (λ c. search needs)
     (λ c. rw (c .before .before .before .before .before .match .keys1) (c .before .before .word .ensures))
     (λ c. search needs)
     (λ c. rw (c .before .before .before .before .before .match .keys2) (c .before .before .word2 .ensures))
@@ -90,4 +93,10 @@ words-spec =
     (λ c. rw (c .before .before .before .before .before .match .keys16) (c .before .before .word13 .ensures))
     (λ c. search needs)
     (λ c. rw (c .before .before .before .before .before .match .keys17) (c .before .before .word14 .ensures))
-    returns-18)
+    (λ c. search needs)
+    (λ c. rw (c .before .before .before .before .before .match .keys18) (c .before .before .word15 .ensures))
+    (λ c. search needs)
+    (λ c. rw (c .before .before .before .before .before .match .keys19) (c .before .before .word16 .ensures))
+    (λ c. search needs)
+    (λ c. rw (c .before .before .before .before .before .match .keys20) (c .before .before .word17 .ensures))
+    returns-21)

@@ -1,0 +1,1 @@
+// Rounds of marks from a stage: the claim in specs/, the theorem in proofs/, no code.

@@ -1,0 +1,4 @@
+pub mod Stages
+pub mod Sentence
+pub mod Choice
+pub mod Looking
