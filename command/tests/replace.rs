@@ -2,7 +2,7 @@
 
 mod shell;
 
-use shell::{example, folder, printed, rewrites, run_in, said, status};
+use shell::{example, faults, folder, printed, rewrites, run_in, said, status};
 use std::fs::{self, File, Permissions};
 use std::io::Read;
 use std::os::unix::fs::{symlink, FileTypeExt, PermissionsExt};
@@ -156,23 +156,10 @@ fn a_crash_leaves_the_old_file() {
     holds(&base, &["given", "marks", "new"]);
 }
 
-/// Compiles the faults.
-fn faults() -> PathBuf {
-    let source = Path::new(env!("CARGO_MANIFEST_DIR")).join("tests/fault.c");
-    let library = Path::new(env!("CARGO_TARGET_TMPDIR")).join("fault.so");
-    let status = Command::new("cc")
-        .args(["-std=gnu99", "-Wall", "-Wextra", "-Werror", "-shared", "-fPIC", "-o"])
-        .args([&library, &source])
-        .status()
-        .expect("cc runs");
-    assert!(status.success());
-    library
-}
-
 /// A disk that is full, that loses what was written, and that has no room for the new name.
 #[test]
 fn faults_of_the_disk() {
-    let library = faults();
+    let library = faults("replace");
     let faulty = |base: &Path, fault: &str, place: &str| {
         rewrites()
             .args(["check", ".", "-o", "new"])

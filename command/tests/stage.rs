@@ -13,7 +13,7 @@ use common::{option, P};
 use coverage::Tally;
 use oracle::generate::{self, PlaceDamage, Random, WrongName};
 use oracle::stages::{self, PLACES, PLACE_BYTES, STAGES_BYTES};
-use shell::{example, folder, printed, rewrites, run_in, said, status, told_again};
+use shell::{example, faults, folder, printed, rewrites, run_in, said, status, told_again};
 use std::ffi::OsString;
 use std::fs::{self, File, Permissions};
 use std::os::unix::ffi::OsStringExt;
@@ -360,23 +360,10 @@ fn a_crash_leaves_the_old_file() {
     }
 }
 
-/// Compiles the faults.
-fn faults() -> PathBuf {
-    let source = Path::new(env!("CARGO_MANIFEST_DIR")).join("tests/fault.c");
-    let library = Path::new(env!("CARGO_TARGET_TMPDIR")).join("stage_fault.so");
-    let status = Command::new("cc")
-        .args(["-std=gnu99", "-Wall", "-Wextra", "-Werror", "-shared", "-fPIC", "-o"])
-        .args([&library, &source])
-        .status()
-        .expect("cc runs");
-    assert!(status.success());
-    library
-}
-
 /// A disk that is full, that loses what was written, and that has no room for the new name; and a file that breaks off.
 #[test]
 fn faults_of_the_disk() {
-    let library = faults();
+    let library = faults("stage");
     let faulty = |base: &Path, fault: &str, place: &str| {
         rewrites()
             .args(["stage", ".", "keep", "two"])

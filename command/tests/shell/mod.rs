@@ -81,3 +81,16 @@ pub fn told_again(json: &[u8]) -> Vec<String> {
     let text = String::from_utf8(python("read.py", json)).expect("a text");
     text.split_terminator('\0').map(str::to_string).collect()
 }
+
+/// Compiles the faults of a disk, to be loaded before the command, under a name that no other test's has.
+pub fn faults(name: &str) -> PathBuf {
+    let source = Path::new(env!("CARGO_MANIFEST_DIR")).join("tests/fault.c");
+    let library = Path::new(env!("CARGO_TARGET_TMPDIR")).join(format!("{name}_fault.so"));
+    let status = Command::new("cc")
+        .args(["-std=gnu99", "-Wall", "-Wextra", "-Werror", "-shared", "-fPIC", "-o"])
+        .args([&library, &source])
+        .status()
+        .expect("cc runs");
+    assert!(status.success());
+    library
+}
