@@ -11,10 +11,10 @@ use language::Statement;
 use statement_reader::StatementRead;
 use tokens::WordRead;
 
-// A program has 2 to 256 statements.
+// A program has 2 to 1,024 statements.
 pub const FEWEST: usize = 2;
 
-pub const MOST: usize = 256;
+pub const MOST: usize = 1024;
 // A line has room in this many bytes with its byte 10, and every program's text in this many.
 const LINE_ROOM: usize = 34;
 
@@ -52,7 +52,7 @@ pub struct Reading {
     pub program: Program,
 }
 
-// All lines of a text are counted; the first 256 are kept.
+// All lines of a text are counted; the first MOST are kept.
 struct Lines {
     spelled: bool,
     count: usize,
@@ -79,7 +79,7 @@ fn misspelled(before: usize, entries: [Entry; MOST]) -> Lines
     }
 }
 
-// Every line is read, also beyond the 256 that are kept.
+// Every line is read, also beyond those that are kept.
 fn read_lines(s: &[u8]) -> Lines
     ensures { λ r. ⌜ LinesRead (now (s .entry)) (r .spelled) (r .count) (r .entries) ⌝ }
 {
