@@ -27,10 +27,11 @@ pub struct Entry {
     pub statement: Statement,
 }
 
-// The first `count` entries are the statements.
+// The first `count` entries are the statements. They come last, so that those of two programs that lie side by side are a multiple of 16 bytes
+// apart: some processors copy a whole number of pages by 8 bytes sixteen times slower.
 pub struct Program {
-    pub entries: [Entry; MOST],
     pub count: usize,
+    pub entries: [Entry; MOST],
 }
 
 // The refusals of a program's text.
@@ -177,8 +178,8 @@ fn refused(r: Refusal, entries: [Entry; MOST]) -> Reading
     Reading {
         answer: Answer::Refused(r),
         program: Program {
-            entries: entries,
             count: 0,
+            entries: entries,
         },
     }
 }
@@ -221,8 +222,8 @@ pub fn read(s: &[u8]) -> Reading
     Reading {
         answer: Answer::Taken,
         program: Program {
-            entries: entries,
             count: count,
+            entries: entries,
         },
     }
 }
