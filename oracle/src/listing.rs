@@ -4,7 +4,7 @@
 
 use crate::condition::PART_WORDS;
 use crate::marks::{self, TEXT_BYTES, VERDICT_BYTES};
-use crate::program::{Program, Statement, MOST_LINES, VARIABLES};
+use crate::program::{Program, Statement, VARIABLES};
 
 /// The smallest list that may be lent, in words: two sets for each variable.
 pub const LIST_WORDS: usize = 2 * PART_WORDS * VARIABLES as usize;
@@ -52,7 +52,8 @@ fn write_bits(list: &mut [u64], at: usize, statement: &Statement) {
 /// The ones of each set, whether they are a statement's or not.
 fn counts(list: &[u64]) -> Counts {
     let ones = |x: usize, set: Set| {
-        (0..MOST_LINES).filter(|&at| has(list, x as u8, set, at)).count() as u32
+        let (first, _) = place(x as u8, set, 0);
+        list[first..first + PART_WORDS].iter().map(|word| word.count_ones()).sum()
     };
     Counts {
         defined: std::array::from_fn(|x| ones(x, Set::Defining)),
