@@ -10,7 +10,7 @@
    there. No other pointer may be null. Places that a call writes may not overlap each other or any
    other place lent to it.
 
-   A call takes no memory but the stack of its thread: at most 256 KiB for any input. */
+   A call takes no memory but the stack of its thread: at most 512 KiB for any input. */
 #ifndef REWRITES_H
 #define REWRITES_H
 
@@ -24,7 +24,7 @@ extern "C" {
 /* Runs the shift program that the text spells, from 64 given values and one input value, under a
    budget of 0 to 1,000,000 steps. One step performs one statement. Statements are numbered from 1.
    `A / B` is signed and rounded toward zero, -2147483648 / -1 giving -2147483648; a B of 0 ends the
-   run with a fault. Takes at most 64 KiB of stack.
+   run with a fault. Takes at most 256 KiB of stack.
 
    Returns 0, and sets
    *ended = 1, *value, *steps and kept, where the run ends within the budget: the value that `write`
@@ -72,7 +72,7 @@ uint8_t rewrites_prices(const uint8_t *text, size_t text_len, uint32_t prices[11
    64, counted at each occurrence, in the order in which their text ends; of those that end together
    the inner comes first. So the last part is the whole condition. `use(X)` holds where X stands in
    the right side, is tested or is written; for X from i24 to i31, which the unit keeps from one pass
-   to the next, it holds at `write` too. Takes at most 256 KiB of stack, most where brackets stand
+   to the next, it holds at `write` too. Takes at most 384 KiB of stack, most where brackets stand
    within one another.
 
    Returns 0, and sets
@@ -96,7 +96,7 @@ uint8_t rewrites_tabulate(const uint8_t *program, size_t program_len, const uint
 /* Tabulates the conditions of a review together: 1 to 32 lines, each a condition ended by byte 10.
    Parts spelled alike, byte for byte, in one line or in several, get one table; the tables are
    filled in the order in which their parts first end. Each line reads as it does with
-   rewrites_tabulate by itself. Takes at most 256 KiB of stack, most where brackets stand within one
+   rewrites_tabulate by itself. Takes at most 384 KiB of stack, most where brackets stand within one
    another.
 
    Returns 0, and sets
@@ -124,7 +124,7 @@ uint8_t rewrites_review(const uint8_t *program, size_t program_len, const uint8_
 
 /* Tells what a driver can force. The list, empty or with single spaces between, names the variables
    that are his: at an `if` on one of them he picks the arm, at every other the unit does, without
-   regard to values. `write` steps to itself. Takes at most 256 KiB of stack, most where brackets stand
+   regard to values. `write` steps to itself. Takes at most 384 KiB of stack, most where brackets stand
    within one another.
 
    Returns 0, and sets
@@ -175,7 +175,7 @@ uint8_t rewrites_force(const uint8_t *program, size_t program_len, const uint8_t
    that the given program may still use before defining it, its live variables, holds the same value
    in both; others, and so the values left where a run is spent, may differ, and so may the ticks of
    all runs.
-   Takes at most 128 KiB of stack.
+   Takes at most 384 KiB of stack.
 
    Returns 0, and sets
    verdicts    byte j for line j, counted from 0: 0 for a mark that is accepted, else the first that
@@ -202,7 +202,7 @@ uint8_t rewrites_judge(const uint8_t *program, size_t program_len, const uint8_t
 
 /* Tells the price of each statement in ticks, before and after the accepted marks of a list are made,
    and the totals. The list is judged as by rewrites_judge, and the prices are those of the table that
-   is handed in, as with rewrites_run. Takes at most 128 KiB of stack.
+   is handed in, as with rewrites_run. Takes at most 512 KiB of stack.
 
    Returns 0, and sets
    before, after entry k, counted from 0, for statement k+1: its price in the given program, and in the
@@ -239,7 +239,7 @@ uint8_t rewrites_mark_line(const uint8_t *marks, size_t marks_len, uint32_t line
 
 /* Makes the list of a program's readers and writers: for each variable the statements that define it,
    `read X` or `X := E`, and those that use it, as `use(X)` holds with rewrites_tabulate; i24 to i31,
-   which the unit keeps, are used at `write` too. Takes at most 64 KiB of stack.
+   which the unit keeps, are used at `write` too. Takes at most 256 KiB of stack.
 
    Returns 0, and sets
    list       words 32v to 32v+15 to the statements that define variable v, words 32v+16 to 32v+31 to
@@ -258,7 +258,7 @@ uint8_t rewrites_list(const uint8_t *program, size_t program_len, uint64_t *list
    program as with rewrites_judge. For each statement whose text the accepted ones change, its bit in
    each of the 128 sets is written as in the list of the new program, set or cleared; every other bit is
    kept. So a list that was the given program's is then the new program's; one that was wrong at a
-   statement that stays as it was is wrong there still. Takes at most 128 KiB of stack.
+   statement that stays as it was is wrong there still. Takes at most 384 KiB of stack.
 
    Returns 0, and sets
    list       the bits of changed statements. All others, and all words from 2,048 on, are kept.
@@ -283,7 +283,7 @@ uint8_t rewrites_relist(const uint8_t *program, size_t program_len, const uint8_
    as input. If both end, it ends with the creeper program's value and kept values, after the sum of
    their steps less 1. If one never ends, neither does the whole. A fault of the road program is a
    fault of the whole, at the same statement after the same steps; one of the creeper program has its
-   new number, and the sum of the steps less 1. Takes at most 128 KiB of stack.
+   new number, and the sum of the steps less 1. Takes at most 256 KiB of stack.
 
    Returns 0, and sets
    text        the joined program, from byte 0 on. All further bytes are kept.
@@ -307,7 +307,7 @@ uint8_t rewrites_join(const uint8_t *road, size_t road_len, const uint8_t *creep
    behind them, its length is above 34,990, its text isn't taken (one of 2 to 5 applies to it), or an
    earlier place that isn't empty has its name. So of the places that stand right with one name the
    first holds it. A known name is replaced where it stands; a new one takes the first empty place. Takes
-   at most 64 KiB of stack.
+   at most 256 KiB of stack.
 
    Returns 0, and sets
    stages     the name, the length and the text of one place. Its other bytes, all other places, and all
@@ -326,7 +326,7 @@ uint8_t rewrites_keep(uint8_t *stages, size_t stages_len, const uint8_t *name, s
    rewrites_keep, and are kept. A program that was reached from it by rounds of rewrites_judge, each on the
    text that the last one wrote, runs as the returned one does, with the same outcome and kept values in
    the same steps, a fault at the same statement, or spent at the same statement, as long as nothing but
-   rewrites_keep under other names changed the stages since. Takes at most 64 KiB of stack.
+   rewrites_keep under other names changed the stages since. Takes at most 256 KiB of stack.
 
    Returns 0, and sets
    text       the kept program, from byte 0 on. All further bytes are kept.

@@ -2,7 +2,7 @@
 //! paths through them; and marks, which propose rewrites of them.
 //!
 //! The calls are those of a library that is proved to meet its contracts. This package links it and
-//! gives each call a safe form. A call takes no memory but the stack of its thread, at most 256 KiB.
+//! gives each call a safe form. A call takes no memory but the stack of its thread, at most 512 KiB.
 //!
 //! A program is ASCII text, one statement a line, each line ended by byte 10. The first statement
 //! is `read X`, the last `write X`; between them stand `X := A`, `X := A o A` with `+`, `-`, `*`,
@@ -659,7 +659,7 @@ impl fmt::Display for Refusal {
 impl Error for Refusal {}
 
 /// Runs the program that the text spells, from the given values of `i0` to `i63` and one input
-/// value, for at most `budget` steps. Takes at most 64 KiB of stack.
+/// value, for at most `budget` steps. Takes at most 256 KiB of stack.
 ///
 /// A run that ends tells what `write` wrote, and the values that the unit keeps for its next pass: those
 /// of the [`KEPT`] variables from [`FIRST_KEPT`] on. One that divides by 0 ends there with a fault, and
@@ -763,7 +763,7 @@ pub fn run(
 /// 0, fills words 16k to 16k+15 of the table: bit b of word w of these is statement 64w+b+1, and
 /// bits beyond the program's statements are 0. All further words of the table are kept.
 ///
-/// Takes at most 256 KiB of stack, most where brackets stand within one another.
+/// Takes at most 384 KiB of stack, most where brackets stand within one another.
 ///
 /// With p and q for conditions, a condition is `!p`, `(p & q)`, `(p | q)`; one of `EX AX EF AF EG AG
 /// EY AY ER AR EM AM`, a space, p; `E[p U q]`, `A[p U q]`, the same with `W`, `S` or `B`; or an atom:
@@ -833,7 +833,7 @@ pub fn tabulate(program: &[u8], condition: &[u8], table: &mut [u64]) -> Result<T
 /// table, its number of parts, how many statements satisfy it and the first of them are what
 /// [`tabulate`] answers for that line alone.
 ///
-/// Takes at most 256 KiB of stack, most where brackets stand within one another.
+/// Takes at most 384 KiB of stack, most where brackets stand within one another.
 ///
 /// # Errors
 ///
@@ -904,7 +904,7 @@ pub fn review(program: &[u8], conditions: &[u8], table: &mut [u64]) -> Result<Re
 /// which the number is lower, or the only one that has a number; at the unit's one from which he can't
 /// force it either; the one behind `goto` where both serve alike. `write` stays where it is.
 ///
-/// The table is filled as by [`tabulate`]. Takes at most 256 KiB of stack, most where brackets stand
+/// The table is filled as by [`tabulate`]. Takes at most 384 KiB of stack, most where brackets stand
 /// within one another.
 ///
 /// # Errors
@@ -993,7 +993,7 @@ pub fn force(
 /// for which `E[!def(x) U use(x)]` is true at that statement of the given program. The others may differ,
 /// and so may the ticks of all runs.
 ///
-/// Takes at most 128 KiB of stack.
+/// Takes at most 384 KiB of stack.
 ///
 /// # Errors
 ///
@@ -1106,7 +1106,7 @@ pub fn judge(
 /// Tells the price of each statement of a program in ticks, before and after the accepted marks of a list
 /// are made, and the totals, by the table of prices that is handed in. The list is judged as by [`judge`].
 ///
-/// Takes at most 128 KiB of stack.
+/// Takes at most 512 KiB of stack.
 ///
 /// # Errors
 ///
@@ -1214,7 +1214,7 @@ pub fn mark_line(marks: &[u8], line: u32) -> Result<Range<usize>, Refusal> {
 /// 64w+b+1, and bits beyond the program's statements are 0. `i24` to `i31`, which the unit keeps from one
 /// pass to the next, are used at `write` too. Words from [`LIST_WORDS`] on are kept.
 ///
-/// Takes at most 64 KiB of stack.
+/// Takes at most 256 KiB of stack.
 ///
 /// # Errors
 ///
@@ -1266,7 +1266,7 @@ pub fn list(program: &[u8], list: &mut [u64]) -> Result<Listing, Refusal> {
 /// is then the new program's, word for word; one that was wrong at a statement that stays as it was is
 /// wrong there still. The counts are those of the words as they are then.
 ///
-/// Takes at most 128 KiB of stack.
+/// Takes at most 384 KiB of stack.
 ///
 /// # Errors
 ///
@@ -1330,7 +1330,7 @@ pub fn relist(program: &[u8], marks: &[u8], list: &mut [u64]) -> Result<Listing,
 /// same statement after the same steps; one of the creeper program has its new number, and the sum of the
 /// steps less 1.
 ///
-/// Takes at most 128 KiB of stack.
+/// Takes at most 256 KiB of stack.
 ///
 /// # Errors
 ///
@@ -1402,7 +1402,7 @@ pub fn join(road: &[u8], creeper: &[u8], text: &mut [u8]) -> Result<Joined, Refu
 /// text are written; the other bytes of the place, all other places and all bytes from [`STAGES_BYTES`] on
 /// are kept.
 ///
-/// Takes at most 64 KiB of stack.
+/// Takes at most 256 KiB of stack.
 ///
 /// # Errors
 ///
@@ -1460,7 +1460,7 @@ pub fn keep(stages: &mut [u8], name: &[u8], program: &[u8]) -> Result<u32, Refus
 /// wrote, runs as the returned program does, from every start, as long as the stage wasn't replaced in
 /// between. Other stages may have been kept. The values of variables, and the ticks, may differ.
 ///
-/// Takes at most 64 KiB of stack.
+/// Takes at most 256 KiB of stack.
 ///
 /// # Errors
 ///
