@@ -264,7 +264,9 @@ fn options_are_spelled_as_lines_of_a_start() {
         assert!(start::setting(&format!("i1={wrong}")).is_err(), "{wrong}");
     }
     assert!(start::budget("-1").is_err());
-    for wrong in ["", "=", "i1", "i32=1", "i01=1", "1=1", "I1=1", "i-1=1", "i1==1", "i1=1=1"] {
+    for wrong in
+        ["", "=", "i1", "i64=1", "i063=1", "i01=1", "1=1", "I1=1", "i-1=1", "i1==1", "i1=1=1"]
+    {
         assert!(start::setting(wrong).is_err(), "{wrong}");
     }
 }
