@@ -404,7 +404,7 @@ fn refusals_in_words() {
             format!("given:3: {misspelled}, found `if i1 goto -2 else 3`"),
         ),
         ("", "", format!("given: {few}, found 0 lines")),
-        (&"skip\n".repeat(1_000), "", format!("given: {few}, found 1,000 lines")),
+        (&"skip\n".repeat(2_000), "", format!("given: {few}, found 2,000 lines")),
         ("read i0\nskip\n", "", format!("given:2: {misplaced}, found `skip`")),
         ("skip\nread i0\nwrite i0\n", "", format!("given:1: {misplaced}, found `skip`")),
         ("read i0\nwrite i1\nwrite i0\n", "", format!("given:2: {misplaced}, found `write i1`")),

@@ -12,6 +12,7 @@ mod shell;
 use common::option;
 use coverage::Tally;
 use oracle::check::LARGEST_FILE;
+use oracle::condition::PART_WORDS;
 use oracle::folder as random_folder;
 use oracle::generate::Random;
 use oracle::review::{review, REVIEW_WORDS};
@@ -30,7 +31,8 @@ fn expected(given: &[u8], conditions: &[u8]) -> Result<(String, String), u8> {
     let answer = review(given, conditions, &mut table)?;
     let (program, asked) = (lines(given), lines(conditions));
     let is_true = |j: usize, at: usize| {
-        table[4 * answer.table_of[j] as usize + at / 64] >> (at % 64) & 1 == 1
+        let first = PART_WORDS * answer.table_of[j] as usize;
+        table[first + at / 64] >> (at % 64) & 1 == 1
     };
     let (mut text, mut told) = ("line  table  satisfied  first\n".to_string(), String::new());
     for (j, condition) in asked.iter().enumerate() {
