@@ -35,13 +35,13 @@
      totals are their sums and the first less the second;
    - the rewritten program is taken, and both programs' runs agree, in all nine values where they end,
      in statement and steps where they fault, and before each step in the values of all variables x for
-     which `E[!def(x) U use(x)]` is true there in the given program, by a review of all 32;
+     which `E[!def(x) U use(x)]` is true there in the given program, by reviews of all 64;
    - the lines of a list that is taken, one after another, are the list;
    - a list of readers and writers has the rows of `def` and `use`, and its counts are of its words;
    - brought up to date after the marks, the list of the given program is that of the new text; in any
      other list the bits of lines that differ are as there, and all others are kept;
    - two programs are joined unless one isn't taken, the first told before the second, or both have over
-     257 lines. The joined text is taken and has a line less than both; the first's lines but the last
+     1,025 lines. The joined text is taken and has a line less than both; the first's lines but the last
      stand in front as they are, then the assignment, then the second's with their targets moved. It
      runs as the first does to its end, and then as the second does with what the first left;
    - stages of the input's texts and bytes, whole and damaged: of the places whose name is letters and zero
@@ -66,23 +66,26 @@
     } while (0)
 
 #define PAGE 4096
-#define TABLE_WORDS 256
-#define REVIEW_WORDS 512
+#define STATEMENTS 1024
+#define VARIABLES 64
+#define MARKS 1024
+#define PART_WORDS (STATEMENTS / 64)
+#define MOST_PARTS 64
+#define TABLE_WORDS (MOST_PARTS * PART_WORDS)
 #define REVIEW_LINES 32
 #define MOST_TABLES 128
-#define LIST_WORDS 256
-#define MOST_PARTS 64
+#define REVIEW_WORDS (MOST_TABLES * PART_WORDS)
+#define SET_WORDS (2 * PART_WORDS)
+#define LIST_WORDS (VARIABLES * SET_WORDS)
 #define LONGEST 1024
-#define VERDICT_BYTES 256
-#define TEXT_BYTES 8704
-#define VARIABLES 32
+#define VERDICT_BYTES MARKS
+#define TEXT_BYTES (34 * STATEMENTS)
 #define MOST_READERS 20
 #define FIRST_KEPT 24
 #define KEPT 8
-#define STATEMENTS 256
 #define KINDS 11
 #define UNFORCED UINT32_MAX
-#define STAGES_BYTES 70000
+#define STAGES_BYTES 280000
 #define PLACES 8
 #define PLACE_BYTES (STAGES_BYTES / PLACES)
 #define NAME_BYTES 8
@@ -93,9 +96,9 @@ static const char P[] =
 
 /* What libFuzzer takes for coverage: the library itself has no counters for it. */
 #define FEATURES 4096
-__attribute__((section("__libfuzzer_extra_counters"))) static uint8_t counters[4 * FEATURES];
+__attribute__((section("__libfuzzer_extra_counters"))) static uint8_t counters[5 * FEATURES];
 
-enum { OF_CALLS, OF_PROGRAMS, OF_CONDITIONS, OF_MARKS };
+enum { OF_CALLS, OF_PROGRAMS, OF_CONDITIONS, OF_MARKS, OF_SIZES };
 
 static void met(int kind, unsigned feature) { counters[kind * FEATURES + feature % FEATURES] = 1; }
 
@@ -326,6 +329,18 @@ static void copy_line(struct text program, size_t n, char line[64]) {
     line[length] = 0;
 }
 
+/* Copies the next line of a text that is taken, without its byte 10, and tells its length. */
+static size_t next_line(struct text text, size_t *start, char line[128]) {
+    size_t length = 0;
+
+    while (text.bytes[*start + length] != 10) length++;
+    REQUIRE(length < 128);
+    memcpy(line, text.bytes + *start, length);
+    line[length] = 0;
+    *start += length + 1;
+    return length;
+}
+
 /* The kinds of statements, in the order of their prices. */
 enum { READ, WRITE, SKIP, IF, COPY, FIRST_SIGN };
 
@@ -467,7 +482,7 @@ static uint8_t check_program(struct text program) {
     REQUIRE(run(program, values, 0, 1000001, &answer) == 15);
     REQUIRE(run(program, values, 0, UINT32_MAX, &answer) == 15);
     REQUIRE(number == 0 || (number >= 2 && number <= 5));
-    for (size_t k = 0; k < program.length && spelled && lines < 300; k++)
+    for (size_t k = 0; k < program.length && spelled && lines < STATEMENTS + 44; k++)
         if (program.bytes[k] == 10) {
             if (k - start > 40) break;
             spelled = is_statement((struct text){program.bytes + start, k - start});
@@ -480,10 +495,10 @@ static uint8_t check_program(struct text program) {
     if (!spelled) REQUIRE(number == 2);
     if (spelled && start == program.length) {
         REQUIRE(number != 2);
-        REQUIRE((lines < 2 || lines > 256) == (number == 3));
+        REQUIRE((lines < 2 || lines > STATEMENTS) == (number == 3));
     }
     met(OF_CALLS, number);
-    if (number == 0) met(OF_CALLS, 128 + (unsigned)lines);
+    if (number == 0) met(OF_SIZES, (unsigned)lines);
     return number;
 }
 
@@ -506,11 +521,11 @@ static uint8_t tabulate(struct text program, struct text condition, size_t room,
     for (size_t k = 0; k < 7; k++) REQUIRE((number == 0 && k % 2 == 1) || places[k] == UNSET);
     if (number == 0) {
         REQUIRE(places[1] >= 1 && places[1] <= 64);
-        set(&tables, (uint8_t *)words, 4 * places[1] * sizeof *words);
+        set(&tables, (uint8_t *)words, PART_WORDS * places[1] * sizeof *words);
         answer->parts = places[1];
         answer->satisfied = places[3];
         answer->first = places[5];
-        memcpy(answer->words, words, 4 * places[1] * sizeof *words);
+        memcpy(answer->words, words, PART_WORDS * places[1] * sizeof *words);
     }
     require_kept(&tables);
     return number;
@@ -537,8 +552,9 @@ static uint8_t check_condition(struct text program, struct text condition, uint8
     met(OF_CALLS, 512 + answer.parts);
     met_text(OF_CONDITIONS, condition.bytes, condition.length);
     for (size_t k = 0; k < answer.parts; k++)
-        for (size_t n = lines + 1; n <= 256; n++) REQUIRE(!holds(answer.words + 4 * k, n));
-    row = answer.words + 4 * (answer.parts - 1);
+        for (size_t n = lines + 1; n <= STATEMENTS; n++)
+            REQUIRE(!holds(answer.words + PART_WORDS * k, n));
+    row = answer.words + PART_WORDS * (answer.parts - 1);
     for (size_t n = lines; n >= 1; n--)
         if (holds(row, n)) {
             count++;
@@ -554,9 +570,9 @@ static uint8_t check_condition(struct text program, struct text condition, uint8
     REQUIRE(number == (answer.parts == 64 ? 8 : 0));
     if (number == 0) {
         REQUIRE(opposite.parts == answer.parts + 1);
-        REQUIRE(memcmp(opposite.words, answer.words, 4 * answer.parts * sizeof *row) == 0);
+        REQUIRE(memcmp(opposite.words, answer.words, PART_WORDS * answer.parts * sizeof *row) == 0);
         for (size_t n = 1; n <= lines; n++)
-            REQUIRE(holds(row, n) != holds(opposite.words + 4 * answer.parts, n));
+            REQUIRE(holds(row, n) != holds(opposite.words + PART_WORDS * answer.parts, n));
         REQUIRE(opposite.satisfied == lines - count);
     }
     return 0;
@@ -588,10 +604,10 @@ static uint8_t review(struct text program, struct text lines, size_t room, struc
     if (number == 0) {
         REQUIRE(counts[1] >= 1 && counts[1] <= MOST_TABLES);
         REQUIRE(counts[3] >= 1 && counts[3] <= REVIEW_LINES);
-        set(&tables, (uint8_t *)words, 4 * counts[1] * sizeof *words);
+        set(&tables, (uint8_t *)words, PART_WORDS * counts[1] * sizeof *words);
         answer->tables = counts[1];
         answer->lines = counts[3];
-        memcpy(answer->words, words, 4 * counts[1] * sizeof *words);
+        memcpy(answer->words, words, PART_WORDS * counts[1] * sizeof *words);
         for (size_t k = 0; k < 4; k++) memcpy(answer->of_lines[k], of[k], sizeof answer->of_lines[k]);
     }
     for (size_t k = 0; k < sizeof places / sizeof *places; k++)
@@ -638,7 +654,7 @@ struct expected {
     uint8_t number;
     /* The first of the parts that are spelled alike, and each one's row. */
     struct text firsts[REVIEW_LINES * MOST_PARTS];
-    uint64_t rows[REVIEW_LINES * MOST_PARTS][4];
+    uint64_t rows[REVIEW_LINES * MOST_PARTS][PART_WORDS];
     size_t tables;
     uint32_t of_lines[4][REVIEW_LINES];
 };
@@ -654,10 +670,10 @@ static void expect_line(struct expected *all, size_t j, struct text line, const 
         for (at = 0; at < all->tables && !alike(all->firsts[at], parts[k]); at++) continue;
         if (at == all->tables) {
             all->firsts[at] = parts[k];
-            memcpy(all->rows[at], alone->words + 4 * k, sizeof all->rows[at]);
+            memcpy(all->rows[at], alone->words + PART_WORDS * k, sizeof all->rows[at]);
             all->tables++;
         }
-        REQUIRE(memcmp(all->rows[at], alone->words + 4 * k, sizeof all->rows[at]) == 0);
+        REQUIRE(memcmp(all->rows[at], alone->words + PART_WORDS * k, sizeof all->rows[at]) == 0);
     }
     all->of_lines[TABLE_OF][j] = (uint32_t)at;
     all->of_lines[PARTS][j] = alone->parts;
@@ -724,7 +740,7 @@ static int holds_at_write(struct text program, const char *condition) {
 
     REQUIRE(tabulate(program, put(&others, condition, strlen(condition)), TABLE_WORDS, &answer) ==
             0);
-    return holds(answer.words + 4 * (answer.parts - 1), lines_of(program));
+    return holds(answer.words + PART_WORDS * (answer.parts - 1), lines_of(program));
 }
 
 /* `use` of what the unit keeps, and of any variable, at the last statement. */
@@ -742,12 +758,12 @@ static void check_use_at_write(struct text program, unsigned variable) {
 
 /* Games */
 
-/* The variables of a driver's list as bits, or -1 where it is none. */
-static int64_t names_of(struct text list) {
-    int64_t names = 0;
+/* Whether a driver's list is one, and its variables as bits. */
+static int names_of(struct text list, uint64_t *names) {
     size_t at = 0;
 
-    if (list.length == 0) return 0;
+    *names = 0;
+    if (list.length == 0) return 1;
     for (;;) {
         char name[8];
         size_t end = at;
@@ -758,9 +774,9 @@ static int64_t names_of(struct text list) {
             size_t length = (size_t)snprintf(name, sizeof name, "i%u", x);
             if (end - at == length && memcmp(list.bytes + at, name, length) == 0) break;
         }
-        if (x == VARIABLES || names >> x & 1) return -1;
-        names |= (int64_t)1 << x;
-        if (end == list.length) return names;
+        if (x == VARIABLES || *names >> x & 1) return 0;
+        *names |= (uint64_t)1 << x;
+        if (end == list.length) return 1;
         at = end + 1;
     }
 }
@@ -789,11 +805,11 @@ static uint8_t force(struct text program, struct text driver, struct text condit
         REQUIRE(number[k] == UNSET && arm[k] == 0xa5);
     if (refused == 0) {
         REQUIRE(places[1] >= 1 && places[1] <= 64);
-        set(&tables, (uint8_t *)words, 4 * places[1] * sizeof *words);
+        set(&tables, (uint8_t *)words, PART_WORDS * places[1] * sizeof *words);
         table->parts = places[1];
         table->satisfied = places[3];
         table->first = places[5];
-        memcpy(table->words, words, 4 * places[1] * sizeof *words);
+        memcpy(table->words, words, PART_WORDS * places[1] * sizeof *words);
         memcpy(answer->number, number + 1, lines * sizeof *number);
         memcpy(answer->arm, arm + 1, lines);
     }
@@ -802,20 +818,18 @@ static uint8_t force(struct text program, struct text driver, struct text condit
 }
 
 /* The number and the arm of a statement, counted from 1, by those of where it steps to. */
-static void check_place(struct text program, int64_t names, size_t n, int is_met,
+static void check_place(const char *line, int is_last, uint64_t names, size_t n, int is_met,
                         const struct game *answer) {
     const uint32_t *number = answer->number;
     uint32_t here = number[n - 1], one, other, wanted;
     unsigned x, then, otherwise;
     uint8_t arm = answer->arm[n - 1];
-    char line[64];
 
-    copy_line(program, n, line);
     REQUIRE((here == 0) == is_met);
     if (sscanf(line, "if i%u goto %u else %u", &x, &then, &otherwise) != 3) {
         REQUIRE(arm == 0);
         if (is_met) return;
-        if (n == lines_of(program)) {
+        if (is_last) {
             REQUIRE(here == UNFORCED);
         } else {
             REQUIRE(here == (number[n] == UNFORCED ? UNFORCED : number[n] + 1));
@@ -839,7 +853,9 @@ static void check_force(struct text program, struct text driver, struct text con
                         uint8_t refused) {
     static struct table alone, table;
     static struct game answer;
-    int64_t names = names_of(driver);
+    static char line[128];
+    uint64_t names;
+    int is_list = names_of(driver, &names);
     uint8_t expected = tabulate(program, condition, TABLE_WORDS, &alone);
     uint8_t number = force(program, driver, condition, TABLE_WORDS, &table, &answer);
     const uint64_t *row;
@@ -849,7 +865,7 @@ static void check_force(struct text program, struct text driver, struct text con
         REQUIRE(number == refused);
         return;
     }
-    if (names < 0) {
+    if (!is_list) {
         REQUIRE(number == 22);
         met(OF_CALLS, 1540);
         return;
@@ -858,16 +874,18 @@ static void check_force(struct text program, struct text driver, struct text con
     if (number != 0) return;
     REQUIRE(table.parts == alone.parts && table.satisfied == alone.satisfied);
     REQUIRE(table.first == alone.first);
-    REQUIRE(memcmp(table.words, alone.words, 4 * table.parts * sizeof *table.words) == 0);
-    row = table.words + 4 * (table.parts - 1);
-    for (size_t n = 1; n <= lines_of(program); n++)
-        check_place(program, names, n, holds(row, n), &answer);
+    REQUIRE(memcmp(table.words, alone.words, PART_WORDS * table.parts * sizeof *table.words) == 0);
+    row = table.words + PART_WORDS * (table.parts - 1);
+    for (size_t n = 1, start = 0; start < program.length; n++) {
+        next_line(program, &start, line);
+        check_place(line, start == program.length, names, n, holds(row, n), &answer);
+    }
     met(OF_CALLS, 1541 + (answer.number[0] == UNFORCED) + 2 * (names != 0));
 }
 
 /* What the input's list can force, and what a list of the variables whose bits are set can. */
 static void check_games(struct text program, struct text driver, struct text condition,
-                        uint8_t refused, uint32_t names) {
+                        uint8_t refused, uint64_t names) {
     char list[VARIABLES * 4 + 1];
     size_t at = 0;
 
@@ -897,7 +915,7 @@ static uint8_t judge(struct text program, struct text marks, size_t verdict_room
                             verdict_room, text, text_room, &places[1], &places[3], &places[5]);
     for (size_t k = 0; k < 7; k++) REQUIRE((number == 0 && k % 2 == 1) || places[k] == UNSET);
     if (number == 0) {
-        REQUIRE(places[1] <= 256 && places[5] <= TEXT_BYTES);
+        REQUIRE(places[1] <= MARKS && places[5] <= TEXT_BYTES);
         set(&verdict_bytes, verdicts, places[1]);
         set(&new_text, text, places[5]);
         answer->marks = places[1];
@@ -909,18 +927,6 @@ static uint8_t judge(struct text program, struct text marks, size_t verdict_room
     require_kept(&verdict_bytes);
     require_kept(&new_text);
     return number;
-}
-
-/* Copies the next line of a text that is taken, without its byte 10, and tells its length. */
-static size_t next_line(struct text text, size_t *start, char line[128]) {
-    size_t length = 0;
-
-    while (text.bytes[*start + length] != 10) length++;
-    REQUIRE(length < 128);
-    memcpy(line, text.bytes + *start, length);
-    line[length] = 0;
-    *start += length + 1;
-    return length;
 }
 
 /* The statements that are to read each variable by the accepted `cse` lines of a list: the first of
@@ -984,7 +990,7 @@ static int is_true(struct text program, const char *line, size_t n, const struct
                  right, right);
     REQUIRE(tabulate(program, put(&others, condition, strlen(condition)), TABLE_WORDS, &answer) ==
             0);
-    return holds(answer.words + 4 * (answer.parts - 1), n);
+    return holds(answer.words + PART_WORDS * (answer.parts - 1), n);
 }
 
 /* The verdict, accepted or refused by its condition, of a mark that drops: in its list, and by itself. */
@@ -1056,7 +1062,7 @@ static void check_verdicts(struct text program, struct text marks, const struct 
     static struct readers readers;
     const struct text made = {answer->text, answer->bytes};
     size_t lines = lines_of(program), start = 0, accepted = 0;
-    uint8_t named[257] = {0};
+    uint8_t named[STATEMENTS + 1] = {0};
 
     find_readers(marks, answer, &readers);
     for (size_t j = 0; j < answer->marks; j++) {
@@ -1103,8 +1109,8 @@ static void check_report(struct text program, struct text marks, uint8_t refused
         uint32_t word;
         int32_t value;
     } saved;
-    size_t lines = lines_of(program);
-    char line[64];
+    size_t lines = lines_of(program), starts[2] = {0, 0};
+    char line[128];
     uint8_t number;
 
     unset(places, 7);
@@ -1127,9 +1133,9 @@ static void check_report(struct text program, struct text marks, uint8_t refused
 
     REQUIRE(places[1] == lines);
     for (size_t k = 1; k <= lines; k++) {
-        copy_line(program, k, line);
+        next_line(program, &starts[0], line);
         REQUIRE(before[k] == price_of(line));
-        copy_line(made, k, line);
+        next_line(made, &starts[1], line);
         REQUIRE(after[k] == price_of(line) && (after[k] <= before[k] || !is_ours()));
         sums[0] += before[k];
         sums[1] += after[k];
@@ -1154,14 +1160,19 @@ static uint8_t mark_line(struct text marks, uint32_t line, size_t *begin, size_t
 
 /* The lines of a list of so many marks, or its refusal, whichever line is asked for. */
 static void check_lines(struct text marks, uint8_t refused, uint32_t count) {
-    const uint32_t beyond[4] = {count, 256, 65536, UINT32_MAX};
+    const uint32_t beyond[4] = {count, MARKS, 65536, UINT32_MAX};
     size_t start = 0, begin, end;
 
+    /* Of a long list some lines are asked for, since each call reads the whole of it. */
     for (uint32_t j = 0; j < count; j++) {
-        REQUIRE(mark_line(marks, j, &begin, &end) == 0);
-        REQUIRE(begin == start && end > begin && end <= marks.length);
-        REQUIRE(memchr(marks.bytes + begin, 10, end - begin) == marks.bytes + end - 1);
-        start = end;
+        const uint8_t *last = memchr(marks.bytes + start, 10, marks.length - start);
+        size_t next = (size_t)(last - marks.bytes) + 1;
+
+        if (count <= 256 || j % 16 == 15) {
+            REQUIRE(mark_line(marks, j, &begin, &end) == 0);
+            REQUIRE(begin == start && end == next);
+        }
+        start = next;
     }
     for (size_t k = 0; k < 4; k++) {
         REQUIRE(mark_line(marks, beyond[k], &begin, &end) == refused);
@@ -1170,28 +1181,33 @@ static void check_lines(struct text marks, uint8_t refused, uint32_t count) {
     if (refused == 0) REQUIRE(start == marks.length);
 }
 
-/* Finds the statements at which each variable is live, as rows. Every part of the 32 lines is spelled
-   differently, so the review fills as many tables as it can. */
-static void find_live(struct text program, uint64_t live[VARIABLES][4]) {
+/* Finds the statements at which each variable is live, as rows, by two reviews. Every part of the 32 lines of
+   each is spelled differently, so it fills as many tables as it can. */
+static void find_live(struct text program, uint64_t live[VARIABLES][PART_WORDS]) {
     static struct review answer;
     static uint8_t lines[1024];
-    struct text all = {lines, 0};
 
-    for (unsigned x = 0; x < VARIABLES; x++)
-        all.length += (size_t)snprintf((char *)lines + all.length, sizeof lines - all.length,
-                                       "E[!def(i%u) U use(i%u)]\n", x, x);
-    REQUIRE(review(program, all, REVIEW_WORDS, &answer) == 0);
-    REQUIRE(answer.tables == MOST_TABLES);
-    for (unsigned x = 0; x < VARIABLES; x++)
-        memcpy(live[x], answer.words + 4 * answer.of_lines[TABLE_OF][x], sizeof live[x]);
+    for (unsigned first = 0; first < VARIABLES; first += REVIEW_LINES) {
+        struct text all = {lines, 0};
+
+        for (unsigned x = first; x < first + REVIEW_LINES; x++)
+            all.length += (size_t)snprintf((char *)lines + all.length, sizeof lines - all.length,
+                                           "E[!def(i%u) U use(i%u)]\n", x, x);
+        REQUIRE(review(program, all, REVIEW_WORDS, &answer) == 0);
+        REQUIRE(answer.tables == MOST_TABLES);
+        for (unsigned j = 0; j < REVIEW_LINES; j++)
+            memcpy(live[first + j], answer.words + PART_WORDS * answer.of_lines[TABLE_OF][j],
+                   sizeof live[first + j]);
+    }
 }
 
 /* Both runs are spent at one statement: they hold the same values of what is live there. */
-static void check_live(uint64_t live[VARIABLES][4], const struct run *given, const struct run *made) {
+static void check_live(uint64_t live[VARIABLES][PART_WORDS], const struct run *given,
+                       const struct run *made) {
     for (unsigned x = 0; x < VARIABLES; x++) {
         if (given->left[x] == made->left[x]) continue;
         REQUIRE(!holds(live[x], given->statement));
-        met(OF_CALLS, 96 + (x >= FIRST_KEPT));
+        met(OF_CALLS, 96 + (x >= FIRST_KEPT) + (x >= FIRST_KEPT + KEPT));
     }
 }
 
@@ -1238,14 +1254,14 @@ static uint8_t list(struct text program, const struct text *marks, size_t room,
 
 static uint32_t ones(const uint64_t *row) {
     uint32_t count = 0;
-    for (size_t n = 1; n <= 256; n++) count += (uint32_t)holds(row, n);
+    for (size_t n = 1; n <= STATEMENTS; n++) count += (uint32_t)holds(row, n);
     return count;
 }
 
 static void check_counts(const struct listing *listing) {
     for (size_t v = 0; v < VARIABLES; v++) {
-        REQUIRE(listing->defined[v] == ones(listing->words + 8 * v));
-        REQUIRE(listing->used[v] == ones(listing->words + 8 * v + 4));
+        REQUIRE(listing->defined[v] == ones(listing->words + SET_WORDS * v));
+        REQUIRE(listing->used[v] == ones(listing->words + SET_WORDS * v + PART_WORDS));
     }
 }
 
@@ -1266,20 +1282,12 @@ static void check_list(struct text program, uint8_t refused, unsigned variable) 
         snprintf(condition, sizeof condition, "%s(i%u)", atoms[k], variable);
         REQUIRE(tabulate(program, put(&others, condition, strlen(condition)), TABLE_WORDS, &answer) ==
                 0);
-        REQUIRE(memcmp(answer.words, made.words + 8 * variable + 4 * k, 4 * sizeof *made.words) == 0);
+        REQUIRE(memcmp(answer.words, made.words + SET_WORDS * variable + PART_WORDS * k,
+                       PART_WORDS * sizeof *made.words) == 0);
     }
     memset(other.words, 0xff, sizeof other.words);
     REQUIRE(list(program, NULL, LIST_WORDS + 44, &other) == 0);
     REQUIRE(memcmp(&made, &other, sizeof made) == 0);
-}
-
-/* Whether a line, counted from 1, differs in two texts that have it. */
-static int differs(struct text one, struct text other, size_t n) {
-    char lines[2][64];
-
-    copy_line(one, n, lines[0]);
-    copy_line(other, n, lines[1]);
-    return strcmp(lines[0], lines[1]) != 0;
 }
 
 /* Lists after a round of marks that is taken; the new text stands beside the given one. */
@@ -1287,7 +1295,8 @@ static void check_rounds(struct text program, struct text marks, struct text rew
                          uint32_t sum) {
     static struct listing given, afresh, any;
     static uint64_t before[LIST_WORDS];
-    size_t lines = lines_of(program), changed = 0;
+    static char before_line[128], after_line[128];
+    size_t starts[2] = {0, 0}, changed = 0;
 
     REQUIRE(list(program, NULL, LIST_WORDS, &given) == 0);
     REQUIRE(list(program, &marks, LIST_WORDS, &given) == 0);
@@ -1301,15 +1310,20 @@ static void check_rounds(struct text program, struct text marks, struct text rew
     }
     REQUIRE(list(program, &marks, LIST_WORDS + sum % 2, &any) == 0);
     check_counts(&any);
-    for (size_t n = 1; n <= 256; n++) {
-        int is_changed = n <= lines && differs(program, rewritten, n);
+    for (size_t n = 1; n <= STATEMENTS; n++) {
+        int is_changed = 0;
 
+        if (starts[0] < program.length) {
+            next_line(program, &starts[0], before_line);
+            next_line(rewritten, &starts[1], after_line);
+            is_changed = strcmp(before_line, after_line) != 0;
+        }
         changed += (size_t)is_changed;
-        for (size_t k = 0; k < LIST_WORDS; k += 4)
+        for (size_t k = 0; k < LIST_WORDS; k += PART_WORDS)
             REQUIRE(holds(any.words + k, n) ==
                     holds((is_changed ? afresh.words : before) + k, n));
     }
-    met(OF_CALLS, 1620 + (unsigned)changed);
+    met(OF_SIZES, 2200 + (unsigned)changed);
 }
 
 static void check_marks(struct text program, struct text marks, uint8_t refused,
@@ -1319,12 +1333,12 @@ static void check_marks(struct text program, struct text marks, uint8_t refused,
     static struct judgement answer, other;
     struct run given = {0}, made = {0};
     struct text rewritten;
-    uint64_t live[VARIABLES][4];
+    static uint64_t live[VARIABLES][PART_WORDS];
     uint8_t number = judge(program, marks, VERDICT_BYTES, TEXT_BYTES, &answer);
 
     REQUIRE(judge(program, marks, VERDICT_BYTES - 1, TEXT_BYTES, &other) == 1);
     REQUIRE(judge(program, marks, VERDICT_BYTES, TEXT_BYTES - 1, &other) == 1);
-    REQUIRE(judge(program, marks, VERDICT_BYTES, 8192, &other) == 1);
+    REQUIRE(judge(program, marks, VERDICT_BYTES, 8704, &other) == 1);
     met(OF_CALLS, 32 + number);
     REQUIRE(list(program, &marks, LIST_WORDS - 1, &listing) == 1);
     REQUIRE(list(program, &marks, LIST_WORDS, &listing) == number);
@@ -1344,7 +1358,7 @@ static void check_marks(struct text program, struct text marks, uint8_t refused,
     if (number != 0) return;
 
     REQUIRE(answer.marks == lines_of(marks));
-    met(OF_CALLS, 700 + answer.marks);
+    met(OF_SIZES, 1100 + answer.marks);
     check_verdicts(program, marks, &answer);
     rewritten = put(&others, answer.text, answer.bytes);
     REQUIRE(lines_of(rewritten) == lines_of(program));
@@ -1451,7 +1465,7 @@ static void check_join(struct text road, struct text creeper, uint8_t road_refus
     struct text made;
 
     if (expected == 0) expected = creeper_refused;
-    if (expected == 0 && count > 256) expected = 21;
+    if (expected == 0 && count > STATEMENTS) expected = 21;
     REQUIRE(number == expected);
     REQUIRE(join(road, creeper, TEXT_BYTES - 1, &answer) == 1);
     met(OF_CALLS, 1510 + number);
@@ -1654,7 +1668,7 @@ static void check_stages(struct text program, uint8_t refused, struct text name,
    behind the eighth, where the page can't be. */
 static void check_far_lengths(void) {
     static const struct text names[2] = {{(const uint8_t *)"a", 1}, {(const uint8_t *)"h", 1}};
-    static const uint8_t lengths[4][2] = {{0, 255}, {255, 255}, {0x25, 0x22}, {0x2e, 0x22}};
+    static const uint8_t lengths[4][2] = {{0, 255}, {255, 255}, {0xaf, 0x88}, {0xb8, 0x88}};
     uint8_t *stages = lend(&stage_bytes, STAGES_BYTES);
     struct text text;
 
@@ -1694,13 +1708,13 @@ int LLVMFuzzerInitialize(int *count, char ***arguments) {
     map(&programs, 16);
     map(&others, 16);
     map(&conditions, 16);
-    map(&tables, 2);
-    map(&verdict_bytes, 1);
-    map(&new_text, 3);
+    map(&tables, (LIST_WORDS + 44) * sizeof(uint64_t) / PAGE + 1);
+    map(&verdict_bytes, VERDICT_BYTES / PAGE + 1);
+    map(&new_text, TEXT_BYTES / PAGE + 1);
     map(&drivers, 16);
-    map(&joins, 3);
+    map(&joins, TEXT_BYTES / PAGE + 1);
     map(&tariffs, 16);
-    map(&stage_bytes, 18);
+    map(&stage_bytes, STAGES_BYTES / PAGE + 1);
     map(&stage_names, 16);
     check_far_lengths();
     return 0;
@@ -1750,7 +1764,7 @@ int LLVMFuzzerTestOneInput(const uint8_t *data, size_t size) {
     check_condition(program, condition, refused);
     check_review(program, condition, refused);
     driver = put(&drivers, driver.bytes, driver.length);
-    check_games(program, driver, condition, refused, sum * 2654435761u);
+    check_games(program, driver, condition, refused, sum * (uint64_t)0x9e3779b97f4a7c15u);
     if (refused != 0) {
         struct text plain = put(&programs, P, strlen(P));
         check_condition(plain, condition, 0);

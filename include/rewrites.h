@@ -10,7 +10,7 @@
    there. No other pointer may be null. Places that a call writes may not overlap each other or any
    other place lent to it.
 
-   A call takes no memory but the stack of its thread: at most 256 KiB for any input. */
+   A call takes no memory but the stack of its thread: at most 512 KiB for any input. */
 #ifndef REWRITES_H
 #define REWRITES_H
 
@@ -21,16 +21,16 @@
 extern "C" {
 #endif
 
-/* Runs the shift program that the text spells, from 32 given values and one input value, under a
+/* Runs the shift program that the text spells, from 64 given values and one input value, under a
    budget of 0 to 1,000,000 steps. One step performs one statement. Statements are numbered from 1.
    `A / B` is signed and rounded toward zero, -2147483648 / -1 giving -2147483648; a B of 0 ends the
-   run with a fault. Takes at most 64 KiB of stack.
+   run with a fault. Takes at most 256 KiB of stack.
 
    Returns 0, and sets
    *ended = 1, *value, *steps and kept, where the run ends within the budget: the value that `write`
               wrote, signed, the steps taken, and the values of i24 to i31 in this order, which the
               unit keeps for its next pass. *statement and left stay as they were.
-   *ended = 0, *statement and left, where the budget is spent: the statement and the 32 values after
+   *ended = 0, *statement and left, where the budget is spent: the statement and the 64 values after
               that many steps. *value, *steps and kept stay as they were.
    *ended = 2, *statement and *steps, where a statement divides by 0 within the budget: that statement,
               and the steps taken, its own counted. *value, left and kept stay as they were.
@@ -45,12 +45,12 @@ extern "C" {
    Returns the number of a refusal, and keeps all:
    15: the budget is over 1,000,000.
     2: some line isn't spelled as a statement, or the last lacks its byte 10.
-    3: under 2 or over 256 lines (empty text included).
+    3: under 2 or over 1,024 lines (empty text included).
     4: `read` or `write` missing from its place or standing elsewhere.
     5: a target outside 2 to N, the count of statements. */
-uint8_t rewrites_run(const uint8_t *program, size_t program_len, const uint32_t values[32],
+uint8_t rewrites_run(const uint8_t *program, size_t program_len, const uint32_t values[64],
                      uint32_t input, uint32_t budget, const uint32_t prices[11], uint32_t *ended,
-                     int32_t *value, uint32_t *steps, uint32_t *statement, uint32_t left[32],
+                     int32_t *value, uint32_t *steps, uint32_t *statement, uint32_t left[64],
                      uint32_t kept[8], uint64_t *ticks);
 
 /* Sets all eleven prices to ours: `read` 4, `write` 4, `skip` 1, `if` 3, `X := A` 2, `+` 3, `-` 3,
@@ -72,11 +72,11 @@ uint8_t rewrites_prices(const uint8_t *text, size_t text_len, uint32_t prices[11
    64, counted at each occurrence, in the order in which their text ends; of those that end together
    the inner comes first. So the last part is the whole condition. `use(X)` holds where X stands in
    the right side, is tested or is written; for X from i24 to i31, which the unit keeps from one pass
-   to the next, it holds at `write` too. Takes at most 256 KiB of stack, most where brackets stand
+   to the next, it holds at `write` too. Takes at most 384 KiB of stack, most where brackets stand
    within one another.
 
    Returns 0, and sets
-   table      words 4k to 4k+3 for part k, counted from 0: bit b of word w of those four is
+   table      words 16k to 16k+15 for part k, counted from 0: bit b of word w of those sixteen is
               statement 64w+b+1, and bits beyond the program's statements are 0. All further words
               are kept.
    *parts     the number of parts.
@@ -84,7 +84,7 @@ uint8_t rewrites_prices(const uint8_t *text, size_t text_len, uint32_t prices[11
    *first     the first of them, 0 if none.
 
    Returns the number of a refusal, and keeps all:
-    1: the table has under 256 words.
+    1: the table has under 1,024 words.
     2 to 5: the program, as with rewrites_run.
     6: the condition is longer than 1,024 bytes.
     7: it is misspelled.
@@ -96,11 +96,11 @@ uint8_t rewrites_tabulate(const uint8_t *program, size_t program_len, const uint
 /* Tabulates the conditions of a review together: 1 to 32 lines, each a condition ended by byte 10.
    Parts spelled alike, byte for byte, in one line or in several, get one table; the tables are
    filled in the order in which their parts first end. Each line reads as it does with
-   rewrites_tabulate by itself. Takes at most 256 KiB of stack, most where brackets stand within one
+   rewrites_tabulate by itself. Takes at most 384 KiB of stack, most where brackets stand within one
    another.
 
    Returns 0, and sets
-   table      words 4k to 4k+3 for table k, counted from 0, as rewrites_tabulate does for part k. All
+   table      words 16k to 16k+15 for table k, counted from 0, as rewrites_tabulate does for part k. All
               further words are kept.
    *tables    the number of tables, 1 to 128, which is that of differing parts.
    *lines     the number of lines.
@@ -110,7 +110,7 @@ uint8_t rewrites_tabulate(const uint8_t *program, size_t program_len, const uint
               them, 0 if none. All further entries are kept.
 
    Returns the number of a refusal, and keeps all:
-    1: the table has under 512 words.
+    1: the table has under 2,048 words.
     2 to 5: the program, as with rewrites_run.
    16: no line or over 32 lines, an unfinished last one counted.
     6: a line is longer than 1,024 bytes, its byte 10 not counted.
@@ -124,7 +124,7 @@ uint8_t rewrites_review(const uint8_t *program, size_t program_len, const uint8_
 
 /* Tells what a driver can force. The list, empty or with single spaces between, names the variables
    that are his: at an `if` on one of them he picks the arm, at every other the unit does, without
-   regard to values. `write` steps to itself. Takes at most 256 KiB of stack, most where brackets stand
+   regard to values. `write` steps to itself. Takes at most 384 KiB of stack, most where brackets stand
    within one another.
 
    Returns 0, and sets
@@ -142,7 +142,7 @@ uint8_t rewrites_review(const uint8_t *program, size_t program_len, const uint8_
               statement has one. All entries past the program's statements are kept.
 
    Returns the number of a refusal, and keeps all:
-    1: the table has under 256 words.
+    1: the table has under 1,024 words.
     2 to 5: the program, as with rewrites_run.
    22: the list isn't empty and isn't variables with single spaces between, or names one twice.
     6: the condition is longer than 1,024 bytes.
@@ -151,10 +151,10 @@ uint8_t rewrites_review(const uint8_t *program, size_t program_len, const uint8_
 uint8_t rewrites_force(const uint8_t *program, size_t program_len, const uint8_t *driver,
                        size_t driver_len, const uint8_t *condition, size_t condition_len,
                        uint64_t *table, size_t table_len, uint32_t *parts, uint32_t *satisfied,
-                       uint32_t *first, uint32_t number[256], uint8_t arm[256]);
+                       uint32_t *first, uint32_t number[1024], uint8_t arm[1024]);
 
 /* Judges each mark of a list on the program, and writes the program with the accepted marks made. A
-   list has zero to 256 lines, each ended by byte 10: `n: mark(rm, X, E)`, `n: mark(rpl, X, A)` or
+   list has zero to 1,024 lines, each ended by byte 10: `n: mark(rm, X, E)`, `n: mark(rpl, X, A)` or
    `n: mark(cse, T, E)`, in any order.
    rm  fits where statement n is `X := E`. Where E is `A / B`, B must be a constant other than 0.
        Condition: `!EX E[!def(X) U use(X)]`, where `use(X)` holds also at each statement whose
@@ -175,7 +175,7 @@ uint8_t rewrites_force(const uint8_t *program, size_t program_len, const uint8_t
    that the given program may still use before defining it, its live variables, holds the same value
    in both; others, and so the values left where a run is spent, may differ, and so may the ticks of
    all runs.
-   Takes at most 128 KiB of stack.
+   Takes at most 384 KiB of stack.
 
    Returns 0, and sets
    verdicts    byte j for line j, counted from 0: 0 for a mark that is accepted, else the first that
@@ -192,17 +192,17 @@ uint8_t rewrites_force(const uint8_t *program, size_t program_len, const uint8_t
    *bytes      the number of bytes of new text.
 
    Returns the number of a refusal, and keeps all:
-    1: verdicts has under 256 bytes or text under 8,704 bytes.
+    1: verdicts has under 1,024 bytes or text under 34,816 bytes.
     2 to 5: the program, as with rewrites_run.
     9: some line of the marks is misspelled, or the last is without its byte 10.
-   10: the marks have over 256 lines. */
+   10: the marks have over 1,024 lines. */
 uint8_t rewrites_judge(const uint8_t *program, size_t program_len, const uint8_t *marks,
                        size_t marks_len, uint8_t *verdicts, size_t verdicts_len, uint8_t *text,
                        size_t text_len, uint32_t *mark_count, uint32_t *accepted, uint32_t *bytes);
 
 /* Tells the price of each statement in ticks, before and after the accepted marks of a list are made,
    and the totals. The list is judged as by rewrites_judge, and the prices are those of the table that
-   is handed in, as with rewrites_run. Takes at most 128 KiB of stack.
+   is handed in, as with rewrites_run. Takes at most 512 KiB of stack.
 
    Returns 0, and sets
    before, after entry k, counted from 0, for statement k+1: its price in the given program, and in the
@@ -216,10 +216,10 @@ uint8_t rewrites_judge(const uint8_t *program, size_t program_len, const uint8_t
    Returns the number of a refusal, and keeps all:
     2 to 5: the program, as with rewrites_run.
     9: some line of the marks is misspelled, or the last is without its byte 10.
-   10: the marks have over 256 lines. */
+   10: the marks have over 1,024 lines. */
 uint8_t rewrites_report(const uint8_t *program, size_t program_len, const uint8_t *marks,
-                        size_t marks_len, const uint32_t prices[11], uint32_t before[256],
-                        uint32_t after[256], uint32_t *statements, uint32_t *given,
+                        size_t marks_len, const uint32_t prices[11], uint32_t before[1024],
+                        uint32_t after[1024], uint32_t *statements, uint32_t *given,
                         uint32_t *rewritten, int32_t *saved);
 
 /* Tells where a line of a list of marks lies in the list's text, so that a host can show a verdict
@@ -233,47 +233,47 @@ uint8_t rewrites_report(const uint8_t *program, size_t program_len, const uint8_
 
    Returns the number of a refusal, and keeps all:
     9: some line of the marks is misspelled, or the last is without its byte 10.
-   10: the marks have over 256 lines. */
+   10: the marks have over 1,024 lines. */
 uint8_t rewrites_mark_line(const uint8_t *marks, size_t marks_len, uint32_t line, size_t *begin,
                            size_t *end);
 
 /* Makes the list of a program's readers and writers: for each variable the statements that define it,
    `read X` or `X := E`, and those that use it, as `use(X)` holds with rewrites_tabulate; i24 to i31,
-   which the unit keeps, are used at `write` too. Takes at most 64 KiB of stack.
+   which the unit keeps, are used at `write` too. Takes at most 256 KiB of stack.
 
    Returns 0, and sets
-   list       words 8v to 8v+3 to the statements that define variable v, words 8v+4 to 8v+7 to those
-              that use it: bit b of word w of those four is statement 64w+b+1, and bits beyond the
-              program's statements are 0. So all of words 0 to 255 are set. All further words are kept.
+   list       words 32v to 32v+15 to the statements that define variable v, words 32v+16 to 32v+31 to
+              those that use it: bit b of word w of those sixteen is statement 64w+b+1, and bits beyond
+              the program's statements are 0. So all of words 0 to 2,047 are set. All further words are kept.
    defined    entry v: how many ones the first set of variable v has.
    used       entry v: how many its second has.
 
    Returns the number of a refusal, and keeps all:
-    1: the list has under 256 words.
+    1: the list has under 2,048 words.
     2 to 5: the program, as with rewrites_run. */
 uint8_t rewrites_list(const uint8_t *program, size_t program_len, uint64_t *list, size_t list_len,
-                      uint32_t defined[32], uint32_t used[32]);
+                      uint32_t defined[64], uint32_t used[64]);
 
 /* Brings a list of readers and writers up to date after a round of marks. The marks are judged on the
    program as with rewrites_judge. For each statement whose text the accepted ones change, its bit in
-   each of the 64 sets is written as in the list of the new program, set or cleared; every other bit is
+   each of the 128 sets is written as in the list of the new program, set or cleared; every other bit is
    kept. So a list that was the given program's is then the new program's; one that was wrong at a
-   statement that stays as it was is wrong there still. Takes at most 128 KiB of stack.
+   statement that stays as it was is wrong there still. Takes at most 384 KiB of stack.
 
    Returns 0, and sets
-   list       the bits of changed statements. All others, and all words from 256 on, are kept.
+   list       the bits of changed statements. All others, and all words from 2,048 on, are kept.
    defined, used
-              as with rewrites_list, counted in words 0 to 255 as they are then: wrong bits, and bits
+              as with rewrites_list, counted in words 0 to 2,047 as they are then: wrong bits, and bits
               beyond the program's statements, count.
 
    Returns the number of a refusal, and keeps all:
-    1: the list has under 256 words.
+    1: the list has under 2,048 words.
     2 to 5: the program, as with rewrites_run.
     9: some line of the marks is misspelled, or the last is without its byte 10.
-   10: the marks have over 256 lines. */
+   10: the marks have over 1,024 lines. */
 uint8_t rewrites_relist(const uint8_t *program, size_t program_len, const uint8_t *marks,
-                        size_t marks_len, uint64_t *list, size_t list_len, uint32_t defined[32],
-                        uint32_t used[32]);
+                        size_t marks_len, uint64_t *list, size_t list_len, uint32_t defined[64],
+                        uint32_t used[64]);
 
 /* Joins a road program of N statements and a creeper program of M to one of N+M-1. The road program's
    `write X` and the creeper program's `read Y` become the one statement `Y := X`, number N, and
@@ -283,7 +283,7 @@ uint8_t rewrites_relist(const uint8_t *program, size_t program_len, const uint8_
    as input. If both end, it ends with the creeper program's value and kept values, after the sum of
    their steps less 1. If one never ends, neither does the whole. A fault of the road program is a
    fault of the whole, at the same statement after the same steps; one of the creeper program has its
-   new number, and the sum of the steps less 1. Takes at most 128 KiB of stack.
+   new number, and the sum of the steps less 1. Takes at most 256 KiB of stack.
 
    Returns 0, and sets
    text        the joined program, from byte 0 on. All further bytes are kept.
@@ -291,31 +291,31 @@ uint8_t rewrites_relist(const uint8_t *program, size_t program_len, const uint8_
    *bytes      the number of bytes of its text.
 
    Returns the number of a refusal, and keeps all:
-    1: text has under 8,704 bytes.
+    1: text has under 34,816 bytes.
     2 to 5: the road's text, as with rewrites_run.
     2 to 5: where the road's text is taken, the creeper's. The number doesn't tell which of the two
             texts is meant: it is the road's where rewrites_run refuses that text by itself.
-   21: N+M-1 is above 256. */
+   21: N+M-1 is above 1,024. */
 uint8_t rewrites_join(const uint8_t *road, size_t road_len, const uint8_t *creeper,
                       size_t creeper_len, uint8_t *text, size_t text_len, uint32_t *statements,
                       uint32_t *bytes);
 
-/* Keeps a program under a name, as a stage to go back to. Stages are eight places in the first 70,000
-   bytes that are lent, place k, counted from 1, in the 8,750 bytes from 8,750(k-1) on: the name, filled
-   up with zero bytes to 8, the text's length in 2 bytes, low byte first, then the text. 70,000 zero bytes
+/* Keeps a program under a name, as a stage to go back to. Stages are eight places in the first 280,000
+   bytes that are lent, place k, counted from 1, in the 35,000 bytes from 35,000(k-1) on: the name, filled
+   up with zero bytes to 8, the text's length in 2 bytes, low byte first, then the text. 280,000 zero bytes
    are eight empty places. A place is empty where its name isn't 1 to 8 lower-case letters with zero bytes
-   behind them, its length is above 8,740, its text isn't taken (one of 2 to 5 applies to it), or an
+   behind them, its length is above 34,990, its text isn't taken (one of 2 to 5 applies to it), or an
    earlier place that isn't empty has its name. So of the places that stand right with one name the
    first holds it. A known name is replaced where it stands; a new one takes the first empty place. Takes
-   at most 64 KiB of stack.
+   at most 256 KiB of stack.
 
    Returns 0, and sets
    stages     the name, the length and the text of one place. Its other bytes, all other places, and all
-              bytes from 70,000 on are kept.
+              bytes from 280,000 on are kept.
    *place     that place, 1 to 8.
 
    Returns the number of a refusal, and keeps all:
-    1: the stages have under 70,000 bytes.
+    1: the stages have under 280,000 bytes.
     2 to 5: the program, as with rewrites_run.
    23: the name isn't 1 to 8 lower-case letters.
    24: the name is new, and all eight places hold others. */
@@ -326,14 +326,14 @@ uint8_t rewrites_keep(uint8_t *stages, size_t stages_len, const uint8_t *name, s
    rewrites_keep, and are kept. A program that was reached from it by rounds of rewrites_judge, each on the
    text that the last one wrote, runs as the returned one does, with the same outcome and kept values in
    the same steps, a fault at the same statement, or spent at the same statement, as long as nothing but
-   rewrites_keep under other names changed the stages since. Takes at most 64 KiB of stack.
+   rewrites_keep under other names changed the stages since. Takes at most 256 KiB of stack.
 
    Returns 0, and sets
    text       the kept program, from byte 0 on. All further bytes are kept.
    *bytes     the number of its bytes.
 
    Returns the number of a refusal, and keeps all:
-    1: the stages have under 70,000 bytes or text under 8,704 bytes.
+    1: the stages have under 280,000 bytes or text under 34,816 bytes.
    23: the name isn't 1 to 8 lower-case letters.
    25: no place holds the name. */
 uint8_t rewrites_return(const uint8_t *stages, size_t stages_len, const uint8_t *name, size_t name_len,

@@ -1,7 +1,7 @@
 //! What the calls are timed on.
 
 use oracle::marks::{self, Kind, Mark};
-use oracle::program::{Expression, Operand, Program, Statement};
+use oracle::program::{Expression, Operand, Program, Statement, VARIABLES};
 
 /// The lines, each ended by byte 10.
 pub fn text<L: AsRef<str>>(lines: &[L]) -> Vec<u8> {
@@ -128,7 +128,7 @@ pub fn marks_for(program: &[u8]) -> Vec<u8> {
         copy.unwrap_or(Operand::Variable(31))
     };
     let mark = |(at, statement): (usize, &Statement)| {
-        let used = (0..32).find(|&x| statement.shows(x));
+        let used = (0..VARIABLES).find(|&x| statement.shows(x));
         let (variable, kind) = match (*statement, used) {
             (Statement::Assign(x, e), None) => (x, Kind::Remove(e)),
             (Statement::Assign(x, e), _) if at % 2 == 0 => (x, Kind::Remove(e)),
@@ -141,14 +141,15 @@ pub fn marks_for(program: &[u8]) -> Vec<u8> {
     marks::text(&list)
 }
 
-/// A mark for each statement that uses a variable, no two of which have the same condition.
+/// A mark for each statement that uses a variable, no two of which have the same condition, but where there are more jumps than pairs of
+/// variables.
 pub fn different_marks_for(program: &[u8]) -> Vec<u8> {
     let program = Program::read(program).expect("the program is taken");
     let mark = |(at, statement): (usize, &Statement)| {
-        let variable = (0..32).find(|&x| statement.shows(x))?;
+        let variable = (0..VARIABLES).find(|&x| statement.shows(x))?;
         let a = match statement {
             Statement::Assign(..) => Operand::Constant(at as u32),
-            _ => Operand::Variable((at / 8) as u8),
+            _ => Operand::Variable((at / 8) as u8 % VARIABLES),
         };
         Some(Mark { number: at as u32 + 1, variable, kind: Kind::Replace(a) })
     };

@@ -11,13 +11,14 @@ use oracle::tuned;
 use rewrites::{force, join, judge, list, relist, report, review, run, tabulate, Prices};
 use rewrites::{go_back, keep, PLACES, PLACE_BYTES, STAGES_BYTES};
 use rewrites::{LIST_WORDS, MOST_STEPS, REVIEW_WORDS, STATEMENTS, TABLE_WORDS, TEXT_BYTES};
-use rewrites::{UNFORCED, VERDICT_BYTES};
+use rewrites::{UNFORCED, VARIABLES, VERDICT_BYTES};
+use std::collections::HashMap;
 use std::fs;
 use time::medians;
 
 const RUN_TIMES: usize = 101;
 const TIMES: usize = 301;
-const SIZES: [usize; 5] = [16, 32, 64, 128, 256];
+const SIZES: [usize; 4] = [16, 64, 256, STATEMENTS];
 
 fn machine() -> String {
     let info = fs::read_to_string("/proc/cpuinfo").unwrap_or_default();
@@ -51,6 +52,9 @@ const FLOWS: [Flow; 4] = [
 struct Worst {
     ordinary: (f64, String),
     adversarial: (f64, String),
+    /// The times of calls over 256 statements, and the largest ratio to one of them over four times as many.
+    shorter: HashMap<String, f64>,
+    growth: (f64, String),
 }
 
 impl Worst {
@@ -58,6 +62,20 @@ impl Worst {
         let worst = if is_ordinary { &mut self.ordinary } else { &mut self.adversarial };
         if ratio > worst.0 {
             *worst = (ratio, name);
+        }
+    }
+
+    /// A call over an ordinary program of so many statements takes so many seconds.
+    fn grow(&mut self, is_ordinary: bool, name: &str, size: usize, seconds: f64) {
+        if !is_ordinary {
+            return;
+        }
+        if size == 256 {
+            self.shorter.insert(name.to_string(), seconds);
+        }
+        let ratio = self.shorter.get(name).map_or(0.0, |shorter| seconds / shorter);
+        if size == STATEMENTS && ratio > self.growth.0 {
+            self.growth = (ratio, name.to_string());
         }
     }
 }
@@ -102,7 +120,7 @@ fn print_runs(worst: &mut Worst) {
         lines.extend(statements);
         lines.extend(["if i31 goto 2 else 2", "write i0"]);
         let program = text(&lines);
-        let values = [0; 32];
+        let values = [0; VARIABLES];
         for prices in [ours, BUYERS] {
             let ticks = run(&program, &values, 7, MOST_STEPS, &prices).map(|it| it.ticks());
             let wanted =
@@ -186,23 +204,24 @@ fn repeated(inner: &[&str], lines: usize) -> Vec<u8> {
     text(&text_lines)
 }
 
-/// A text of 256 lines, all but the first and the last with this one statement.
+/// A text of the most lines, all but the first and the last with this one statement.
 fn longest_text(statement: &str) -> Vec<u8> {
-    let mut lines = vec![statement; 256];
-    lines[0] = "read i31";
-    lines[255] = "write i31";
+    let mut lines = vec![statement; STATEMENTS];
+    lines[0] = "read i63";
+    lines[STATEMENTS - 1] = "write i63";
     text(&lines)
 }
 
 fn print_reading(worst: &mut Worst) {
     print_heading(
-        "Reading (run under budget 0; over 256 lines are refused after all are read), in microseconds",
+        "Reading (run under budget 0; over 1,024 lines are refused after all are read), in microseconds",
         "    ns/byte",
     );
-    let unsigned = [16, 64, 256, 1_000, 4_000, 16_000].map(|lines| (lines, "", good_text(lines)));
-    let signed = [16, 64, 256].map(|lines| (lines, ", constants below zero", signed_text(lines)));
-    for (lines, kind, program) in unsigned.into_iter().chain(signed) {
-        let (values, ours) = ([0; 32], Prices::ours());
+    let unsigned =
+        SIZES.into_iter().chain([4_000, 16_000]).map(|lines| (lines, "", good_text(lines)));
+    let signed = SIZES.map(|lines| (lines, ", constants below zero", signed_text(lines)));
+    for (lines, kind, program) in unsigned.chain(signed) {
+        let (values, ours) = ([0; VARIABLES], Prices::ours());
         let times = medians(
             TIMES,
             [&mut || run(&program, &values, 7, 0, &ours).is_ok(), &mut || {
@@ -212,17 +231,17 @@ fn print_reading(worst: &mut Worst) {
         let each = format!("{:>11.2}", times[0] * 1e9 / program.len() as f64);
         let name = format!("{} lines, {} bytes{}", lines, program.len(), kind);
         let ratio = print_line(&name, times, &each);
-        worst.meet(lines <= 256, ratio, format!("reading {}", name));
+        worst.grow(true, &format!("reading{}", kind), lines, times[0]);
+        worst.meet(lines <= STATEMENTS, ratio, format!("reading {}", name));
     }
 }
 
 fn print_writing(worst: &mut Worst) {
     print_heading("Reading and writing (judge without marks), in microseconds", "    ns/byte");
-    let mut programs: Vec<(&str, Vec<u8>)> =
-        [16, 64, 256].map(|lines| ("", good_text(lines))).to_vec();
-    programs.push(("", longest_text("i31 := 2147483647 + 2147483647")));
-    programs.push((", constants below zero", signed_text(256)));
-    programs.push((", the longest", longest_text("i31 := -2147483648 + -2147483648")));
+    let mut programs: Vec<(&str, Vec<u8>)> = SIZES.map(|lines| ("", good_text(lines))).to_vec();
+    programs.push(("", longest_text("i63 := 2147483647 + 2147483647")));
+    programs.push((", constants below zero", signed_text(STATEMENTS)));
+    programs.push((", the longest", longest_text("i63 := -2147483648 + -2147483648")));
     for (kind, program) in programs {
         let (mut verdicts, mut new) = ([0; VERDICT_BYTES], [0; TEXT_BYTES]);
         let (mut verdicts_2, mut new_2) = (verdicts, new);
@@ -263,15 +282,15 @@ fn print_pair(worst: &mut Worst, kind: &str, is_ordinary: bool, road: &[u8], cre
 
 fn print_joining(worst: &mut Worst) {
     print_heading("Joining, in microseconds", "    ns/byte");
-    for (n, m) in [(16, 16), (64, 64), (128, 129), (16, 241), (241, 16)] {
+    for (n, m) in [(16, 16), (64, 64), (128, 129), (512, 513), (16, 1_009), (1_009, 16)] {
         print_pair(worst, "", true, &inputs::ordinary(n), &inputs::ordinary(m));
     }
-    let jumps = [128, 129].map(inputs::scattered);
+    let jumps = [512, 513].map(inputs::scattered);
     print_pair(worst, ", scattered jumps", false, &jumps[0], &jumps[1]);
-    let signed = [128, 129].map(signed_text);
+    let signed = [512, 513].map(signed_text);
     print_pair(worst, ", constants below zero", true, &signed[0], &signed[1]);
     // Each is read whole before both are found too long.
-    let longest = longest_text("i31 := -2147483648 + -2147483648");
+    let longest = longest_text("i63 := -2147483648 + -2147483648");
     print_pair(worst, ", the longest, refused", false, &longest, &longest);
 }
 
@@ -329,8 +348,8 @@ fn time_return(stages: &[u8], name: &[u8]) -> [f64; 2] {
 
 fn print_stages(worst: &mut Worst) {
     print_heading("Stages, in microseconds", "    ns/byte");
-    let longest = longest_text("i31 := -2147483648 + -2147483648");
-    let ordinary = [16, 64, 256].map(|lines| ("", true, inputs::ordinary(lines)));
+    let longest = longest_text("i63 := -2147483648 + -2147483648");
+    let ordinary = SIZES.map(|lines| ("", true, inputs::ordinary(lines)));
     for (kind, is_ordinary, program) in
         ordinary.into_iter().chain([(", the longest", false, longest)])
     {
@@ -353,6 +372,7 @@ fn print_stages(worst: &mut Worst) {
             };
             let name = format!("{}, {} lines{}", call, lines, kind);
             let ratio = print_line(&name, times, &each);
+            worst.grow(is_ordinary, call, lines, times[0]);
             worst.meet(is_ordinary, ratio, name);
         }
     }
@@ -375,15 +395,16 @@ fn time_table(program: &[u8], condition: &str) -> [f64; 2] {
 }
 
 fn print_tables(worst: &mut Worst) {
-    for flow in &FLOWS {
-        let program = (flow.program)(256);
-        print_heading(
-            &format!("Tables of 64 parts over 256 statements, {}, in microseconds", flow.name),
-            "",
-        );
+    for (flow, size) in FLOWS.iter().flat_map(|flow| [256, STATEMENTS].map(|size| (flow, size))) {
+        let program = (flow.program)(size);
+        let title = format!("Tables of 64 parts over {} statements, {}", size, flow.name);
+        print_heading(&format!("{}, in microseconds", title), "");
         let mut print = |name: &str, condition: &str| {
-            let ratio = print_line(name, time_table(&program, condition), "");
-            worst.meet(flow.is_ordinary, ratio, format!("table, {}, {}", flow.name, name));
+            let times = time_table(&program, condition);
+            let ratio = print_line(name, times, "");
+            let name = format!("table, {}, {}", flow.name, name);
+            worst.grow(flow.is_ordinary, &name, size, times[0]);
+            worst.meet(flow.is_ordinary, ratio, format!("{}, {} statements", name, size));
         };
         if flow.is_ordinary || flow.name == "backward jumps" {
             for operator in OPERATORS {
@@ -408,6 +429,8 @@ fn print_table_growth(worst: &mut Worst) {
                 let name = format!("{}, {}, {} statements", flow.name, condition_name, size);
                 let ratio = print_line(&name, times, &each);
                 worst.meet(flow.is_ordinary, ratio, format!("table, {}", name));
+                let name = format!("table by size, {}, {}", flow.name, condition_name);
+                worst.grow(flow.is_ordinary, &name, size, times[0]);
             }
         }
     }
@@ -464,7 +487,7 @@ fn print_reviews(worst: &mut Worst) {
     let mut largest = (0.0, String::new());
     for flow in &FLOWS {
         for asked in &REVIEWS {
-            for size in [16, 64, 256] {
+            for size in SIZES {
                 let (program, conditions) = ((flow.program)(size), (asked.lines)());
                 let [ours, tuned, alone] = time_review(&program, &conditions);
                 let answer = review(&program, &conditions, &mut [0; REVIEW_WORDS]);
@@ -486,6 +509,7 @@ fn print_reviews(worst: &mut Worst) {
                     largest = (ours / alone, name.clone());
                 }
                 let is_ordinary = flow.is_ordinary && asked.is_ordinary;
+                worst.grow(is_ordinary, &format!("review, {}", asked.name), size, ours);
                 worst.meet(is_ordinary, ours / tuned, format!("review, {}", name));
             }
         }
@@ -551,15 +575,17 @@ fn print_games(worst: &mut Worst) {
     let chain = Flow { name: "chain of ifs", is_ordinary: false, program: chain };
     for flow in FLOWS.iter().chain([&chain]) {
         for game in &GAMES {
-            for size in [16, 64, 256] {
+            for size in SIZES {
                 let program = (flow.program)(size);
                 let name = format!("{}, {}, {}", flow.name, game.name, size);
                 let (driver, condition) = (game.driver.as_bytes(), game.condition.as_bytes());
                 let answer = force(&program, driver, condition, &mut [0; TABLE_WORDS]);
                 let numbers = answer.expect("the game is taken").number;
                 let forced = numbers.iter().filter(|&&number| number != UNFORCED).count();
-                let ratio = print_line(&name, time_game(&program, game), &format!("{forced:>11}"));
+                let times = time_game(&program, game);
+                let ratio = print_line(&name, times, &format!("{forced:>11}"));
                 let is_ordinary = flow.is_ordinary && game.is_ordinary;
+                worst.grow(is_ordinary, &format!("force, {}", game.name), size, times[0]);
                 worst.meet(is_ordinary, ratio, format!("force, {}", name));
             }
         }
@@ -608,6 +634,7 @@ fn print_list(worst: &mut Worst, flow: &Flow, kind: &str, list: List) {
             ours / labels
         );
         let is_ordinary = flow.is_ordinary && kind.is_empty();
+        worst.grow(is_ordinary, &format!("judge, {}", flow.name), size, ours);
         worst.meet(is_ordinary, ours / search, format!("judge, {}", name));
     }
 }
@@ -663,14 +690,16 @@ fn print_reports(worst: &mut Worst) {
     let sums: [(&str, List); 1] = [("rm and cse ", cse_and_rm_marks_for)];
     let rows = FLOWS.iter().flat_map(|flow| lists.map(|list| (flow, list)));
     for (flow, (kind, list)) in rows.chain(SUMS.iter().map(|flow| (flow, sums[0]))) {
-        for size in [16, 64, 256] {
+        for size in SIZES {
             let program = (flow.program)(size);
             let marks = list(&program);
             let report = report(&program, &marks, &Prices::ours());
             let saved = report.expect("the list is taken").saved;
             let name = format!("{}, {}marks, {} statements", flow.name, kind, size);
-            let ratio = print_line(&name, time_report(&program, &marks), &format!("{saved:>11}"));
+            let times = time_report(&program, &marks);
+            let ratio = print_line(&name, times, &format!("{saved:>11}"));
             let is_ordinary = flow.is_ordinary && kind.is_empty();
+            worst.grow(is_ordinary, &format!("report, {}", flow.name), size, times[0]);
             worst.meet(is_ordinary, ratio, format!("report, {}", name));
         }
     }
@@ -681,7 +710,7 @@ fn print_reports(worst: &mut Worst) {
 /// The times of a list, ours and tuned, and of reading the program alone, ours and tuned.
 fn time_list(program: &[u8]) -> [f64; 4] {
     let (mut words, mut words_2) = ([0; LIST_WORDS], [0; LIST_WORDS]);
-    let (values, ours) = ([0; 32], Prices::ours());
+    let (values, ours) = ([0; VARIABLES], Prices::ours());
     let times = medians(
         TIMES,
         [
@@ -738,6 +767,7 @@ fn print_lists(worst: &mut Worst) {
                 tuned_reading * 1e6,
                 reading / tuned_reading
             );
+            worst.grow(flow.is_ordinary, &format!("list, {}", flow.name), size, ours);
             worst.meet(flow.is_ordinary, ours / tuned, format!("list, {}", name));
         }
     }
@@ -774,6 +804,7 @@ fn print_relists(worst: &mut Worst) {
                     largest = (ours / judging, name.clone());
                 }
                 let is_ordinary = flow.is_ordinary && kind != "different ";
+                worst.grow(is_ordinary, &format!("relist, {}marks", kind), size, ours);
                 worst.meet(is_ordinary, ours / tuned, format!("relist, {}", name));
             }
         }
@@ -784,7 +815,10 @@ fn print_relists(worst: &mut Worst) {
 fn main() {
     let mut worst = Worst::default();
     println!("machine: {}", machine());
-    println!("medians of {} times of each call, of {} times of runs", TIMES, RUN_TIMES);
+    println!(
+        "medians of {} times of each call, of {} times of runs; of fewer where they take long",
+        TIMES, RUN_TIMES
+    );
     print_runs(&mut worst);
     print_prices(&mut worst);
     print_reading(&mut worst);
@@ -803,5 +837,9 @@ fn main() {
     println!(
         "largest ratio, adversarial inputs: {:.2} ({})",
         worst.adversarial.0, worst.adversarial.1
+    );
+    println!(
+        "largest time over 1,024 statements by that over 256, ordinary inputs: {:.2} ({})",
+        worst.growth.0, worst.growth.1
     );
 }

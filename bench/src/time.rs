@@ -8,6 +8,10 @@ pub type Call<'a> = &'a mut dyn FnMut() -> bool;
 /// A time is taken of as many calls as take at least so many seconds.
 const SHORTEST: f64 = 50e-6;
 
+/// So many seconds of each call are enough, but for the fewest times.
+const ENOUGH: f64 = 1.0;
+const FEWEST: usize = 31;
+
 /// The time of so many calls, in seconds. All are answered, or all refused.
 fn time(calls: usize, call: Call) -> f64 {
     let start = Instant::now();
@@ -25,13 +29,16 @@ fn calls_for_a_time(call: Call) -> usize {
     calls
 }
 
-/// The median of each call's times, in seconds. The calls are made in turn, so that what else the
+/// The median of each call's times, so many at most, in seconds. The calls are made in turn, so that what else the
 /// machine does meets all of them.
 pub fn medians<const N: usize>(times: usize, calls: [Call; N]) -> [f64; N] {
+    let mut slowest: f64 = 0.0;
     let mut calls = calls.map(|call| {
         let count = calls_for_a_time(call);
+        slowest = slowest.max(time(count, call));
         (call, count, Vec::with_capacity(times))
     });
+    let times = times.min(FEWEST.max((ENOUGH / slowest) as usize));
     for _ in 0..times {
         for (call, count, found) in &mut calls {
             found.push(time(*count, call) / *count as f64);

@@ -3,7 +3,7 @@
 use crate::blame::{line_of_marks, line_of_prices, line_of_program, line_of_review, lines};
 use crate::files::{shown, Text, Unread};
 use crate::start;
-use rewrites::{Refusal, MOST_STEPS, STAGES_BYTES};
+use rewrites::{Refusal, MARKS, MOST_STEPS, STAGES_BYTES, STATEMENTS};
 use serde::Serialize;
 use std::fmt;
 use std::path::Path;
@@ -79,7 +79,7 @@ fn expected(refusal: Refusal, text: &[u8]) -> String {
         Refusal::Misspelled => {
             "`read X`, `write X`, `X := A`, `X := A o A`, `if X goto n else m` or `skip`, and byte 10"
         }
-        Refusal::LineCount => "2 to 256 lines",
+        Refusal::LineCount => return format!("2 to {} lines", grouped(STATEMENTS)),
         Refusal::Placement => {
             "`read X` on the first line, `write X` on the last, and neither elsewhere"
         }
@@ -89,14 +89,18 @@ fn expected(refusal: Refusal, text: &[u8]) -> String {
             "`!p`, `(p & q)`, `(p | q)`, `EX p` and the like, `E[p U q]` and the like, or an atom"
         }
         Refusal::ConditionParts => "at most 64 parts",
-        Refusal::Driver => "variables, `i0` to `i31`, with single spaces between, none twice, or nothing",
+        Refusal::Driver => {
+            "variables, `i0` to `i63`, with single spaces between, none twice, or nothing"
+        }
         Refusal::ReviewLines => "1 to 32 lines",
         Refusal::ReviewParts => "at most 128 differing parts",
         Refusal::MarkMisspelled => {
             "`n: mark(rm, X, E)`, `n: mark(rpl, X, A)` or `n: mark(cse, T, E)`, and byte 10"
         }
-        Refusal::MarkCount => "at most 256 lines",
-        Refusal::JoinedCount => "at most 257 statements of both programs",
+        Refusal::MarkCount => return format!("at most {} lines", grouped(MARKS)),
+        Refusal::JoinedCount => {
+            return format!("at most {} statements of both programs", grouped(STATEMENTS + 1))
+        }
         Refusal::PriceMisspelled => "a whole number from 1 to 65535 without leading zeros, and byte 10",
         Refusal::PriceCount => {
             "the prices of `read`, `write`, `skip`, `if`, `X := A`, `+`, `-`, `*`, `<`, `=` and `/`, one a line"
@@ -163,7 +167,7 @@ impl Fault {
 
     /// Two programs are too long to be joined. It is told of the second, which doesn't fit behind the first.
     pub fn of_pair(road: &Text, creeper: &Text) -> Fault {
-        let [first, second] = [road, creeper].map(|text| lines(&text.bytes).count());
+        let [first, second] = [road, creeper].map(|text| grouped(lines(&text.bytes).count()));
         let found = Some(format!("{first} and {second}"));
         Fault { found, ..Fault::refused(Refusal::JoinedCount, creeper) }
     }

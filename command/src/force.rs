@@ -13,7 +13,7 @@ use serde::Serialize;
 use std::ffi::OsString;
 use std::path::PathBuf;
 
-const NUMBER_COLUMNS: usize = 3;
+const NUMBER_COLUMNS: usize = 4;
 const STATEMENT_COLUMNS: usize = 32;
 const PLAYER_COLUMNS: usize = 6;
 

@@ -53,7 +53,7 @@ impl Answer {
     fn text(&self) -> String {
         let mut text = String::new();
         for Line { line, begin, end, mark } in &self.lines {
-            text += &format!("{line:3}  {begin:5} {end:5}  {mark}\n");
+            text += &format!("{line:4}  {begin:5} {end:5}  {mark}\n");
         }
         text + &format!("marks {} bytes {}\n", self.marks, self.bytes)
     }

@@ -9,7 +9,7 @@ use crate::run::Ending;
 use crate::start::Start;
 use crate::status::Status;
 use clap::Args;
-use rewrites::{Prices, Refusal, Report, KINDS, TEXT_BYTES, VARIABLES, VERDICT_BYTES};
+use rewrites::{Prices, Refusal, Report, KINDS, TEXT_BYTES, VERDICT_BYTES};
 use serde::Serialize;
 use std::path::PathBuf;
 
@@ -39,7 +39,7 @@ struct Answer<'a> {
 struct Runs {
     input: i32,
     budget: u32,
-    values: [i32; VARIABLES],
+    values: Vec<i32>,
     given: Ending,
     rewritten: Ending,
 }
@@ -98,7 +98,7 @@ impl Files {
         };
         let (given, rewritten) = (run(given)?, run(&new[..judged.bytes as usize])?);
         let Start { input, budget, values } = start;
-        Ok(Runs { input, budget, values, given, rewritten })
+        Ok(Runs { input, budget, values: values.to_vec(), given, rewritten })
     }
 
     /// The program or the marks are refused.

@@ -12,7 +12,7 @@ use serde::Serialize;
 use std::path::PathBuf;
 
 /// The columns of a statement's number and of the longest statement, and those before the marks.
-const NUMBER_COLUMNS: usize = 3;
+const NUMBER_COLUMNS: usize = 4;
 const STATEMENT_COLUMNS: usize = 32;
 const MARGIN: usize = NUMBER_COLUMNS + 2 + STATEMENT_COLUMNS + 2;
 

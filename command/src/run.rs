@@ -7,14 +7,14 @@ use crate::output::{Output, Unwritten};
 use crate::start::{self, Start};
 use crate::status::Status;
 use clap::Args;
-use rewrites::{Outcome, Prices, Refusal, KEPT, VARIABLES};
+use rewrites::{Outcome, Prices, Refusal, KEPT};
 use serde::Serialize;
 use std::path::PathBuf;
 
 #[derive(Args)]
 pub struct Arguments {
     /// A folder with a program in the file `given` and a start in `start`: the input, the budget
-    /// and up to 32 values, one a line
+    /// and up to 64 values, one a line
     #[arg(value_name = "DIR")]
     folder: PathBuf,
     /// Take this input, and not the start's; the folder then needs no start
@@ -35,7 +35,7 @@ pub struct Arguments {
 struct Answer {
     input: i32,
     budget: u32,
-    values: [i32; VARIABLES],
+    values: Vec<i32>,
     #[serde(flatten)]
     ending: Ending,
 }
@@ -45,7 +45,7 @@ struct Answer {
 #[serde(tag = "outcome", rename_all = "lowercase")]
 pub enum Ending {
     Ended { value: i32, steps: u32, ticks: u64, kept: [i32; KEPT] },
-    Spent { statement: u32, ticks: u64, left: [i32; VARIABLES] },
+    Spent { statement: u32, ticks: u64, left: Vec<i32> },
     Fault { statement: u32, steps: u32, ticks: u64 },
 }
 
@@ -56,7 +56,8 @@ impl From<Outcome> for Ending {
                 Ending::Ended { value, steps, ticks, kept: kept.map(|value| value as i32) }
             }
             Outcome::Spent { statement, values, ticks } => {
-                Ending::Spent { statement, ticks, left: values.map(|value| value as i32) }
+                let left = values.iter().map(|&value| value as i32).collect();
+                Ending::Spent { statement, ticks, left }
             }
             Outcome::Fault { statement, steps, ticks } => Ending::Fault { statement, steps, ticks },
         }
@@ -123,6 +124,7 @@ impl Arguments {
         match start.run(&given.bytes, &Prices::ours()) {
             Ok(outcome) => {
                 let Start { input, budget, values } = start;
+                let values = values.to_vec();
                 Some(Answer { input, budget, values, ending: outcome.into() })
             }
             Err(Refusal::Budget) => {

@@ -1,4 +1,4 @@
-//! A start: the input, the budget and up to 32 values, one a line, each ended by byte 10.
+//! A start: the input, the budget and up to 64 values, one a line, each ended by byte 10.
 
 use crate::blame::lines;
 use rewrites::{Outcome, Prices, Refusal, MOST_STEPS, VARIABLES};
@@ -45,7 +45,7 @@ pub fn budget(text: &str) -> Result<u32, String> {
 
 /// A variable and its value: `i13=40`.
 pub fn setting(text: &str) -> Result<(usize, i32), String> {
-    let expected = || "expected a variable, i0 to i31, `=` and a value".to_string();
+    let expected = || format!("expected a variable, i0 to i{}, `=` and a value", VARIABLES - 1);
     let (variable, text) = text.split_once('=').ok_or_else(expected)?;
     let names = (0..VARIABLES).map(|x| format!("i{x}"));
     let x = names.into_iter().position(|name| name == variable).ok_or_else(expected)?;
@@ -73,7 +73,7 @@ impl Start {
         let mut numbers = Vec::new();
         for (at, line) in lines(text).enumerate() {
             if at == MOST_LINES {
-                return Err(Wrong::of_count("over 34 lines"));
+                return Err(Wrong::of_count(&format!("over {MOST_LINES} lines")));
             }
             let range = if at == 1 { BUDGETS } else { VALUES };
             let found = line.strip_suffix(b"\n").and_then(|text| number(text, &range));
@@ -94,7 +94,7 @@ impl Start {
 
 impl Wrong {
     fn of_count(words: &str) -> Wrong {
-        let expected = "the input, the budget and up to 32 values, one a line".to_string();
+        let expected = format!("the input, the budget and up to {VARIABLES} values, one a line");
         Wrong { line: None, words: words.to_string(), expected }
     }
 

@@ -10,7 +10,7 @@ use oracle::generate::{self, Random};
 use oracle::marks::Mark;
 use oracle::{desk, folder, pricing};
 use rewrites::{mark_line, review, tabulate, Prices, Refusal, REVIEW_WORDS};
-use rewrites::{TABLE_WORDS, TEXT_BYTES, VARIABLES, VERDICT_BYTES};
+use rewrites::{PART_WORDS, TABLE_WORDS, TEXT_BYTES, VARIABLES, VERDICT_BYTES};
 use std::ffi::OsStr;
 use std::os::unix::ffi::OsStrExt;
 use std::path::Path;
@@ -184,7 +184,8 @@ fn conditions_of_marks_decide_their_verdicts() {
                 let is_true = |condition: String| {
                     let mut table = [0; TABLE_WORDS];
                     let answer = tabulate(&given, condition.as_bytes(), &mut table);
-                    let last = 4 * (answer.expect("a condition that is taken").parts as usize - 1);
+                    let answer = answer.expect("a condition that is taken");
+                    let last = PART_WORDS * (answer.parts as usize - 1);
                     let at = mark.statement as usize - 1;
                     table[last + at / 64] >> (at % 64) & 1 == 1
                 };
@@ -264,7 +265,9 @@ fn options_are_spelled_as_lines_of_a_start() {
         assert!(start::setting(&format!("i1={wrong}")).is_err(), "{wrong}");
     }
     assert!(start::budget("-1").is_err());
-    for wrong in ["", "=", "i1", "i32=1", "i01=1", "1=1", "I1=1", "i-1=1", "i1==1", "i1=1=1"] {
+    for wrong in
+        ["", "=", "i1", "i64=1", "i063=1", "i01=1", "1=1", "I1=1", "i-1=1", "i1==1", "i1=1=1"]
+    {
         assert!(start::setting(wrong).is_err(), "{wrong}");
     }
 }

@@ -362,12 +362,12 @@ fn prices_and_totals() {
 
 #[test]
 fn the_longest_report() {
-    let longest = "i31 := -2147483648 + -2147483648\n".repeat(254);
-    let given = format!("read i31\n{longest}write i31\n").into_bytes();
-    let marks = "2147483647: mark(rm, i31, -2147483648 + -2147483648)\n".repeat(256).into_bytes();
+    let longest = "i63 := -2147483648 + -2147483648\n".repeat(1_022);
+    let given = format!("read i63\n{longest}write i63\n").into_bytes();
+    let marks = "2147483647: mark(rm, i63, -2147483648 + -2147483648)\n".repeat(1_024).into_bytes();
     let base = folder("longest", &[("given", &given), ("marks", &marks)]);
     let output = run_in(&base, &["check", "--text", "."]);
-    assert_eq!((status(&output), output.stdout.len()), (0, 13_956));
+    assert_eq!((status(&output), output.stdout.len()), (0, 56_224));
     assert!(output.stdout == check::check(&given, &marks));
     let output = run_in(&base, &["check", ".", "--json"]);
     assert!(told_again(&output.stdout)[0].as_bytes() == check::check(&given, &marks));
@@ -384,13 +384,13 @@ fn refusals_in_words() {
     let misspelled = format!(
         "{author}: not spelled as a statement, or without its byte 10; expected {statement}"
     );
-    let few = format!("{author}: under 2 or over 256 lines; expected 2 to 256 lines");
+    let few = format!("{author}: under 2 or over 1,024 lines; expected 2 to 1,024 lines");
     let misplaced = format!(
         "{author}: `read` or `write` missing from its place or standing elsewhere; expected {placed}"
     );
     let of_mark = format!("{optimiser}: misspelled, or without its byte 10; expected {mark}");
     let good = "read i0\nwrite i0\n";
-    let many_marks = "1: mark(rm, i0, 1)\n".repeat(257);
+    let many_marks = "1: mark(rm, i0, 1)\n".repeat(1_025);
     let long_line = format!("read i0\n{}\nwrite i0\n", "é".repeat(50));
     for (given, marks, expected) in [
         ("read i0\nskip\nrubbish\nwrite i0\n", "", format!("given:3: {misspelled}, found `rubbish`")),
@@ -404,7 +404,7 @@ fn refusals_in_words() {
             format!("given:3: {misspelled}, found `if i1 goto -2 else 3`"),
         ),
         ("", "", format!("given: {few}, found 0 lines")),
-        (&"skip\n".repeat(1_000), "", format!("given: {few}, found 1,000 lines")),
+        (&"skip\n".repeat(2_000), "", format!("given: {few}, found 2,000 lines")),
         ("read i0\nskip\n", "", format!("given:2: {misplaced}, found `skip`")),
         ("skip\nread i0\nwrite i0\n", "", format!("given:1: {misplaced}, found `skip`")),
         ("read i0\nwrite i1\nwrite i0\n", "", format!("given:2: {misplaced}, found `write i1`")),
@@ -432,7 +432,7 @@ fn refusals_in_words() {
             good,
             &many_marks,
             format!(
-                "marks: {optimiser}: over 256 lines of marks; expected at most 256 lines, found 257 lines"
+                "marks: {optimiser}: over 1,024 lines of marks; expected at most 1,024 lines, found 1,025 lines"
             ),
         ),
     ] {

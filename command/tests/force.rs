@@ -108,14 +108,14 @@ fn games_are_as_by_the_oracle() {
 #[test]
 fn games_on_p() {
     let p = example("p");
-    let exit = "  1  read i0                                     5
-  2  i1 := i0                                    4
-  3  i2 := 7                                     3
-  4  i3 := i1 + i2                               2
-  5  if i0 goto 6 else 8               driver    1  else
-  6  i0 := i0 - 1                                2
-  7  if i0 goto 4 else 8               driver    1  else
-  8  write i3                                    0
+    let exit = "   1  read i0                                      5
+   2  i1 := i0                                     4
+   3  i2 := 7                                      3
+   4  i3 := i1 + i2                                2
+   5  if i0 goto 6 else 8               driver     1  else
+   6  i0 := i0 - 1                                 2
+   7  if i0 goto 4 else 8               driver     1  else
+   8  write i3                                     0
 parts 1 satisfied 1 first 8 forced 8
 ";
     let output = run_in(&p, &["force", ".", "--driver", "i0", "--condition", "exit"]);
@@ -123,10 +123,10 @@ parts 1 satisfied 1 first 8 forced 8
     let output = run_in(&p, &["force", ".", "--driver", "", "--condition", "node(6)"]);
     let text = printed(&output);
     assert!(
-        text.contains("\n  5  if i0 goto 6 else 8               unit      -  else\n"),
+        text.contains("\n   5  if i0 goto 6 else 8               unit       -  else\n"),
         "{text}"
     );
-    assert!(text.contains("\n  6  i0 := i0 - 1                                0\n"), "{text}");
+    assert!(text.contains("\n   6  i0 := i0 - 1                                 0\n"), "{text}");
     assert!(text.ends_with("parts 1 satisfied 1 first 6 forced 1\n"), "{text}");
     let words = ["force", ".", "--driver", "i1 i0", "--condition", "use(i2)", "--json"];
     let output = run_in(&p, &words);
@@ -159,11 +159,11 @@ fn the_example_with_a_lever() {
 fn refused_lists_in_words() {
     let given = b"read i0\nif i0 goto 2 else 3\nwrite i0\n";
     let expected = "the author of the driver's list: a misspelled or repeated variable of the driver; \
-                    expected variables, `i0` to `i31`, with single spaces between, none twice, or nothing";
+                    expected variables, `i0` to `i63`, with single spaces between, none twice, or nothing";
     for (list, found) in [
         ("i0 i0", "i0 i0"),
         (" ", " "),
-        ("i32\n", "i32"),
+        ("i64\n", "i64"),
         ("i0\n\n", "i0\\n"),
         ("i0 \n", "i0 "),
         ("i0,i1", "i0,i1"),
@@ -199,5 +199,5 @@ fn a_list_may_end_its_line() {
     assert_eq!(text(b"i0\n"), text(b"i0"));
     assert_eq!(text(b"\n"), text(b""));
     assert_ne!(text(b"i0"), text(b""));
-    assert!(text(b"i0").contains("driver    1  else\n"));
+    assert!(text(b"i0").contains("driver     1  else\n"));
 }

@@ -14,6 +14,7 @@ use coverage::Tally;
 use oracle::check::LARGEST_FILE;
 use oracle::generate::{self, Random};
 use oracle::join::join;
+use oracle::marks::TEXT_BYTES;
 use oracle::program::Program;
 use shell::{example, folder, printed, rewrites, run_in, said, status, told_again};
 use std::fs::{self, File};
@@ -22,7 +23,7 @@ const CASES: u64 = 600;
 
 /// The numbers of statements and bytes, and the joined text; or the refusal.
 fn expected(road: &[u8], creeper: &[u8]) -> Result<(u32, u32, String), u8> {
-    let mut text = vec![0; 8_704];
+    let mut text = vec![0; TEXT_BYTES];
     let (statements, bytes) = join(road, creeper, &mut text)?;
     text.truncate(bytes as usize);
     Ok((statements, bytes, String::from_utf8(text).expect("joined text is ASCII")))
@@ -137,13 +138,13 @@ fn p_with_itself() {
 #[test]
 fn refusals_in_words() {
     let skips = |n: usize| "read i0\n".to_string() + &"skip\n".repeat(n - 2) + "write i0\n";
-    let (good, full) = (skips(2), skips(256));
+    let (good, full) = (skips(2), skips(1_024));
     let target = "read i0\nskip\nif i0 goto 9 else 3\nwrite i0\n";
     let of_target =
         "a target outside 2 to N; expected targets from 2 to 4, found `if i0 goto 9 else 3`";
-    let lines = "under 2 or over 256 lines; expected 2 to 256 lines, found";
+    let lines = "under 2 or over 1,024 lines; expected 2 to 1,024 lines, found";
     let count =
-        "joined program of over 256 statements; expected at most 257 statements of both programs";
+        "joined program of over 1,024 statements; expected at most 1,025 statements of both programs";
     for (road, creeper, words) in [
         (target, &good[..], format!("road:3: the author of the road program: {of_target}")),
         (&good, target, format!("creeper:3: the author of the creeper program: {of_target}")),
@@ -155,12 +156,12 @@ fn refusals_in_words() {
         (
             &full,
             &good,
-            format!("creeper: the author of the shift program: {count}, found 256 and 2"),
+            format!("creeper: the author of the shift program: {count}, found 1,024 and 2"),
         ),
         (
             &good,
             &full,
-            format!("creeper: the author of the shift program: {count}, found 2 and 256"),
+            format!("creeper: the author of the shift program: {count}, found 2 and 1,024"),
         ),
     ] {
         let files = [("road", road.as_bytes()), ("creeper", creeper.as_bytes()), ("new", b"old")];

@@ -39,14 +39,14 @@ fn unspaced(line: &str) -> String {
 
 #[test]
 fn lines_are_as_by_the_oracle() {
-    let mut met = Tally::new("lists", ["taken", "taken of 256", "9", "10", "long", "missing"]);
+    let mut met = Tally::new("lists", ["taken", "taken of 1,024", "9", "10", "long", "missing"]);
     let (mut json, mut texts) = (Vec::new(), Vec::new());
     let seed = Random::new(option("DIFFERENTIAL_SEED", 1) ^ 54).bits();
     for case in 0..option("COMMAND_CASES", CASES) {
         let random = &mut Random::new(seed ^ case);
         let [_, mut list] = random_folder::checked(random);
         if random.chance(2) {
-            list = Some(b"2: mark(rm, i0, 1)\n".repeat(random.pick(&[256, 256, 257])));
+            list = Some(b"2: mark(rm, i0, 1)\n".repeat(random.pick(&[1_024, 1_024, 1_025])));
         }
         let files: Vec<(&str, &[u8])> = list.iter().map(|bytes| ("marks", &bytes[..])).collect();
         let base = folder("lined", &files);
@@ -68,7 +68,7 @@ fn lines_are_as_by_the_oracle() {
                 assert_eq!(told.lines().map(unspaced).collect::<Vec<_>>(), lines, "case {case}");
                 assert_eq!((end, status(&output)), (&last[..], 0), "case {case}");
                 assert_eq!(said(&output), "", "case {case}");
-                met.met(if lines.len() == 256 { "taken of 256" } else { "taken" });
+                met.met(if lines.len() == 1_024 { "taken of 1,024" } else { "taken" });
                 texts.push(lines.concat() + &last);
             }
             Err(number) => {
@@ -87,11 +87,11 @@ fn lines_are_as_by_the_oracle() {
 fn the_lines_of_the_list_of_p() {
     let output = run_in(&example("p"), &["lines", "."]);
     let expected = concat!(
-        "  1      0    20  4: mark(rpl, i2, 7)\n",
-        "  2     20    39  3: mark(rm, i2, 7)\n",
-        "  3     39    60  4: mark(rpl, i1, i0)\n",
-        "  4     60    79  6: mark(rm, i0, 1)\n",
-        "  5     79    98  9: mark(rm, i2, 7)\n",
+        "   1      0    20  4: mark(rpl, i2, 7)\n",
+        "   2     20    39  3: mark(rm, i2, 7)\n",
+        "   3     39    60  4: mark(rpl, i1, i0)\n",
+        "   4     60    79  6: mark(rm, i0, 1)\n",
+        "   5     79    98  9: mark(rm, i2, 7)\n",
         "marks 5 bytes 98\n",
     );
     assert_eq!((status(&output), printed(&output).as_str()), (0, expected));
@@ -124,28 +124,28 @@ fn no_program_is_needed() {
 /// The longest list, whose numbers are the widest.
 #[test]
 fn the_longest_list() {
-    let mark = "2147483647: mark(cse, i31, -2147483648 + -2147483648)";
-    let list = format!("{mark}\n").repeat(256);
+    let mark = "2147483647: mark(cse, i63, -2147483648 + -2147483648)";
+    let list = format!("{mark}\n").repeat(1_024);
     let base = folder("longest_lines", &[("marks", list.as_bytes())]);
     let text = printed(&run_in(&base, &["lines", "."]));
     assert!(
-        text.ends_with(&format!("256  13770 13824  {mark}\nmarks 256 bytes 13824\n")),
+        text.ends_with(&format!("1024  55242 55296  {mark}\nmarks 1024 bytes 55296\n")),
         "{text}"
     );
-    assert_eq!(text.lines().count(), 257);
+    assert_eq!(text.lines().count(), 1_025);
 }
 
 #[test]
 fn refused_lists_in_words() {
     let forms = "`n: mark(rm, X, E)`, `n: mark(rpl, X, A)` or `n: mark(cse, T, E)`, and byte 10";
     let misspelled = format!("misspelled, or without its byte 10; expected {forms}, found ");
-    let many = "1: mark(rm, i0, 1)\n".repeat(257);
+    let many = "1: mark(rm, i0, 1)\n".repeat(1_025);
     for (list, words) in [
         ("2: mark(rm, i0, 1)\nx\n", format!(":2: the optimiser: {misspelled}`x`")),
         ("2: mark(rm, i0, 1)", format!(":1: the optimiser: {misspelled}`2: mark(rm, i0, 1)`")),
         (
             &many,
-            ": the optimiser: over 256 lines of marks; expected at most 256 lines, found 257 lines"
+            ": the optimiser: over 1,024 lines of marks; expected at most 1,024 lines, found 1,025 lines"
                 .to_string(),
         ),
     ] {

@@ -154,29 +154,29 @@ fn no_other_file_is_needed() {
 /// Each variable is defined by one statement and used by the next.
 #[test]
 fn every_variable() {
-    let inner: String = (1..32).map(|x| format!("i{x} := i{}\n", x - 1)).collect();
-    let base = folder("every", &[("given", format!("read i0\n{inner}write i31\n").as_bytes())]);
+    let inner: String = (1..64).map(|x| format!("i{x} := i{}\n", x - 1)).collect();
+    let base = folder("every", &[("given", format!("read i0\n{inner}write i63\n").as_bytes())]);
     let line = |x: usize| {
         let (at, next) = (x + 1, x + 2);
         match x {
-            24..=30 => format!("i{x} defined 1: {at} used 2: {next} 33\n"),
+            24..=31 => format!("i{x} defined 1: {at} used 2: {next} 65\n"),
             _ => format!("i{x} defined 1: {at} used 1: {next}\n"),
         }
     };
-    let expected: String = (0..32).map(line).collect();
+    let expected: String = (0..64).map(line).collect();
     assert_eq!(printed(&run_in(&base, &["list", "."])), expected);
 }
 
 /// The longest lines: every statement but the last defines and uses one variable.
 #[test]
 fn the_longest_program() {
-    let given = format!("read i9\n{}write i0\n", "i9 := i9 + i9\n".repeat(254));
+    let given = format!("read i9\n{}write i0\n", "i9 := i9 + i9\n".repeat(1_022));
     let base = folder("longest_list", &[("given", given.as_bytes())]);
     let text = printed(&run_in(&base, &["list", "."]));
-    let numbers = |first: usize| (first..=255).map(|n| format!(" {n}")).collect::<String>();
-    let line = format!("i9 defined 255:{} used 254:{}", numbers(1), numbers(2));
+    let numbers = |first: usize| (first..=1_023).map(|n| format!(" {n}")).collect::<String>();
+    let line = format!("i9 defined 1023:{} used 1022:{}", numbers(1), numbers(2));
     assert_eq!(text.lines().nth(1), Some(&line[..]));
-    assert_eq!(text.lines().next(), Some("i0 defined 0 used 1: 256"));
+    assert_eq!(text.lines().next(), Some("i0 defined 0 used 1: 1024"));
     assert_eq!(text.lines().count(), 10);
 }
 
@@ -186,7 +186,9 @@ fn refused_programs_in_words() {
     for (given, words) in [
         (
             "",
-            format!(": {author}under 2 or over 256 lines; expected 2 to 256 lines, found 0 lines"),
+            format!(
+                ": {author}under 2 or over 1,024 lines; expected 2 to 1,024 lines, found 0 lines"
+            ),
         ),
         (
             "read i0\nif i0 goto 9 else 3\nwrite i0\n",

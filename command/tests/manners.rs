@@ -74,7 +74,7 @@ fn usage() {
         &["run", ".", "--set", "i3=--1"],
         &["run", ".", "--set", "i3=-2147483649"],
         &["run", ".", "--budget", "-1"],
-        &["run", ".", "--set", "i32=1"],
+        &["run", ".", "--set", "i64=1"],
         &["run", ".", "--set", "i3"],
         &["price"],
         &["price", ".", "."],
@@ -380,7 +380,7 @@ fn colour_on_a_terminal_alone() {
     let base = folder("colour", &[("given", b"read i0\n"), ("marks", b"")]);
     let words = ["check", "."];
     let red =
-        "\x1b[31mrefused 3: the author of the shift program: under 2 or over 256 lines\x1b[0m";
+        "\x1b[31mrefused 3: the author of the shift program: under 2 or over 1,024 lines\x1b[0m";
     let (shown, status_there) = on_terminal(&base, &words, &[]);
     assert!(shown.contains(red), "{shown:?}");
     assert_eq!(status_there, 1);

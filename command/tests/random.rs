@@ -25,7 +25,7 @@ const CASES: u64 = 3_000;
 const WORDS: [&str; 43] = [
     "check", "tabulate", "review", "force", "run", "price", "lines", "list", "join", "stage", "keep", "return", "first", "stages", "help", ".", "a", "nowhere", "given", "--json", "--text", "--explain",
     "-o", "new", "--output=new", "-onew", "--condition", "E[", "--driver", "i0 i1", "--input", "-1", "2147483648", "--budget",
-    "1000001", "--set", "--set=i32=1", "--", "-", "--help", "-V", "-x", "",
+    "1000001", "--set", "--set=i64=1", "--", "-", "--help", "-V", "-x", "",
 ];
 
 /// The options of each call, some of them such that they are refused.
@@ -62,7 +62,7 @@ const OPTIONS: [(&str, &[&[&str]]); 10] = [
             &["--input", "-7"],
             &["--budget", "300"],
             &["--set", "i3=4"],
-            &["--set=i31=-1"],
+            &["--set=i63=-1"],
             &["--budget=1000001"],
         ],
     ),

@@ -151,7 +151,7 @@ def force(thing):
         if place["player"] is not None:
             assert (place["player"] == "driver") == (place["text"].split(" ")[1] in thing["driver"])
         number = "-" if place["number"] is None else str(place["number"])
-        line = "%3d  %-32s  %-6s  %3s" % (at + 1, place["text"], place["player"] or "", number)
+        line = "%4d  %-32s  %-6s  %4s" % (at + 1, place["text"], place["player"] or "", number)
         text += line + ("" if place["arm"] is None else "  " + place["arm"]) + "\n"
     assert thing["forced"] == sum(place["number"] is not None for place in thing["statements"])
     assert thing["satisfied"] == sum(place["number"] == 0 for place in thing["statements"])
@@ -159,7 +159,7 @@ def force(thing):
 
 
 def run(thing):
-    assert len(thing["values"]) == 32 and all(map(whole, thing["values"]))
+    assert len(thing["values"]) == 64 and all(map(whole, thing["values"]))
     if thing["outcome"] == "ended":
         has(thing, REPORT | ENDED)
         assert len(thing["kept"]) == 8 and all(map(whole, thing["kept"]))
@@ -169,7 +169,7 @@ def run(thing):
         has(thing, REPORT | FAULTED)
         return "fault at {statement} steps {steps} ticks {ticks}\n".format(**thing)
     has(thing, REPORT | SPENT)
-    assert thing["outcome"] == "spent" and len(thing["left"]) == 32
+    assert thing["outcome"] == "spent" and len(thing["left"]) == 64
     lines = ["i%d = %d\n" % (x, value) for x, value in enumerate(thing["left"])]
     return "spent at {statement} ticks {ticks}\n".format(**thing) + "".join(lines)
 
@@ -217,7 +217,7 @@ def join(thing):
 
 def stage_line(stage):
     assert 1 <= stage["place"] <= 8 and 1 <= len(stage["name"]) <= 8 and stage["name"].islower()
-    assert 2 <= stage["lines"] <= 256 and stage["lines"] < stage["bytes"]
+    assert 2 <= stage["lines"] <= 1024 and stage["lines"] < stage["bytes"]
     return "place {place} name {name} lines {lines} bytes {bytes}\n".format(**stage)
 
 

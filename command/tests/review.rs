@@ -12,6 +12,7 @@ mod shell;
 use common::option;
 use coverage::Tally;
 use oracle::check::LARGEST_FILE;
+use oracle::condition::PART_WORDS;
 use oracle::folder as random_folder;
 use oracle::generate::Random;
 use oracle::review::{review, REVIEW_WORDS};
@@ -30,7 +31,8 @@ fn expected(given: &[u8], conditions: &[u8]) -> Result<(String, String), u8> {
     let answer = review(given, conditions, &mut table)?;
     let (program, asked) = (lines(given), lines(conditions));
     let is_true = |j: usize, at: usize| {
-        table[4 * answer.table_of[j] as usize + at / 64] >> (at % 64) & 1 == 1
+        let first = PART_WORDS * answer.table_of[j] as usize;
+        table[first + at / 64] >> (at % 64) & 1 == 1
     };
     let (mut text, mut told) = ("line  table  satisfied  first\n".to_string(), String::new());
     for (j, condition) in asked.iter().enumerate() {
@@ -44,13 +46,13 @@ fn expected(given: &[u8], conditions: &[u8]) -> Result<(String, String), u8> {
     let numbers = (1..=asked.len()).map(|line| format!("{line:2}"));
     let (tens, ones): (String, String) =
         numbers.map(|n| (n[..1].to_string(), n[1..].to_string())).unzip();
-    let margin = " ".repeat(39);
+    let margin = " ".repeat(40);
     if asked.len() > 9 {
         text += &format!("{margin}{tens}\n");
     }
     text += &format!("{margin}{ones}\n");
     for (at, statement) in program.iter().enumerate() {
-        text += &format!("{:>3}  {statement:<34}", at + 1);
+        text += &format!("{:>4}  {statement:<34}", at + 1);
         (0..asked.len()).for_each(|j| text.push(if is_true(j, at) { '*' } else { '.' }));
         text.push('\n');
     }
@@ -114,15 +116,15 @@ fn the_review_of_an_example() {
         "   3      6          2      5  (EX exit & E[!def(i2) U use(i2)])\n",
         "   4      2          1      4  use(i2)\n",
         "   5      5          3      5  EX exit\n",
-        "                                       12345\n",
-        "  1  read i0                           .....\n",
-        "  2  i1 := i0                          .....\n",
-        "  3  i2 := 7                           .....\n",
-        "  4  i3 := i1 + i2                     *..*.\n",
-        "  5  if i0 goto 6 else 8               ***.*\n",
-        "  6  i0 := i0 - 1                      *....\n",
-        "  7  if i0 goto 4 else 8               ***.*\n",
-        "  8  write i3                          .*..*\n",
+        "                                        12345\n",
+        "   1  read i0                           .....\n",
+        "   2  i1 := i0                          .....\n",
+        "   3  i2 := 7                           .....\n",
+        "   4  i3 := i1 + i2                     *..*.\n",
+        "   5  if i0 goto 6 else 8               ***.*\n",
+        "   6  i0 := i0 - 1                      *....\n",
+        "   7  if i0 goto 4 else 8               ***.*\n",
+        "   8  write i3                          .*..*\n",
         "tables 7 lines 5\n",
     );
     let output = run_in(&example("p"), &["review", "."]);
@@ -132,7 +134,7 @@ fn the_review_of_an_example() {
 /// Tens stand above the columns from the tenth line on; the longest statement has its columns.
 #[test]
 fn many_lines() {
-    let given = b"read i0\ni31 := -2147483648 + -2147483648\nwrite i0\n";
+    let given = b"read i0\ni63 := -2147483648 + -2147483648\nwrite i0\n";
     let conditions = "false\n".repeat(9) + "entry\nexit\n";
     let base = folder("many", &[("given", given), ("conditions", conditions.as_bytes())]);
     let output = run_in(&base, &["review", "."]);
@@ -149,11 +151,11 @@ fn many_lines() {
         "   9      0          0      0  false\n",
         "  10      1          1      1  entry\n",
         "  11      2          1      3  exit\n",
-        "                                                11\n",
-        "                                       12345678901\n",
-        "  1  read i0                           .........*.\n",
-        "  2  i31 := -2147483648 + -2147483648  ...........\n",
-        "  3  write i0                          ..........*\n",
+        "                                                 11\n",
+        "                                        12345678901\n",
+        "   1  read i0                           .........*.\n",
+        "   2  i63 := -2147483648 + -2147483648  ...........\n",
+        "   3  write i0                          ..........*\n",
         "tables 3 lines 11\n",
     );
     assert_eq!((status(&output), printed(&output).as_str()), (0, expected));

@@ -79,7 +79,7 @@ fn options_replace_the_start() {
         let size = generate::size(random);
         let given = generate::program(random, size).text();
         let mut numbers: Vec<i64> = vec![0, 1_000_000];
-        numbers.resize(34, 0);
+        numbers.resize(66, 0);
         let has_start = random.chance(50);
         if has_start {
             numbers[0] = i64::from(generate::word(random) as i32);
@@ -104,7 +104,7 @@ fn options_replace_the_start() {
             words.push(format!("--budget={}", numbers[1]));
         }
         for _ in 0..random.below(4) {
-            let (x, value) = (random.below(32), i64::from(generate::word(random) as i32));
+            let (x, value) = (random.below(64), i64::from(generate::word(random) as i32));
             numbers[2 + x] = value;
             words.extend(["--set".to_string(), format!("i{x}={value}")]);
         }
@@ -266,14 +266,14 @@ fn both_programs_of_an_example_fault_alike() {
 /// Without a start the input must be given, and what the start would have is told.
 #[test]
 fn refused_starts_in_words() {
-    let lines = "the input, the budget and up to 32 values, one a line";
+    let lines = "the input, the budget and up to 64 values, one a line";
     let number =
         "the start: not such a number, or without its byte 10; expected a whole number from";
     let value = format!("{number} -2147483648 to 2147483647, and byte 10");
     let budget = format!("{number} 0 to 2147483647, and byte 10");
     for (start, expected) in [
         ("", format!(": the start: under 2 lines; expected {lines}")),
-        (&"1\n".repeat(35), format!(": the start: over 34 lines; expected {lines}")),
+        (&"1\n".repeat(67), format!(": the start: over 66 lines; expected {lines}")),
         ("1\n-1\n", format!(":2: {budget}, found `-1`")),
         ("1\n2\n3", format!(":3: {value}, found `3`")),
         ("01\n2\n", format!(":1: {value}, found `01`")),

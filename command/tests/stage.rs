@@ -12,6 +12,7 @@ mod shell;
 use common::{option, P};
 use coverage::Tally;
 use oracle::generate::{self, PlaceDamage, Random, WrongName};
+use oracle::marks::TEXT_BYTES;
 use oracle::stages::{self, PLACES, PLACE_BYTES, STAGES_BYTES};
 use shell::{example, faults, folder, printed, rewrites, run_in, said, status, told_again};
 use std::ffi::OsString;
@@ -133,7 +134,7 @@ fn stages_are_as_by_the_oracle() {
             texts.push(String::new());
             met.met("unread");
             if length != STAGES_BYTES && is_there {
-                assert!(said(&output).contains("expected a file of 70,000 bytes, or none\n"));
+                assert!(said(&output).contains("expected a file of 280,000 bytes, or none\n"));
                 met.met("of another length");
             }
             if program.is_none() && action == Some("keep") {
@@ -151,7 +152,7 @@ fn stages_are_as_by_the_oracle() {
                     .map(|place| line(place as usize, &name, program))
             }
             _ => {
-                let mut text = vec![0; 8_704];
+                let mut text = vec![0; TEXT_BYTES];
                 stages::go_back(&before, &name, &mut text)
                     .map(|bytes| String::from_utf8_lossy(&text[..bytes as usize]).into_owned())
             }
@@ -280,7 +281,7 @@ fn refusals_in_words() {
     let base = ready("refused_stage", &EIGHT);
     fs::write(base.join("given"), "").expect("a file is written");
     let output = run_in(&base, &["stage", ".", "keep", "First"]);
-    let words = "./given: the author of the shift program: under 2 or over 256 lines; expected 2 to 256 lines, found 0 lines\n";
+    let words = "./given: the author of the shift program: under 2 or over 1,024 lines; expected 2 to 1,024 lines, found 0 lines\n";
     assert_eq!((status(&output), said(&output).as_str()), (1, words));
 }
 
@@ -289,16 +290,16 @@ fn refusals_in_words() {
 fn files_of_another_length() {
     for (length, words) in [
         (0, "0 bytes"),
-        (69_999, "69,999 bytes"),
-        (70_001, "over 70,000 bytes"),
-        (1_000_000, "over 70,000 bytes"),
+        (279_999, "279,999 bytes"),
+        (280_001, "over 280,000 bytes"),
+        (1_000_000, "over 280,000 bytes"),
     ] {
         let base = folder("lengths", &[("given", P.as_bytes()), ("stages", &vec![0; length])]);
         for words_of in
             [&["stage", "."][..], &["stage", ".", "keep", "a"], &["stage", ".", "return", "a"]]
         {
             let output = run_in(&base, words_of);
-            let expected = format!("./stages: the caller: can't be read: {words}; expected a file of 70,000 bytes, or none\n");
+            let expected = format!("./stages: the caller: can't be read: {words}; expected a file of 280,000 bytes, or none\n");
             assert_eq!((status(&output), said(&output)), (2, expected));
             assert_eq!(printed(&output), "");
             assert_eq!(stages_in(&base).map(|bytes| bytes.len()), Some(length));
@@ -308,7 +309,7 @@ fn files_of_another_length() {
     let base = folder("lengths", &[]);
     fs::create_dir(base.join("stages")).expect("a folder is made");
     let output = run_in(&base, &["stage", ".", "keep", "a"]);
-    let words = "./stages: the caller: can't be read: Is a directory; expected a file of 70,000 bytes, or none\n\
+    let words = "./stages: the caller: can't be read: Is a directory; expected a file of 280,000 bytes, or none\n\
                  ./given: the caller: can't be read: No such file or directory; expected a file of at most 65,535 bytes\n";
     assert_eq!((status(&output), said(&output).as_str()), (2, words));
     let output = run_in(&base, &["stage", "nowhere"]);
@@ -326,7 +327,7 @@ fn permissions_and_links_stay() {
     assert_eq!(status(&run_in(&base, &["stage", ".", "keep", "two"])), 0);
     assert!(fs::symlink_metadata(base.join("stages")).expect("a link").file_type().is_symlink());
     let there = fs::metadata(base.join("elsewhere")).expect("a file");
-    assert_eq!((there.permissions().mode() & 0o7777, there.len()), (0o640, 70_000));
+    assert_eq!((there.permissions().mode() & 0o7777, there.len()), (0o640, 280_000));
     assert_eq!(printed(&run_in(&base, &["stage", "."])).lines().last(), Some("stages 2 empty 6"));
     holds(&base, &["elsewhere", "given", "stages"]);
 }
@@ -342,7 +343,7 @@ fn limited(base: &Path, ignored: &str) -> Output {
         .expect("bash runs")
 }
 
-/// After a few of the 70,000 bytes are written.
+/// After a few of the 280,000 bytes are written.
 #[test]
 fn a_crash_leaves_the_old_file() {
     const SIGXFSZ: i32 = 25;
@@ -462,5 +463,5 @@ fn the_example() {
     assert_eq!(ran("given"), ran("once"));
     assert_eq!(ran("given"), ran("twice"));
     let bytes = stages_in(&base).expect("a file is read");
-    assert_eq!((bytes.len(), bytes.len() / PLACES), (70_000, PLACE_BYTES));
+    assert_eq!((bytes.len(), bytes.len() / PLACES), (280_000, PLACE_BYTES));
 }

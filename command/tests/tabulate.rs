@@ -12,9 +12,10 @@ mod shell;
 use common::option;
 use coverage::Tally;
 use oracle::check::LARGEST_FILE;
-use oracle::condition::{tabulate, Condition, TABLE_WORDS};
+use oracle::condition::{tabulate, Condition, PART_WORDS, TABLE_WORDS};
 use oracle::folder as random_folder;
 use oracle::generate::Random;
+use oracle::program::MOST_LINES;
 use shell::{example, folder, printed, run, run_in, said, status, told_again};
 use std::ffi::OsStr;
 use std::os::unix::ffi::OsStrExt;
@@ -30,8 +31,9 @@ fn expected(given: &[u8], condition: &[u8]) -> Result<(Rows, String), u8> {
     let (parts, satisfied, first) = tabulate(given, condition, &mut table)?;
     let condition = Condition::read(condition)?;
     let of_part = |part: usize| {
-        let is_true = |at: &usize| table[4 * part + (at - 1) / 64] >> ((at - 1) % 64) & 1 == 1;
-        (condition.text_of(part), (1..=256).filter(is_true).collect())
+        let is_true =
+            |at: &usize| table[PART_WORDS * part + (at - 1) / 64] >> ((at - 1) % 64) & 1 == 1;
+        (condition.text_of(part), (1..=MOST_LINES).filter(is_true).collect())
     };
     let rows = (0..parts as usize).map(of_part).collect();
     Ok((rows, format!("parts {parts} satisfied {satisfied} first {first}\n")))

@@ -1,12 +1,12 @@
-//! Shift programs: statements over 32 variables, run under a budget of steps; conditions on the
+//! Shift programs: up to 1,024 statements over 64 variables, run under a budget of steps; conditions on the
 //! paths through them; and marks, which propose rewrites of them.
 //!
 //! The calls are those of a library that is proved to meet its contracts. This package links it and
-//! gives each call a safe form. A call takes no memory but the stack of its thread, at most 256 KiB.
+//! gives each call a safe form. A call takes no memory but the stack of its thread, at most 512 KiB.
 //!
 //! A program is ASCII text, one statement a line, each line ended by byte 10. The first statement
 //! is `read X`, the last `write X`; between them stand `X := A`, `X := A o A` with `+`, `-`, `*`,
-//! `/`, `<` or `=` for o, `if X goto n else m` and `skip`. X is a variable, `i0` to `i31`; A is one, or
+//! `/`, `<` or `=` for o, `if X goto n else m` and `skip`. X is a variable, `i0` to `i63`; A is one, or
 //! a constant from -2147483648 to 2147483647, such as `-40`. A quotient is signed and rounded toward
 //! zero; a division by 0 ends the run with a fault.
 //!
@@ -20,7 +20,7 @@
 //!     i0 := i0 - 1\n\
 //!     if i0 goto 3 else 6\n\
 //!     write i1\n";
-//! let values = [0; 32];
+//! let values = [0; 64];
 //!
 //! // By our prices `read` and `write` take 4 ticks each, the other 13 steps 3.
 //! let ours = Prices::ours();
@@ -174,10 +174,10 @@ use std::ops::Range;
 pub mod raw;
 
 /// The most statements of a program.
-pub const STATEMENTS: usize = 256;
+pub const STATEMENTS: usize = 1024;
 
-/// The variables of a program, `i0` to `i31`, each with one value.
-pub const VARIABLES: usize = 32;
+/// The variables of a program, `i0` to `i63`, each with one value.
+pub const VARIABLES: usize = 64;
 
 /// The first variable that the unit keeps from one pass to the next, `i24`.
 pub const FIRST_KEPT: usize = 24;
@@ -188,14 +188,14 @@ pub const KEPT: usize = 8;
 /// The largest budget, in steps.
 pub const MOST_STEPS: u32 = 1_000_000;
 
-/// The words that a table must have: 64 parts of [`PART_WORDS`].
-pub const TABLE_WORDS: usize = 256;
+/// The words of one part in a table: a bit for each of the most statements.
+pub const PART_WORDS: usize = STATEMENTS / 64;
 
-/// The words of one part in a table.
-pub const PART_WORDS: usize = 4;
+/// The words that a table must have: 64 parts of [`PART_WORDS`].
+pub const TABLE_WORDS: usize = 64 * PART_WORDS;
 
 /// The words that the table of a review must have: 128 tables of [`PART_WORDS`].
-pub const REVIEW_WORDS: usize = 512;
+pub const REVIEW_WORDS: usize = 128 * PART_WORDS;
 
 /// The most lines of a review.
 pub const REVIEW_LINES: usize = 32;
@@ -204,13 +204,16 @@ pub const REVIEW_LINES: usize = 32;
 pub const UNFORCED: u32 = u32::MAX;
 
 /// The words that a list of readers and writers must have: two sets of [`PART_WORDS`] for each variable.
-pub const LIST_WORDS: usize = 256;
+pub const LIST_WORDS: usize = 2 * PART_WORDS * VARIABLES;
+
+/// The most marks of a list.
+pub const MARKS: usize = 1024;
 
 /// The bytes that there must be for verdicts: one for each of the most marks.
-pub const VERDICT_BYTES: usize = 256;
+pub const VERDICT_BYTES: usize = MARKS;
 
-/// The bytes that there must be for new text.
-pub const TEXT_BYTES: usize = 8704;
+/// The bytes that there must be for new text: 34 for the line of each of the most statements.
+pub const TEXT_BYTES: usize = 34 * STATEMENTS;
 
 /// The kinds of statements that have a price of their own.
 pub const KINDS: usize = 11;
@@ -290,7 +293,7 @@ impl Default for Prices {
 }
 
 /// The bytes that there must be for stages: eight places of [`PLACE_BYTES`].
-pub const STAGES_BYTES: usize = 70_000;
+pub const STAGES_BYTES: usize = 280_000;
 
 /// The places of stages, each of which holds a program under a name or is empty.
 pub const PLACES: usize = 8;
@@ -320,7 +323,7 @@ pub enum Outcome {
     Spent {
         /// The statement, numbered from 1, that would be performed next.
         statement: u32,
-        /// The values of `i0` to `i31` after the last step.
+        /// The values of `i0` to `i63` after the last step.
         values: [u32; VARIABLES],
         /// The price of all steps of the budget.
         ticks: u64,
@@ -425,7 +428,7 @@ impl Forced {
 /// What the judging of a list of marks answers beside the verdicts and the new text.
 #[derive(Clone, Copy, Debug, PartialEq, Eq)]
 pub struct Judged {
-    /// The number of marks, 0 to 256.
+    /// The number of marks, 0 to 1,024.
     pub marks: u32,
     /// The number of accepted marks.
     pub accepted: u32,
@@ -438,7 +441,7 @@ pub struct Judged {
 /// Entry k of an array is that of statement k + 1; entries past the statements are 0.
 #[derive(Clone, Copy, Debug, PartialEq, Eq)]
 pub struct Report {
-    /// The number of statements, 2 to 256, the same in both programs.
+    /// The number of statements, 2 to 1,024, the same in both programs.
     pub statements: u32,
     /// The price of each statement of the given program.
     pub before: [u32; STATEMENTS],
@@ -544,7 +547,7 @@ pub enum Refusal {
     Budget = 15,
     /// A line of the program isn't a statement, or the last lacks its byte 10.
     Misspelled = 2,
-    /// The program has under 2 or over 256 lines.
+    /// The program has under 2 or over 1,024 lines.
     LineCount = 3,
     /// `read` isn't first, `write` isn't last, or one of them stands elsewhere.
     Placement = 4,
@@ -564,9 +567,9 @@ pub enum Refusal {
     ReviewParts = 17,
     /// A line of the marks is misspelled, or the last lacks its byte 10.
     MarkMisspelled = 9,
-    /// There are over 256 lines of marks.
+    /// There are over 1,024 lines of marks.
     MarkCount = 10,
-    /// The joined program would have over 256 statements.
+    /// The joined program would have over 1,024 statements.
     JoinedCount = 21,
     /// A line of a table of prices isn't a number from 1 to 65,535, or the last lacks its byte 10.
     PriceMisspelled = 19,
@@ -621,14 +624,14 @@ impl fmt::Display for Refusal {
     fn fmt(&self, f: &mut fmt::Formatter<'_>) -> fmt::Result {
         f.write_str(match self {
             Refusal::Buffer => {
-                "table under 256 words, or 512 of a review, verdicts under 256 bytes, new text under \
-                 8,704 bytes or stages under 70,000 bytes"
+                "table under 1,024 words, or 2,048 of a review or a list, verdicts under 1,024 bytes, \
+                 new text under 34,816 bytes or stages under 280,000 bytes"
             }
             Refusal::Budget => "budget over 1,000,000",
             Refusal::Misspelled => {
                 "some line isn't spelled as a statement, or the last lacks its byte 10"
             }
-            Refusal::LineCount => "under 2 or over 256 lines",
+            Refusal::LineCount => "under 2 or over 1,024 lines",
             Refusal::Placement => "`read` or `write` missing from its place or standing elsewhere",
             Refusal::Target => "a target outside 2 to N",
             Refusal::Driver => "a misspelled or repeated variable of the driver",
@@ -640,8 +643,8 @@ impl fmt::Display for Refusal {
             Refusal::MarkMisspelled => {
                 "some line of the marks misspelled, or the last without its byte 10"
             }
-            Refusal::MarkCount => "over 256 lines of marks",
-            Refusal::JoinedCount => "joined program of over 256 statements",
+            Refusal::MarkCount => "over 1,024 lines of marks",
+            Refusal::JoinedCount => "joined program of over 1,024 statements",
             Refusal::PriceMisspelled => {
                 "some line of the prices isn't a number from 1 to 65,535, or the last lacks its byte 10"
             }
@@ -655,8 +658,8 @@ impl fmt::Display for Refusal {
 
 impl Error for Refusal {}
 
-/// Runs the program that the text spells, from the given values of `i0` to `i31` and one input
-/// value, for at most `budget` steps. Takes at most 64 KiB of stack.
+/// Runs the program that the text spells, from the given values of `i0` to `i63` and one input
+/// value, for at most `budget` steps. Takes at most 256 KiB of stack.
 ///
 /// A run that ends tells what `write` wrote, and the values that the unit keeps for its next pass: those
 /// of the [`KEPT`] variables from [`FIRST_KEPT`] on. One that divides by 0 ends there with a fault, and
@@ -676,29 +679,29 @@ impl Error for Refusal {}
 ///
 /// // Values keep their low 32 bits, and the written value is signed.
 /// let program = b"read i0\ni0 := i0 + 1\nwrite i0\n";
-/// let answer = run(program, &[0; 32], 2147483647, 3, &ours);
+/// let answer = run(program, &[0; 64], 2147483647, 3, &ours);
 /// let ended = |value, ticks| Ok(Outcome::Ended { value, steps: 3, kept: [0; KEPT], ticks });
 /// assert_eq!(answer, ended(-2147483648, 11));
 ///
 /// // A constant may be below zero.
 /// let program = b"read i0\ni1 := i0 - -40\nwrite i1\n";
-/// let answer = run(program, &[0; 32], 2, 3, &ours);
+/// let answer = run(program, &[0; 64], 2, 3, &ours);
 /// assert_eq!(answer, ended(42, 11));
 ///
 /// // Quotients are rounded toward zero. By 0 there is none: the second step ends the run.
 /// let program = b"read i0\ni1 := -7 / i0\nwrite i1\n";
-/// let answer = run(program, &[0; 32], 2, 3, &ours);
+/// let answer = run(program, &[0; 64], 2, 3, &ours);
 /// assert_eq!(answer, ended(-3, 32));
-/// let answer = run(program, &[0; 32], 0, 3, &ours);
+/// let answer = run(program, &[0; 64], 0, 3, &ours);
 /// assert_eq!(answer, Ok(Outcome::Fault { statement: 2, steps: 2, ticks: 28 }));
 ///
 /// // Where every statement takes 100 ticks, the same run takes 200.
-/// let answer = run(program, &[0; 32], 0, 3, &Prices([100; 11]));
+/// let answer = run(program, &[0; 64], 0, 3, &Prices([100; 11]));
 /// assert_eq!(answer, Ok(Outcome::Fault { statement: 2, steps: 2, ticks: 200 }));
 ///
 /// // i24 counts the passes: what one keeps is handed to the next.
 /// let program = b"read i0\ni24 := i24 + 1\nwrite i0\n";
-/// let mut values = [0; 32];
+/// let mut values = [0; 64];
 /// for pass in 1..=3 {
 ///     match run(program, &values, 5, 3, &ours) {
 ///         Ok(Outcome::Ended { value: 5, steps: 3, kept, ticks: 11 }) => {
@@ -757,10 +760,10 @@ pub fn run(
 ///
 /// The parts of a condition are its operators and atoms, counted at each occurrence, in the order
 /// in which their text ends; of those that end together the inner comes first. Part k, counted from
-/// 0, fills words 4k to 4k+3 of the table: bit b of word w of those four is statement 64w+b+1, and
+/// 0, fills words 16k to 16k+15 of the table: bit b of word w of these is statement 64w+b+1, and
 /// bits beyond the program's statements are 0. All further words of the table are kept.
 ///
-/// Takes at most 256 KiB of stack, most where brackets stand within one another.
+/// Takes at most 384 KiB of stack, most where brackets stand within one another.
 ///
 /// With p and q for conditions, a condition is `!p`, `(p & q)`, `(p | q)`; one of `EX AX EF AF EG AG
 /// EY AY ER AR EM AM`, a space, p; `E[p U q]`, `A[p U q]`, the same with `W`, `S` or `B`; or an atom:
@@ -825,12 +828,12 @@ pub fn tabulate(program: &[u8], condition: &[u8], table: &mut [u64]) -> Result<T
 /// by byte 10.
 ///
 /// Parts spelled alike, byte for byte, in one line or in several, get one table; tables are filled in
-/// the order in which their parts first end. Table k, counted from 0, fills words 4k to 4k+3, as part k
+/// the order in which their parts first end. Table k, counted from 0, fills words 16k to 16k+15, as part k
 /// does in [`tabulate`]. All further words are kept. Each line reads as it would by itself: its
 /// table, its number of parts, how many statements satisfy it and the first of them are what
 /// [`tabulate`] answers for that line alone.
 ///
-/// Takes at most 256 KiB of stack, most where brackets stand within one another.
+/// Takes at most 384 KiB of stack, most where brackets stand within one another.
 ///
 /// # Errors
 ///
@@ -901,7 +904,7 @@ pub fn review(program: &[u8], conditions: &[u8], table: &mut [u64]) -> Result<Re
 /// which the number is lower, or the only one that has a number; at the unit's one from which he can't
 /// force it either; the one behind `goto` where both serve alike. `write` stays where it is.
 ///
-/// The table is filled as by [`tabulate`]. Takes at most 256 KiB of stack, most where brackets stand
+/// The table is filled as by [`tabulate`]. Takes at most 384 KiB of stack, most where brackets stand
 /// within one another.
 ///
 /// # Errors
@@ -965,7 +968,7 @@ pub fn force(
 
 /// Judges each mark of a list on a program, and writes the program with the accepted marks made.
 ///
-/// A list has zero to 256 lines, each ended by byte 10: `n: mark(rm, X, E)`, `n: mark(rpl, X, A)` or
+/// A list has zero to 1,024 lines, each ended by byte 10: `n: mark(rm, X, E)`, `n: mark(rpl, X, A)` or
 /// `n: mark(cse, T, E)`, in any order.
 ///
 /// - `rm` fits where statement n is `X := E`. Where E is `A / B`, B must be a constant other than 0.
@@ -990,7 +993,7 @@ pub fn force(
 /// for which `E[!def(x) U use(x)]` is true at that statement of the given program. The others may differ,
 /// and so may the ticks of all runs.
 ///
-/// Takes at most 128 KiB of stack.
+/// Takes at most 384 KiB of stack.
 ///
 /// # Errors
 ///
@@ -1060,7 +1063,7 @@ pub fn force(
 ///
 /// // Before statement 3, i1 isn't live, and differs; i0, which 3 uses, is the same.
 /// use rewrites::{run, Outcome, Prices};
-/// let left = |program: &[u8]| match run(program, &[0; 32], 6, 2, &Prices::ours()) {
+/// let left = |program: &[u8]| match run(program, &[0; 64], 6, 2, &Prices::ours()) {
 ///     Ok(Outcome::Spent { statement: 3, values, .. }) => (values[0], values[1]),
 ///     other => panic!("{:?}", other),
 /// };
@@ -1103,7 +1106,7 @@ pub fn judge(
 /// Tells the price of each statement of a program in ticks, before and after the accepted marks of a list
 /// are made, and the totals, by the table of prices that is handed in. The list is judged as by [`judge`].
 ///
-/// Takes at most 128 KiB of stack.
+/// Takes at most 512 KiB of stack.
 ///
 /// # Errors
 ///
@@ -1206,12 +1209,12 @@ pub fn mark_line(marks: &[u8], line: u32) -> Result<Range<usize>, Refusal> {
 /// Makes the list of a program's readers and writers: for each variable the statements that define it,
 /// `read X` or `X := E`, and those that use it.
 ///
-/// Words 8v to 8v+3 of the list are the statements that define variable v, words 8v+4 to 8v+7 those that
-/// use it, as the rows of `def` and `use` are in [`tabulate`]: bit b of word w of those four is statement
+/// Words 32v to 32v+15 of the list are the statements that define variable v, words 32v+16 to 32v+31 those
+/// that use it, as the rows of `def` and `use` are in [`tabulate`]: bit b of word w of those sixteen is statement
 /// 64w+b+1, and bits beyond the program's statements are 0. `i24` to `i31`, which the unit keeps from one
 /// pass to the next, are used at `write` too. Words from [`LIST_WORDS`] on are kept.
 ///
-/// Takes at most 64 KiB of stack.
+/// Takes at most 256 KiB of stack.
 ///
 /// # Errors
 ///
@@ -1232,7 +1235,7 @@ pub fn mark_line(marks: &[u8], line: u32) -> Result<Range<usize>, Refusal> {
 /// // The unit keeps i24.
 /// assert_eq!((answer.defined[24], answer.used[24]), (0, 1));
 ///
-/// assert_eq!(list(program, &mut words[..255]), Err(Refusal::Buffer));
+/// assert_eq!(list(program, &mut words[..2047]), Err(Refusal::Buffer));
 /// # Ok::<(), Refusal>(())
 /// ```
 pub fn list(program: &[u8], list: &mut [u64]) -> Result<Listing, Refusal> {
@@ -1258,12 +1261,12 @@ pub fn list(program: &[u8], list: &mut [u64]) -> Result<Listing, Refusal> {
 /// Brings a list of readers and writers up to date after a round of marks.
 ///
 /// The marks are judged on the program as [`judge`] does. For each statement whose text the accepted ones
-/// change, its bit in each of the 64 sets is written as in the list of the new program, set or cleared.
+/// change, its bit in each of the 128 sets is written as in the list of the new program, set or cleared.
 /// Every other bit, and every word from [`LIST_WORDS`] on, is kept. So a list that was the given program's
 /// is then the new program's, word for word; one that was wrong at a statement that stays as it was is
 /// wrong there still. The counts are those of the words as they are then.
 ///
-/// Takes at most 128 KiB of stack.
+/// Takes at most 384 KiB of stack.
 ///
 /// # Errors
 ///
@@ -1327,14 +1330,14 @@ pub fn relist(program: &[u8], marks: &[u8], list: &mut [u64]) -> Result<Listing,
 /// same statement after the same steps; one of the creeper program has its new number, and the sum of the
 /// steps less 1.
 ///
-/// Takes at most 128 KiB of stack.
+/// Takes at most 256 KiB of stack.
 ///
 /// # Errors
 ///
 /// [`Refusal::Buffer`] for a text of under [`TEXT_BYTES`] bytes, whatever the programs hold; else, for the
 /// road program, [`Refusal::Misspelled`], [`Refusal::LineCount`], [`Refusal::Placement`] or
 /// [`Refusal::Target`]; else one of these for the creeper program; else [`Refusal::JoinedCount`] where
-/// N+M-1 is above 256. The text is then kept. The refusal doesn't tell which program is meant: it is the
+/// N+M-1 is above 1,024. The text is then kept. The refusal doesn't tell which program is meant: it is the
 /// road program exactly where that by itself is refused, with [`run`] for one.
 ///
 /// ```
@@ -1358,7 +1361,7 @@ pub fn relist(program: &[u8], marks: &[u8], list: &mut [u64]) -> Result<Listing,
 ///
 /// // 3 steps write 5, and with 5 in i1 and as input 4 steps write 25: 3 + 4 - 1 steps.
 /// let ended = Outcome::Ended { value: 25, steps: 6, ticks: 25, kept: [0; KEPT] };
-/// assert_eq!(run(joined, &[0; 32], 4, 100, &Prices::ours())?, ended);
+/// assert_eq!(run(joined, &[0; 64], 4, 100, &Prices::ours())?, ended);
 ///
 /// // The creeper program isn't taken: its `write` is missing.
 /// assert_eq!(join(road, b"read i2\nskip\n", &mut text), Err(Refusal::Placement));
@@ -1390,16 +1393,16 @@ pub fn join(road: &[u8], creeper: &[u8], text: &mut [u8]) -> Result<Joined, Refu
 /// place, 1 to [`PLACES`]. [`Stages`] holds such bytes.
 ///
 /// Stages are eight places in the first [`STAGES_BYTES`] bytes, place k, counted from 1, in the
-/// [`PLACE_BYTES`] bytes from 8,750(k-1) on: the name, filled up with zero bytes to [`NAME_BYTES`], the
+/// [`PLACE_BYTES`] bytes from 35,000(k-1) on: the name, filled up with zero bytes to [`NAME_BYTES`], the
 /// text's length in 2 bytes, low byte first, then the text. So zero bytes are eight empty places.
 ///
 /// A place is empty where its name isn't 1 to 8 lower-case letters with zero bytes behind them, its length
-/// is above 8,740, its text isn't a program, or an earlier place that isn't empty has its name. A name that
+/// is above 34,990, its text isn't a program, or an earlier place that isn't empty has its name. A name that
 /// a place holds is known, and is replaced there; a new name takes the first empty place. Name, length and
 /// text are written; the other bytes of the place, all other places and all bytes from [`STAGES_BYTES`] on
 /// are kept.
 ///
-/// Takes at most 64 KiB of stack.
+/// Takes at most 256 KiB of stack.
 ///
 /// # Errors
 ///
@@ -1457,7 +1460,7 @@ pub fn keep(stages: &mut [u8], name: &[u8], program: &[u8]) -> Result<u32, Refus
 /// wrote, runs as the returned program does, from every start, as long as the stage wasn't replaced in
 /// between. Other stages may have been kept. The values of variables, and the ticks, may differ.
 ///
-/// Takes at most 64 KiB of stack.
+/// Takes at most 256 KiB of stack.
 ///
 /// # Errors
 ///
@@ -1474,7 +1477,7 @@ pub fn keep(stages: &mut [u8], name: &[u8], program: &[u8]) -> Result<u32, Refus
 ///
 /// keep(&mut stages, b"given", b"read i0\nwrite i0\n")?;
 /// assert_eq!(go_back(&stages, b"given", &mut text)?, 17);
-/// assert_eq!(go_back(&stages, b"given", &mut text[..8703]), Err(Refusal::Buffer));
+/// assert_eq!(go_back(&stages, b"given", &mut text[..34_815]), Err(Refusal::Buffer));
 /// # Ok::<(), Refusal>(())
 /// ```
 pub fn go_back(stages: &[u8], name: &[u8], text: &mut [u8]) -> Result<u32, Refusal> {

@@ -54,22 +54,22 @@ fn outputs_are_as_by_the_oracle() {
     missing.report();
 }
 
-/// The longest report: 256 marks that name the largest number, on 254 of the longest statement.
+/// The longest report: 1,024 marks that name the largest number, on 1,022 of the longest statement.
 #[test]
 fn the_longest_report_is_printed() {
     let program = built("check_rewrites");
-    let longest = "i31 := -2147483648 + -2147483648\n".repeat(254);
-    let given = format!("read i31\n{longest}write i31\n");
-    let marks = "2147483647: mark(rm, i31, -2147483648 + -2147483648)\n".repeat(256);
+    let longest = "i63 := -2147483648 + -2147483648\n".repeat(1_022);
+    let given = format!("read i63\n{longest}write i63\n");
+    let marks = "2147483647: mark(rm, i63, -2147483648 + -2147483648)\n".repeat(1_024);
     let files = [("given", given.as_bytes()), ("marks", marks.as_bytes())];
     let output = in_folder(&program, "longest", &files, &[]);
     assert!(output.status.success());
     assert_eq!(shown(&output.stderr), "");
-    let numbers = "2147483647 11\n".repeat(256);
-    let inner: String = (2..256).map(|n| format!("{n} 3 3\n")).collect();
-    let prices = format!("1 4 4\n{inner}256 4 4\n770\n770\n0\n");
-    let expected = format!("marks 256 accepted 0\n{numbers}{given}{prices}");
-    assert_eq!((given.len(), prices.len(), expected.len()), (8_401, 1_950, 13_956));
+    let numbers = "2147483647 11\n".repeat(1_024);
+    let inner: String = (2..1_024).map(|n| format!("{n} 3 3\n")).collect();
+    let prices = format!("1 4 4\n{inner}1024 4 4\n3074\n3074\n0\n");
+    let expected = format!("marks 1024 accepted 0\n{numbers}{given}{prices}");
+    assert_eq!((given.len(), prices.len(), expected.len()), (33_745, 8_121, 56_224));
     assert_eq!(shown(&output.stdout), shown(expected.as_bytes()));
     assert!(output.stdout == expected.as_bytes());
     assert!(output.stdout == check::check(given.as_bytes(), marks.as_bytes()));
@@ -144,16 +144,16 @@ fn the_prices_of_p_are_printed() {
     assert!(output.stdout == check::check(P.as_bytes(), marks.as_bytes()));
 }
 
-/// The longest numbers of ours: 254 divisions, all dropped but those that may fault.
+/// The longest numbers of ours: 1,022 divisions, all dropped but those that may fault.
 #[test]
 fn the_largest_totals_are_printed() {
     let program = built("check_rewrites");
-    let given = format!("read i0\n{}write i0\n", "i1 := 7 / 2\n".repeat(254));
-    let marks: String = (2..256).map(|n| format!("{n}: mark(rm, i1, 7 / 2)\n")).collect();
+    let given = format!("read i0\n{}write i0\n", "i1 := 7 / 2\n".repeat(1_022));
+    let marks: String = (2..1_024).map(|n| format!("{n}: mark(rm, i1, 7 / 2)\n")).collect();
     let files = [("given", given.as_bytes()), ("marks", marks.as_bytes())];
     let output = in_folder(&program, "totals", &files, &[]);
     let printed = String::from_utf8_lossy(&output.stdout);
-    assert!(printed.ends_with("\n255 24 1\n256 4 4\n6104\n262\n5842\n"));
+    assert!(printed.ends_with("\n1023 24 1\n1024 4 4\n24536\n1030\n23506\n"));
     assert!(output.stdout == check::check(given.as_bytes(), marks.as_bytes()));
 }
 

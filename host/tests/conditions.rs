@@ -4,9 +4,34 @@
 mod common;
 
 use common::{lines, refused_programs, shown, text, P};
-use rewrites::{raw, tabulate, Refusal, Tabulated, TABLE_WORDS};
+use rewrites::{raw, tabulate, Refusal, Tabulated, PART_WORDS, STATEMENTS, TABLE_WORDS};
 
 const ALL: u64 = u64::MAX;
+
+type Row = [u64; PART_WORDS];
+
+/// A row that begins with these words, the others being 0.
+fn row(words: &[u64]) -> Row {
+    let mut row = [0; PART_WORDS];
+    row[..words.len()].copy_from_slice(words);
+    row
+}
+
+/// A row of one statement.
+fn only(n: usize) -> Row {
+    let mut row = [0; PART_WORDS];
+    row[(n - 1) / 64] = 1 << ((n - 1) % 64);
+    row
+}
+
+/// The row of the statements up to one, or from one on.
+fn up_to(n: usize) -> Row {
+    (1..=n).map(only).fold([0; PART_WORDS], |row, one| std::array::from_fn(|w| row[w] | one[w]))
+}
+
+fn from(n: usize) -> Row {
+    up_to(n - 1).map(|word| !word)
+}
 
 // What is lent
 
@@ -28,7 +53,7 @@ fn unchanged(room: usize) -> Lent {
 fn filled(room: usize, words: &[u64], satisfied: u32, first: u32) -> Lent {
     let mut lent = unchanged(room);
     lent.words[GUARD..GUARD + words.len()].copy_from_slice(words);
-    lent.places[1..4].copy_from_slice(&[words.len() as u32 / 4, satisfied, first]);
+    lent.places[1..4].copy_from_slice(&[(words.len() / PART_WORDS) as u32, satisfied, first]);
     lent
 }
 
@@ -71,14 +96,14 @@ fn assert_number(condition: &[u8], expected: u8) {
     assert_eq!(number(P.as_bytes(), condition, TABLE_WORDS), expected, "{}", shown(condition));
 }
 
-/// Each part's four words are these; the answer is that of the last part. All else is kept.
-fn assert_rows(program: &[u8], condition: &str, rows: &[[u64; 4]]) {
+/// Each part's words are these; the answer is that of the last part. All else is kept.
+fn assert_rows(program: &[u8], condition: &str, rows: &[Row]) {
     let whole = rows[rows.len() - 1];
     let statements: Vec<usize> =
-        (0..256).filter(|s| whole[s / 64] >> (s % 64) & 1 == 1).map(|s| s + 1).collect();
+        (0..STATEMENTS).filter(|s| whole[s / 64] >> (s % 64) & 1 == 1).map(|s| s + 1).collect();
     let satisfied = statements.len() as u32;
     let first = statements.first().map_or(0, |&s| s as u32);
-    for room in [TABLE_WORDS, TABLE_WORDS + 1, 1000] {
+    for room in [TABLE_WORDS, TABLE_WORDS + 1, 3_000] {
         let expected = (0, filled(room, &rows.concat(), satisfied, first));
         assert_eq!(lend(program, condition.as_bytes(), room), expected, "{}", condition);
     }
@@ -89,7 +114,7 @@ fn assert_rows(program: &[u8], condition: &str, rows: &[[u64; 4]]) {
 
 /// The rows of a program of up to 64 statements: word 0 of each, the others being 0.
 fn assert_words(program: &[u8], condition: &str, words: &[u64]) {
-    let rows: Vec<[u64; 4]> = words.iter().map(|&word| [word, 0, 0, 0]).collect();
+    let rows: Vec<Row> = words.iter().map(|&word| row(&[word])).collect();
     assert_rows(program, condition, &rows);
 }
 
@@ -175,6 +200,7 @@ fn atoms_that_p_lacks_match_nothing() {
         "node(0)",
         "node(9)",
         "node(300)",
+        "node(1025)",
         "node(2147483647)",
         "stmt(if i0 goto 300 else 0)",
         "stmt(if i0 goto 8 else 6)",
@@ -189,8 +215,11 @@ fn atoms_that_p_lacks_match_nothing() {
         "stmt(skip)",
         "def(i9)",
         "def(i31)",
+        "def(i63)",
         "use(i9)",
         "use(i23)",
+        "use(i32)",
+        "use(i63)",
     ];
     for atom in nowhere {
         assert_words(P.as_bytes(), atom, &[0]);
@@ -476,29 +505,30 @@ fn an_unreachable_definition_stops_a_copy() {
 
 #[test]
 fn bits_beyond_the_statements_are_0() {
-    let last = |n: usize, word: u64| -> [u64; 4] {
-        let mut row = [0; 4];
-        row[(n - 1) / 64] = word;
-        row
-    };
     // n, and the row of all statements.
     let programs = [
-        (2, [3, 0, 0, 0]),
-        (63, [ALL >> 1, 0, 0, 0]),
-        (64, [ALL, 0, 0, 0]),
-        (65, [ALL, 1, 0, 0]),
-        (128, [ALL, ALL, 0, 0]),
-        (129, [ALL, ALL, 1, 0]),
-        (192, [ALL, ALL, ALL, 0]),
-        (193, [ALL, ALL, ALL, 1]),
-        (255, [ALL, ALL, ALL, ALL >> 1]),
-        (256, [ALL; 4]),
+        (2, row(&[3])),
+        (63, row(&[ALL >> 1])),
+        (64, row(&[ALL])),
+        (65, row(&[ALL, 1])),
+        (128, row(&[ALL, ALL])),
+        (129, row(&[ALL, ALL, 1])),
+        (192, row(&[ALL, ALL, ALL])),
+        (193, row(&[ALL, ALL, ALL, 1])),
+        (255, row(&[ALL, ALL, ALL, ALL >> 1])),
+        (256, row(&[ALL; 4])),
+        (257, row(&[ALL, ALL, ALL, ALL, 1])),
+        (511, row(&[ALL, ALL, ALL, ALL, ALL, ALL, ALL, ALL >> 1])),
+        (512, row(&[ALL; 8])),
+        (960, row(&[ALL; 15])),
+        (1_023, up_to(1_023)),
+        (1_024, [ALL; PART_WORDS]),
     ];
     for (n, all) in programs {
         let program = text(&lines(n));
-        let none = [0; 4];
-        let exit = last(n, 1 << ((n - 1) % 64));
-        let others = [0, 1, 2, 3].map(|w| all[w] ^ exit[w]);
+        let none = [0; PART_WORDS];
+        let exit = only(n);
+        let others = std::array::from_fn(|w| all[w] ^ exit[w]);
         assert_rows(&program, "true", &[all]);
         assert_rows(&program, "false", &[none]);
         assert_rows(&program, "exit", &[exit]);
@@ -510,7 +540,7 @@ fn bits_beyond_the_statements_are_0() {
         assert_rows(&program, "!EX false", &[none, none, all]);
         // There is one path from each statement, to the end, and one back, to the start.
         assert_rows(&program, "AF exit", &[exit, all]);
-        assert_rows(&program, "AR entry", &[[1, 0, 0, 0], all]);
+        assert_rows(&program, "AR entry", &[only(1), all]);
         assert_rows(&program, "EG true", &[all, all]);
         assert_rows(&program, "AM true", &[all, all]);
         assert_rows(&program, "AG false", &[none, none]);
@@ -521,20 +551,28 @@ fn bits_beyond_the_statements_are_0() {
 }
 
 #[test]
-fn a_straight_program_of_256_statements() {
-    let program = text(&lines(256));
-    // 64 is bit 63 of word 0, 65 bit 0 of word 1.
-    let answer = |condition: &str| tabulate(&program, condition.as_bytes(), &mut [0; 256]);
-    assert_rows(&program, "ER node(64)", &[[1 << 63, 0, 0, 0], [1 << 63, ALL, ALL, ALL]]);
-    assert_eq!(answer("ER node(64)"), Ok(Tabulated { parts: 2, satisfied: 193, first: 64 }));
-    assert_rows(&program, "AF node(65)", &[[0, 1, 0, 0], [ALL, 1, 0, 0]]);
-    assert_eq!(answer("AF node(65)"), Ok(Tabulated { parts: 2, satisfied: 65, first: 1 }));
-    assert_rows(&program, "EX node(129)", &[[0, 0, 1, 0], [0, 1 << 63, 0, 0]]);
-    assert_eq!(answer("EX node(129)"), Ok(Tabulated { parts: 2, satisfied: 1, first: 128 }));
-    assert_rows(&program, "AY node(192)", &[[0, 0, 1 << 63, 0], [0, 0, 0, 1]]);
-    assert_eq!(answer("AY node(192)"), Ok(Tabulated { parts: 2, satisfied: 1, first: 193 }));
-    assert_eq!(answer("stmt(skip)"), Ok(Tabulated { parts: 1, satisfied: 254, first: 2 }));
-    assert_eq!(answer("EX entry"), Ok(Tabulated { parts: 2, satisfied: 0, first: 0 }));
+fn a_straight_program_of_1024_statements() {
+    let program = text(&lines(1_024));
+    let told = |condition: &str, satisfied: u32, first: u32| {
+        let answer = tabulate(&program, condition.as_bytes(), &mut [0; TABLE_WORDS]);
+        let parts = condition.split(' ').count() as u32;
+        assert_eq!(answer, Ok(Tabulated { parts, satisfied, first }), "{condition}");
+    };
+    // 64 is bit 63 of word 0, 65 bit 0 of word 1; 256 is the last bit of word 3, 257 the first of word 4.
+    assert_eq!((only(64)[0], only(65)[1], only(256)[3], only(257)[4]), (1 << 63, 1, 1 << 63, 1));
+    for n in [63, 64, 65, 128, 129, 192, 255, 256, 257, 512, 513, 960, 961, 1_022, 1_023] {
+        let one = n as u32;
+        assert_rows(&program, &format!("ER node({n})"), &[only(n), from(n)]);
+        told(&format!("ER node({n})"), 1_025 - one, one);
+        assert_rows(&program, &format!("AF node({n})"), &[only(n), up_to(n)]);
+        told(&format!("AF node({n})"), one, 1);
+        assert_rows(&program, &format!("EX node({n})"), &[only(n), only(n - 1)]);
+        told(&format!("EX node({n})"), 1, one - 1);
+        assert_rows(&program, &format!("AY node({n})"), &[only(n), only(n + 1)]);
+        told(&format!("AY node({n})"), 1, one + 1);
+    }
+    told("stmt(skip)", 1_022, 2);
+    told("EX entry", 0, 0);
 }
 
 // What the unit keeps
@@ -547,7 +585,7 @@ fn use_of_i24_to_i31_holds_at_write() {
     // 4 uses i24, and 3 comes to it; 2 defines it.
     assert_words(&program, "E[!def(i24) U use(i24)]", &[2, 13, 8, 12]);
     assert_words(&program, "E[!def(i23) U use(i23)]", &[0, 15, 0, 0]);
-    for x in 0..32 {
+    for x in 0..64 {
         // 3 uses i0, and 4 uses i1 and what is kept.
         let word = match x {
             0 => 4,
@@ -590,13 +628,15 @@ fn use_of_what_is_kept_holds_at_a_write_that_nothing_comes_to() {
 }
 
 #[test]
-fn use_of_what_is_kept_holds_at_the_256th_statement() {
-    let program = text(&lines(256));
+fn use_of_what_is_kept_holds_at_the_1024th_statement() {
+    let program = text(&lines(1_024));
     for x in [24, 27, 31] {
-        assert_rows(&program, &format!("use(i{})", x), &[[0, 0, 0, 1 << 63]]);
-        assert_rows(&program, &format!("EF use(i{})", x), &[[0, 0, 0, 1 << 63], [ALL; 4]]);
+        assert_rows(&program, &format!("use(i{})", x), &[only(1_024)]);
+        assert_rows(&program, &format!("EF use(i{})", x), &[only(1_024), [ALL; PART_WORDS]]);
     }
-    assert_rows(&program, "use(i23)", &[[0; 4]]);
+    for x in [23, 32, 56, 63] {
+        assert_rows(&program, &format!("use(i{})", x), &[[0; PART_WORDS]]);
+    }
 }
 
 #[test]
@@ -680,7 +720,7 @@ fn conditions_of_marks_on_a_sum_that_is_computed_twice() {
     // The longest.
     let e = "-2147483648 + -2147483648";
     let longest = format!(
-        "AY A[((!def(i31) & trans({e})) & !entry) B (stmt(i31 := {e}) & trans({e}))]",
+        "AY A[((!def(i63) & trans({e})) & !entry) B (stmt(i63 := {e}) & trans({e}))]",
         e = e
     );
     assert_eq!(longest.len(), 141);
@@ -731,7 +771,7 @@ fn a_condition_is_read_to_its_end_before_its_parts_are_counted() {
 #[test]
 fn bytes_up_to_1024_are_taken_and_1025_refused_6() {
     // No atom is true anywhere in P. 25 of 36 bytes and 24 operators of 5: 1,020 bytes, 49 parts.
-    for atom in ["stmt(i31 := 2147483647 + 2147483647)", "stmt(i31 := -214748364 + -214748364)"] {
+    for atom in ["stmt(i63 := 2147483647 + 2147483647)", "stmt(i63 := -214748364 + -214748364)"] {
         let tree = "(".repeat(24) + atom + &format!(" & {})", atom).repeat(24);
         assert_eq!(tree.len(), 1020);
         assert_words(P.as_bytes(), &tree, &[0; 49]);
@@ -767,7 +807,7 @@ const MISSPELLED: &[&str] = &[
     "E[true U true U true]", "E[(true) U true]", "E[true & true]", "X[true U true]", "node",
     "node()", "node(", "node(1", "node(01)", "node(-1)", "node(+1)", "node(i1)", "node( 1)",
     "node(1 )", "node (1)", "node(2147483648)", "node(99999999999999999999)", "def()", "def(0)",
-    "def(i32)", "def(i00)", "def(i01)", "def(i1", "def(i 1)", "use(7)", "use(i)", "use(i1 )",
+    "def(i64)", "def(i063)", "def(i00)", "def(i01)", "def(i1", "def(i 1)", "use(7)", "use(i)", "use(i1 )",
     "use(I1)", "stmt()", "stmt(", "stmt", "stmt(skip", "stmt(skip )", "stmt(skip\n)", "stmt( skip)",
     "stmt(i0:=1)", "stmt(i0 := )", "stmt(i0 := -0)", "stmt(i0 := 1 % 2)", "stmt(i0 := 1 + 2 + 3)",
     "stmt(i0 := 1/2)", "stmt(i0 := 1 / 2 / 3)", "stmt(i0 := / 2)", "stmt(i0 := 1 /)", "stmt(i0 / 2 := 1)",
@@ -775,7 +815,7 @@ const MISSPELLED: &[&str] = &[
     "stmt(i0 := 2147483648)", "stmt(1 := i0)", "stmt(if i0 goto 1)", "stmt(if 1 goto 2 else 3)",
     "stmt(true)", "stmt(if i0 goto 2 else 2147483648)", "stmt(read 1)", "stmt(write)", "trans()",
     "trans(i0 := 1)", "trans(true)", "trans(i0+i1)", "trans(i0 +)", "trans(i0 & i1)",
-    "trans(i0 + i1 + i2)", "trans(i32)", "trans(skip)", "entry()", "exit(1)", "true()",
+    "trans(i0 + i1 + i2)", "trans(i64)", "trans(skip)", "entry()", "exit(1)", "true()",
 ];
 
 #[test]
@@ -882,11 +922,11 @@ fn a_prefix_or_a_condition_and_a_byte_is_misspelled() {
 // The order of refusals, and what they keep
 
 #[test]
-fn a_table_under_256_words_is_refused_1() {
-    for room in [0, 1, 4, 128, 255] {
+fn a_table_under_1024_words_is_refused_1() {
+    for room in [0, 1, 16, 256, 1_023] {
         assert_eq!(number(P.as_bytes(), b"exit", room), 1);
     }
-    for room in [256, 257, 1000] {
+    for room in [1_024, 1_025, 3_000] {
         assert_eq!(number(P.as_bytes(), b"exit", room), 0);
     }
 }
@@ -909,10 +949,10 @@ fn refusals_come_in_order_and_change_nothing_lent() {
     let conditions = [vec![good], refused_conditions()].concat();
     for (condition, of_condition) in &conditions {
         assert_number(condition, *of_condition);
-        assert_eq!(number(P.as_bytes(), condition, 255), 1);
+        assert_eq!(number(P.as_bytes(), condition, TABLE_WORDS - 1), 1);
         for (program, of_program) in refused_programs() {
             assert_eq!(number(&program, condition, TABLE_WORDS), of_program);
-            assert_eq!(number(&program, condition, 255), 1);
+            assert_eq!(number(&program, condition, TABLE_WORDS - 1), 1);
             assert_eq!(number(&program, condition, 0), 1);
         }
     }
@@ -920,16 +960,17 @@ fn refusals_come_in_order_and_change_nothing_lent() {
 
 #[test]
 fn a_second_call_keeps_what_the_first_filled_beyond_its_parts() {
-    let mut table = vec![7; 300];
+    let mut table = vec![7; 1_100];
+    let rows = |words: [u64; 4]| words.map(|word| row(&[word])).concat();
     let longer = b"E[!def(i2) U use(i2)]";
     let answer = tabulate(P.as_bytes(), longer, &mut table);
     assert_eq!(answer, Ok(Tabulated { parts: 4, satisfied: 4, first: 4 }));
-    assert_eq!(table[..16], [4, 0, 0, 0, 251, 0, 0, 0, 8, 0, 0, 0, 120, 0, 0, 0]);
-    assert_eq!(table[16..], [7; 284]);
+    assert_eq!(table[..64], rows([4, 251, 8, 120]));
+    assert!(table[64..].iter().all(|&word| word == 7));
     let answer = tabulate(P.as_bytes(), b"EX exit", &mut table);
     assert_eq!(answer, Ok(Tabulated { parts: 2, satisfied: 3, first: 5 }));
-    assert_eq!(table[..16], [128, 0, 0, 0, 208, 0, 0, 0, 8, 0, 0, 0, 120, 0, 0, 0]);
-    assert_eq!(table[16..], [7; 284]);
+    assert_eq!(table[..64], rows([128, 208, 8, 120]));
+    assert!(table[64..].iter().all(|&word| word == 7));
     assert_eq!(tabulate(P.as_bytes(), b"EX", &mut table), Err(Refusal::ConditionMisspelled));
-    assert_eq!(table[..8], [128, 0, 0, 0, 208, 0, 0, 0]);
+    assert_eq!(table[..64], rows([128, 208, 8, 120]));
 }

@@ -77,7 +77,7 @@ fn ending(output: &str) -> Option<&'static str> {
 const ENDINGS: [&str; 4] = ["ended, kept zeros", "ended, kept others", "spent", "fault"];
 
 /// The bytes of a step's line in which no variable differs: the step, the statement's number, and two statements.
-const STEP_BYTES: usize = 7 + 2 + 3 + 2 + 32 + 2 + 32;
+const STEP_BYTES: usize = 7 + 2 + 4 + 2 + 32 + 2 + 32;
 
 const OF_PROGRAMS: [&str; 5] = ["result", "refused 2", "refused 3", "refused 4", "refused 5"];
 const OF_STARTS: [&str; 2] = ["refused start", "refused 15"];
@@ -163,8 +163,8 @@ fn faults_are_printed() {
     let runner = built("run_program");
     let given = b"read i0\ni1 := 10 / i0\nwrite i1\n";
     let outcome = "fault at 2 steps 2 ticks 28\n";
-    let trace = "      1    1  read i0                           i0 = 0\n\
-                 \x20     2    2  i1 := 10 / i0                   \n";
+    let trace = "      1     1  read i0                           i0 = 0\n\
+                 \x20     2     2  i1 := 10 / i0                   \n";
     for (start, is_traced) in [("0\n2\n7\n7\n", false), ("0\n1000000\n7\n7\n", true)] {
         let files = [("given", &given[..]), ("start", start.as_bytes())];
         let words: &[&str] = if is_traced { &["given", "start", "trace"] } else { &[] };
@@ -187,10 +187,10 @@ fn faults_are_compared() {
     let given = b"read i0\ni3 := 9\ni1 := 0\ni2 := i0 / i1\nwrite i2\n";
     let list = b"2: mark(rm, i3, 9)\n4: mark(rpl, i1, 0)\n";
     let expected = "marks 2 accepted 2\n\
-         \x20     1    1  read i0                           read i0                         \n\
-         \x20     2    2  i3 := 9                           skip                              i3 9 0\n\
-         \x20     3    3  i1 := 0                           i1 := 0                           i3 9 0\n\
-         \x20     4    4  i2 := i0 / i1                     i2 := i0 / 0                      i3 9 0\n\
+         \x20     1     1  read i0                           read i0                         \n\
+         \x20     2     2  i3 := 9                           skip                              i3 9 0\n\
+         \x20     3     3  i1 := 0                           i1 := 0                           i3 9 0\n\
+         \x20     4     4  i2 := i0 / i1                     i2 := i0 / 0                      i3 9 0\n\
          given fault at 4 steps 4 ticks 32\nrewritten fault at 4 steps 4 ticks 31\n\
          statements, outcome and live variables agree\n";
     for budget in ["4", "1000000"] {
@@ -201,23 +201,23 @@ fn faults_are_compared() {
     }
 }
 
-/// The longest line of a fault: three digits of a statement, after the most steps.
+/// The longest line of a fault: four digits of a statement, after the most steps.
 #[test]
 fn the_longest_fault_is_printed() {
     let (runner, comparer) = (built("run_program"), built("compare_runs"));
     // `read`, 249,999 rounds of 4 steps, then `if` to the division.
     let mut given =
-        "read i0\nif i0 goto 3 else 254\ni0 := i0 - 1\nskip\nif i1 goto 2 else 2\n".to_string();
-    given += &"skip\n".repeat(249);
+        "read i0\nif i0 goto 3 else 1022\ni0 := i0 - 1\nskip\nif i1 goto 2 else 2\n".to_string();
+    given += &"skip\n".repeat(1_017);
     given += "i1 := i1 / i0\nwrite i1\n";
     let (given, start) = (given.as_bytes(), b"249999\n1000000\n-2147483648\n");
-    let expected = "fault at 255 steps 1000000 ticks 2500022\n";
+    let expected = "fault at 1023 steps 1000000 ticks 2500022\n";
     assert_eq!(desk::run(given, start, false), expected);
     let files = [("given", given), ("start", &start[..])];
     same(0, &printed(&runner, "longest_fault", &files, &[]), expected, &files);
     let start = b"0\n1000000\n";
     let expected = desk::compare(given, b"", start);
-    let line = "fault at 255 steps 4 ticks 32\n";
+    let line = "fault at 1023 steps 4 ticks 32\n";
     assert!(expected.ends_with(&format!(
         "given {line}rewritten {line}statements, outcome and live variables agree\n"
     )));
@@ -234,11 +234,11 @@ fn sums_are_compared() {
     let given = b"read i0\ni1 := i0 + 1\ni2 := i0 + 1\ni3 := i2\nwrite i2\n";
     let list = b"2: mark(rm, i1, i0 + 1)\n4: mark(rm, i3, i2)\n3: mark(cse, i1, i0 + 1)\n";
     let expected = "marks 3 accepted 2\n\
-         \x20     1    1  read i0                           read i0                         \n\
-         \x20     2    2  i1 := i0 + 1                      i1 := i0 + 1                    \n\
-         \x20     3    3  i2 := i0 + 1                      i2 := i1                        \n\
-         \x20     4    4  i3 := i2                          skip                              i3 6 0\n\
-         \x20     5    5  write i2                          write i2                          i3 6 0\n\
+         \x20     1     1  read i0                           read i0                         \n\
+         \x20     2     2  i1 := i0 + 1                      i1 := i0 + 1                    \n\
+         \x20     3     3  i2 := i0 + 1                      i2 := i1                        \n\
+         \x20     4     4  i3 := i2                          skip                              i3 6 0\n\
+         \x20     5     5  write i2                          write i2                          i3 6 0\n\
          given ended 6 steps 5 ticks 16 kept 0 0 0 0 0 0 0 0\n\
          rewritten ended 6 steps 5 ticks 14 kept 0 0 0 0 0 0 0 0\n\
          statements, outcome and live variables agree\n";
@@ -257,12 +257,12 @@ fn what_differs_is_dead() {
     let given = b"read i0\ni1 := i0 + 1\ni5 := i0 * 2\ni2 := i0 + 1\ni5 := i2\nwrite i5\n";
     let list = b"4: mark(cse, i1, i0 + 1)\n3: mark(rm, i5, i0 * 2)\n";
     let expected = "marks 2 accepted 2\n\
-         \x20     1    1  read i0                           read i0                         \n\
-         \x20     2    2  i1 := i0 + 1                      i1 := i0 + 1                    \n\
-         \x20     3    3  i5 := i0 * 2                      skip                              i5 8 0\n\
-         \x20     4    4  i2 := i0 + 1                      i2 := i1                          i5 8 0\n\
-         \x20     5    5  i5 := i2                          i5 := i2                        \n\
-         \x20     6    6  write i5                          write i5                        \n\
+         \x20     1     1  read i0                           read i0                         \n\
+         \x20     2     2  i1 := i0 + 1                      i1 := i0 + 1                    \n\
+         \x20     3     3  i5 := i0 * 2                      skip                              i5 8 0\n\
+         \x20     4     4  i2 := i0 + 1                      i2 := i1                          i5 8 0\n\
+         \x20     5     5  i5 := i2                          i5 := i2                        \n\
+         \x20     6     6  write i5                          write i5                        \n\
          given ended 5 steps 6 ticks 25 kept 0 0 0 0 0 0 0 0\n\
          rewritten ended 5 steps 6 ticks 16 kept 0 0 0 0 0 0 0 0\n\
          statements, outcome and live variables agree\n";
@@ -301,13 +301,13 @@ fn the_ticks_of_p_are_printed() {
 /// The longest number of ticks: a division each step but the jumps.
 #[test]
 fn the_most_ticks_are_printed() {
-    let (runner, divisions) = (built("run_program"), "i1 := 7 / 2\n".repeat(253));
+    let (runner, divisions) = (built("run_program"), "i1 := 7 / 2\n".repeat(1_021));
     let given = format!("read i0\n{divisions}if i0 goto 2 else 2\nwrite i1\n");
     let files = [("given", given.as_bytes()), ("start", &b"0\n1000000\n"[..])];
-    // 3,937 rounds of 254 statements between `read` and a division.
-    let ticks = 4 + 3_937 * (253 * 24 + 3) + 24;
+    // 978 rounds of 1,022 statements between `read` and 483 divisions.
+    let ticks = 4 + 978 * (1_021 * 24 + 3) + 483 * 24;
     let output = printed(&runner, "most_ticks", &files, &[]);
-    assert!(output.starts_with(format!("spent at 3 ticks {ticks}\ni0 = 0\n").as_bytes()));
+    assert!(output.starts_with(format!("spent at 485 ticks {ticks}\ni0 = 0\n").as_bytes()));
     assert!(output == desk::run(given.as_bytes(), b"0\n1000000\n", false).as_bytes());
 }
 
@@ -340,23 +340,23 @@ fn the_ticks_of_both_runs_are_printed() {
 
 // The longest statement fills its column
 
-/// 253 of the longest statement and a copy, between `read` and `write`.
+/// 1,021 of the longest statement and a copy, between `read` and `write`.
 fn longest_program() -> Vec<u8> {
-    let longest = "i31 := -2147483648 + -2147483648\n".repeat(253);
-    format!("read i30\n{longest}i10 := i31\nwrite i10\n").into_bytes()
+    let longest = "i63 := -2147483648 + -2147483648\n".repeat(1_021);
+    format!("read i62\n{longest}i10 := i63\nwrite i10\n").into_bytes()
 }
 
 #[test]
 fn the_longest_statements_are_viewed() {
     let (viewer, given) = (built("view_condition"), longest_program());
-    let conditions = ["stmt(i31 := -2147483648 + -2147483648)", "EX (trans(-1) & use(i31))"];
+    let conditions = ["stmt(i63 := -2147483648 + -2147483648)", "EX (trans(-1) & use(i63))"];
     for condition in conditions {
         let files = [("given", &given[..]), ("condition", condition.as_bytes())];
         let expected = desk::view(&given, condition.as_bytes());
         same(0, &printed(&viewer, "longest_view", &files, &[]), &expected, &files);
-        assert!(expected.contains("\n  2  i31 := -2147483648 + -2147483648  "));
+        assert!(expected.contains("\n   2  i63 := -2147483648 + -2147483648  "));
     }
-    // The most that is printed: 64 parts over 256 of the longest rows.
+    // The most that is printed: 64 parts over 1,024 of the longest rows.
     let condition = "!".repeat(63) + "true";
     let files = [("given", &given[..]), ("condition", condition.as_bytes())];
     let expected = desk::view(&given, condition.as_bytes());
@@ -366,7 +366,7 @@ fn the_longest_statements_are_viewed() {
 #[test]
 fn the_longest_statements_are_traced() {
     let (runner, given) = (built("run_program"), longest_program());
-    let start = format!("-2147483648\n256\n{}", "-2147483648\n".repeat(32));
+    let start = format!("-2147483648\n1024\n{}", "-2147483648\n".repeat(64));
     let files = [("given", &given[..]), ("start", start.as_bytes())];
     let expected = desk::run(&given, start.as_bytes(), true);
     same(
@@ -375,25 +375,25 @@ fn the_longest_statements_are_traced() {
         &expected,
         &files,
     );
-    assert!(expected.contains("\n      2    2  i31 := -2147483648 + -2147483648  i31 = 0\n"));
+    assert!(expected.contains("\n      2     2  i63 := -2147483648 + -2147483648  i63 = 0\n"));
 }
 
 #[test]
 fn the_longest_statements_are_compared() {
     let (comparer, given) = (built("compare_runs"), longest_program());
-    let start = format!("-2147483648\n256\n{}", "-2147483648\n".repeat(32));
+    let start = format!("-2147483648\n1024\n{}", "-2147483648\n".repeat(64));
     // All but the last of the sums are dropped.
     let list: String =
-        (2..=255).map(|n| format!("{n}: mark(rm, i31, -2147483648 + -2147483648)\n")).collect();
+        (2..=1_023).map(|n| format!("{n}: mark(rm, i63, -2147483648 + -2147483648)\n")).collect();
     for marks in ["", &list] {
         let files =
             [("given", &given[..]), ("marks", marks.as_bytes()), ("start", start.as_bytes())];
         let expected = desk::compare(&given, marks.as_bytes(), start.as_bytes());
         same(0, &printed(&comparer, "longest_compare", &files, &[]), &expected, &files);
-        let longest = "i31 := -2147483648 + -2147483648";
+        let longest = "i63 := -2147483648 + -2147483648";
         let row = match marks {
-            "" => format!("\n      2    2  {longest}  {longest}\n"),
-            _ => format!("\n      2    2  {longest}  {:32}  i31 0 -2147483648\n", "skip"),
+            "" => format!("\n      2     2  {longest}  {longest}\n"),
+            _ => format!("\n      2     2  {longest}  {:32}  i63 0 -2147483648\n", "skip"),
         };
         assert!(expected.contains(&row));
     }
@@ -403,7 +403,7 @@ fn the_longest_statements_are_compared() {
 #[test]
 fn the_longest_endings_are_printed() {
     let (runner, comparer) = (built("run_program"), built("compare_runs"));
-    let least = "-2147483648\n".repeat(32);
+    let least = "-2147483648\n".repeat(64);
     let kept = format!("kept{}\n", " -2147483648".repeat(8));
     // `read`, 249,999 rounds of 4 steps, then `if`, `skip` and `write`.
     let given =

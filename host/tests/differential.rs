@@ -25,9 +25,12 @@ use oracle::pricing::{self, in_force, kind, Prices, KIND_NAMES, OURS};
 use oracle::program::{is_kept, Expression, Operand, Operator, Program, Statement, LARGEST, LEAST};
 use oracle::review::{self, Reviewed, MOST_TABLES};
 use oracle::stages::{self, Stage};
-use rewrites::{raw, Outcome as Answer, Prices as Table, FIRST_KEPT, KEPT, KINDS, MOST_STEPS, VARIABLES};
-use rewrites::{LIST_WORDS, REVIEW_LINES, REVIEW_WORDS, STATEMENTS, TABLE_WORDS, TEXT_BYTES};
+use rewrites::{
+    raw, Outcome as Answer, Prices as Table, FIRST_KEPT, KEPT, KINDS, MOST_STEPS, VARIABLES,
+};
+use rewrites::{LIST_WORDS, MARKS, PART_WORDS, REVIEW_LINES, REVIEW_WORDS, STATEMENTS};
 use rewrites::{PLACES, PLACE_BYTES, STAGES_BYTES, UNFORCED, VERDICT_BYTES};
+use rewrites::{TABLE_WORDS, TEXT_BYTES};
 use std::cmp::Ordering;
 use std::ops::Range;
 
@@ -51,9 +54,36 @@ fn escaped(text: &[u8]) -> String {
 // Texts
 
 /// Every 16th case goes through the classes of one kind in turn, so that all are met.
-fn in_turn(case: u64, kind: u64, classes: std::ops::RangeInclusive<usize>) -> Option<usize> {
-    let count = (classes.end() - classes.start() + 1) as u64;
-    (case % 16 == kind).then_some(classes.start() + (case / 16 % count) as usize)
+fn in_turn(case: u64, kind: u64, classes: impl IntoIterator<Item = usize>) -> Option<usize> {
+    let classes: Vec<usize> =
+        if case % 16 == kind { classes.into_iter().collect() } else { Vec::new() };
+    (!classes.is_empty()).then(|| classes[(case / 16) as usize % classes.len()])
+}
+
+/// The numbers of statements, from the fewest on, that are to be met: all up to both sides of 256, those beside each further word of a
+/// row, and the last.
+fn sizes_from(fewest: usize) -> impl Iterator<Item = usize> {
+    let words = (320..STATEMENTS).step_by(64).flat_map(|size| size - 1..=size + 1);
+    (fewest..=260).chain(words).chain(STATEMENTS - 2..=STATEMENTS)
+}
+
+/// The numbers of marks that are to be met.
+fn mark_counts() -> impl Iterator<Item = usize> {
+    (0..=66).chain(250..=260).chain([511, 512, 513]).chain(MARKS - 2..=MARKS)
+}
+
+/// A number of marks: each in turn, now and then around the most, and else up to this.
+fn mark_count(random: &mut Random, case: u64, usual: usize) -> usize {
+    in_turn(case, EACH_COUNT, mark_counts()).unwrap_or_else(|| match random.below(300) {
+        0 => random.between(MARKS - 1, MARKS + 2),
+        1..=5 => random.between(250, 258),
+        _ => random.below(usual),
+    })
+}
+
+/// Texts of no, one or too many lines.
+fn miscounted(random: &mut Random) -> Vec<u8> {
+    b"read i0\n".repeat(random.pick(&[0, 1, STATEMENTS + 1]))
 }
 
 const EACH_SIZE: u64 = 0;
@@ -65,8 +95,13 @@ fn is_whole(case: u64) -> bool {
     case % 8 == 0
 }
 
+/// The sizes of programs, as they tell them.
+fn sizes_of_programs() -> impl Iterator<Item = u32> {
+    sizes_from(2).map(|size| size as u32)
+}
+
 fn program(random: &mut Random, case: u64) -> Program {
-    let size = in_turn(case, EACH_SIZE, 2..=256).unwrap_or_else(|| generate::size(random));
+    let size = in_turn(case, EACH_SIZE, sizes_from(2)).unwrap_or_else(|| generate::size(random));
     generate::program(random, size)
 }
 
@@ -487,7 +522,7 @@ fn runs_are_as_by_the_oracle() {
     let mut faults = Tally::new("faults of run", FAULTS);
     let mut quotients = Tally::new("divisions of programs run", QUOTIENTS);
     let mut values = Tally::new("values", [i32::MIN, -1, 0, 1, i32::MAX]);
-    let mut sizes = Tally::new("sizes of programs run", 2..=256);
+    let mut sizes = Tally::new("sizes of programs run", sizes_of_programs());
     let mut kinds = Tally::new("statements of programs run", STATEMENT_KINDS);
     let edges = [0, 1, 2, MOST_STEPS - 1, MOST_STEPS, MOST_STEPS + 1, 1 << 31, u32::MAX];
     let mut budgets = Tally::new("budgets", edges);
@@ -713,7 +748,7 @@ fn condition_text(random: &mut Random, program: &Program) -> Vec<u8> {
 #[test]
 fn tables_are_as_by_the_oracle() {
     let mut refusals = Tally::new("refusals of tabulate", 1..=8);
-    let mut sizes = Tally::new("sizes of programs tabulated", 2..=256);
+    let mut sizes = Tally::new("sizes of programs tabulated", sizes_of_programs());
     let mut counts = Tally::new("parts of a condition", 1..=64);
     let mut kinds = Tally::new("parts tabulated", PART_KINDS);
     let mut taken = Tally::new("bytes of a condition taken", [4, 1_022, 1_023, 1_024]);
@@ -903,7 +938,7 @@ fn shared_by(conditions: &[Condition]) -> Vec<&'static str> {
 #[test]
 fn reviews_are_as_by_the_oracle() {
     let mut refusals = Tally::new("refusals of review", [1, 2, 3, 4, 5, 16, 6, 7, 8, 17]);
-    let mut sizes = Tally::new("sizes of programs reviewed", 2..=256);
+    let mut sizes = Tally::new("sizes of programs reviewed", sizes_of_programs());
     let mut tables = Tally::new("tables of a review", 1..=MOST_TABLES as u32);
     let mut lines = Tally::new("lines of a review", 1..=REVIEW_LINES as u32);
     let mut kinds = Tally::new("parts reviewed", PART_KINDS);
@@ -1190,17 +1225,23 @@ fn runs_stay(random: &mut Random, case: &str, given: &[u8], new: &[u8], runs: &m
     }
 }
 
-/// The statements at which each variable is live, by the library's review of `E[!def(x) U use(x)]` for all of them.
-fn live_by_review(program: &[u8]) -> Vec<[u64; 4]> {
-    let lines: String = (0..VARIABLES).map(|x| format!("E[!def(i{x}) U use(i{x})]\n")).collect();
-    let mut table = [0; REVIEW_WORDS];
-    let reviewed = rewrites::review(program, lines.as_bytes(), &mut table).expect("it is taken");
-    assert_eq!(reviewed.tables as usize, 4 * VARIABLES);
-    let row = |x: usize| {
-        let first = 4 * reviewed.table_of[x] as usize;
-        std::array::from_fn(|word| table[first + word])
-    };
-    (0..VARIABLES).map(row).collect()
+/// The statements at which each variable is live, by the library's reviews of `E[!def(x) U use(x)]` for all of them.
+fn live_by_review(program: &[u8]) -> Vec<[u64; PART_WORDS]> {
+    let mut rows = Vec::new();
+    for first in (0..VARIABLES).step_by(REVIEW_LINES) {
+        let variables = first..VARIABLES.min(first + REVIEW_LINES);
+        let line = |x: usize| format!("E[!def(i{x}) U use(i{x})]\n");
+        let lines: String = variables.clone().map(line).collect();
+        let mut table = [0; REVIEW_WORDS];
+        let answer = rewrites::review(program, lines.as_bytes(), &mut table);
+        let reviewed = answer.expect("it is taken");
+        assert_eq!(reviewed.tables as usize, 4 * variables.len());
+        for &of_line in &reviewed.table_of[..variables.len()] {
+            let first = PART_WORDS * of_line as usize;
+            rows.push(std::array::from_fn(|word| table[first + word]));
+        }
+    }
+    rows
 }
 
 /// Before each step, from the first to the run's end or 300 steps on, given and rewritten program hold the same value of
@@ -1443,7 +1484,7 @@ fn mark_on_division(program: &Program, mark: &Mark, verdict: u8) -> Option<&'sta
         let answer = condition::tabulate(&program.text(), &condition, &mut table);
         let (parts, _, _) = answer.expect("a published condition is taken");
         let at = mark.number as usize - 1;
-        table[4 * (parts as usize - 1) + at / 64] >> (at % 64) & 1 == 0
+        table[PART_WORDS * (parts as usize - 1) + at / 64] >> (at % 64) & 1 == 0
     };
     Some(match (mark.kind, b, verdict) {
         (Kind::Remove(_), Operand::Constant(LEAST..), 0) => "rm by a constant below zero accepted",
@@ -1490,8 +1531,8 @@ fn judgements_are_as_by_the_oracle_and_keep_runs() {
     let mut refusals = Tally::new("refusals of judge", [1, 2, 3, 4, 5, 9, 10]);
     let mut verdicts = Tally::new("verdicts", [0, 11, 12, 13, 18, 14]);
     let mut accepted = Tally::new("marks accepted", MARK_KINDS);
-    let mut sizes = Tally::new("sizes of programs judged", 2..=256);
-    let mut counts = Tally::new("marks of a list", 0..=256);
+    let mut sizes = Tally::new("sizes of programs judged", sizes_of_programs());
+    let mut counts = Tally::new("marks of a list", mark_counts());
     let mut lists = Tally::new("lists accepted", ["not at all", "in part", "whole"]);
     let mut verdict_rooms = rooms("bytes of verdicts", VERDICT_BYTES);
     let mut text_rooms = rooms("bytes of new text", TEXT_BYTES);
@@ -1521,16 +1562,13 @@ fn judgements_are_as_by_the_oracle_and_keep_runs() {
     let mut of_rpl = Constants::new("constants of rpl");
     let mut of_cse = Constants::new("constants of cse");
     let mut otherwise = Tally::new("rm of -40 at 0 - 40, or the other way round", [13]);
-    let mut too_small = Tally::new("bytes of new text refused 1", [8_192, 8_703]);
-    let mut enough = Tally::new("bytes of new text that do", [8_704, 8_705]);
+    let mut too_small = Tally::new("bytes of new text refused 1", [8_704, 34_815]);
+    let mut enough = Tally::new("bytes of new text that do", [34_816, 34_817]);
     for (case, mut random) in cases("judge") {
         let random = &mut random;
         let program = program(random, case);
         let mut text = program.text();
-        let count = in_turn(case, EACH_COUNT, 0..=256).unwrap_or(match random.below(30) {
-            0 => random.between(250, 258),
-            _ => random.below(program.count() as usize + 4).min(40),
-        });
+        let count = mark_count(random, case, (program.count() as usize + 4).min(40));
         let mut list = marks::text(&generate::marks(random, &program, count));
         let mut rooms = (VERDICT_BYTES, TEXT_BYTES);
         let (mut program_sign, mut mark_sign, mut reuse) = (None, None, None);
@@ -1552,9 +1590,9 @@ fn judgements_are_as_by_the_oracle_and_keep_runs() {
                 0 | 1 => rooms.0 = room(random, VERDICT_BYTES),
                 2 | 3 => rooms.1 = room(random, TEXT_BYTES),
                 4 | 5 => rooms = (room(random, VERDICT_BYTES), room(random, TEXT_BYTES)),
-                // Enough before constants below zero.
-                6 => rooms.1 = random.between(8_192, TEXT_BYTES - 1),
-                7 => rooms.1 = 8_192,
+                // Enough for 256 statements.
+                6 => rooms.1 = random.between(8_704, TEXT_BYTES - 1),
+                7 => rooms.1 = 8_704,
                 _ => {}
             }
         }
@@ -1732,8 +1770,8 @@ const SAVED_TICKS: [&str; 7] =
 #[test]
 fn reports_are_as_by_the_oracle() {
     let mut refusals = Tally::new("refusals of report", [2, 3, 4, 5, 9, 10]);
-    let mut sizes = Tally::new("sizes of programs priced", 2..=256);
-    let mut counts = Tally::new("marks of a list that is priced", 0..=256);
+    let mut sizes = Tally::new("sizes of programs priced", sizes_of_programs());
+    let mut counts = Tally::new("marks of a list that is priced", mark_counts());
     let mut priced = Tally::new("statements priced", KIND_NAMES);
     let mut cheaper = Tally::new("prices that change", CHEAPER);
     let mut saved = Tally::new("ticks saved", SAVED_TICKS);
@@ -1746,10 +1784,7 @@ fn reports_are_as_by_the_oracle() {
         let random = &mut random;
         let program = program(random, case);
         let mut text = program.text();
-        let count = in_turn(case, EACH_COUNT, 0..=256).unwrap_or(match random.below(30) {
-            0 => random.between(250, 258),
-            _ => random.below(program.count() as usize + 4).min(40),
-        });
+        let count = mark_count(random, case, (program.count() as usize + 4).min(40));
         let mut list = marks::text(&generate::marks(random, &program, count));
         if !is_whole(case) {
             match random.below(40) {
@@ -2035,12 +2070,12 @@ fn game_if(program: &Program, his: &[u8], forced: &Forced, at: usize) -> Vec<&'s
 #[test]
 fn games_are_as_by_the_oracle() {
     let mut refusals = Tally::new("refusals of force", [1, 2, 3, 4, 5, 22, 6, 7, 8]);
-    let mut sizes = Tally::new("sizes of programs played", 2..=256);
-    let mut names = Tally::new("names of a list", 0..=32);
+    let mut sizes = Tally::new("sizes of programs played", sizes_of_programs());
+    let mut names = Tally::new("names of a list", (0..=8).chain([VARIABLES]));
     let mut wrong_lists = Tally::new("wrong lists", WrongDriver::ALL.map(Shown));
     let mut before_7 = Tally::new("wrong lists before a misspelled condition", [22]);
     let mut numbers = Tally::new("numbers", 0..=40);
-    let mut largest = Tally::new("numbers of size", ["255", "over 100", "N - 1"]);
+    let mut largest = Tally::new("numbers of size", ["255", "over 255", "1,023", "N - 1"]);
     let mut ifs = Tally::new("ifs", GAME_IFS);
     let mut wins = Tally::new("statements forced", ["none", "some", "all"]);
     let mut rooms = rooms("words of a table of a game", TABLE_WORDS);
@@ -2049,7 +2084,8 @@ fn games_are_as_by_the_oracle() {
     let mut of_conditions = damages("damages of goals");
     for (case, mut random) in cases("force") {
         let random = &mut random;
-        let size = in_turn(case, EACH_SIZE, 2..=256).unwrap_or_else(|| generate::size(random));
+        let size =
+            in_turn(case, EACH_SIZE, sizes_from(2)).unwrap_or_else(|| generate::size(random));
         let program = match random.below(8) {
             0 | 1 => generate::program(random, size),
             // A chain, at times with an `if` in it.
@@ -2103,11 +2139,11 @@ fn games_are_as_by_the_oracle() {
                     game_if(&program, &his, &forced, at).into_iter().for_each(|kind| ifs.met(kind));
                     if let Some(number) = forced.number[at] {
                         numbers.met(number);
-                        if number == 255 {
-                            largest.met("255");
-                        }
-                        if number > 100 {
-                            largest.met("over 100");
+                        match number {
+                            255 => largest.met("255"),
+                            1_023 => largest.met("1,023"),
+                            256.. => largest.met("over 255"),
+                            _ => {}
                         }
                         if number as usize == count - 1 {
                             largest.met("N - 1");
@@ -2198,7 +2234,7 @@ fn line_near(random: &mut Random, count: usize) -> u32 {
         1 => count.saturating_sub(1) as u32,
         2 => count as u32,
         3 => count as u32 + 1,
-        4 => within + (1 << 8),
+        4 => within + MARKS as u32,
         5 => within + (1 << 16),
         6 => within + (1 << 31),
         7 => u32::MAX,
@@ -2226,7 +2262,7 @@ const LINE_KINDS: [&str; 6] =
 #[test]
 fn lines_of_marks_are_as_by_the_oracle() {
     let mut refusals = Tally::new("refusals of mark_line", [9, 10]);
-    let mut counts = Tally::new("marks of a list with lines", 0..=256);
+    let mut counts = Tally::new("marks of a list with lines", mark_counts());
     let mut kinds = Tally::new("lines asked for", LINE_KINDS);
     let mut largest = Tally::new("largest line asked for", [u32::MAX]);
     let mut lengths = Tally::new("bytes of a line", 19..=37);
@@ -2238,10 +2274,7 @@ fn lines_of_marks_are_as_by_the_oracle() {
         // The marks needn't fit, so the program is small.
         let size = random.between(2, 12);
         let program = generate::program(random, size);
-        let count = in_turn(case, EACH_COUNT, 0..=256).unwrap_or(match random.below(30) {
-            0 => random.between(250, 258),
-            _ => random.below(16),
-        });
+        let count = mark_count(random, case, 16);
         let mut list = marks::text(&generate::marks(random, &program, count));
         let (mut sign, mut reuse) = (None, None);
         if !is_whole(case) {
@@ -2463,7 +2496,7 @@ fn bits_met(
 ) {
     let mut afresh = [0; LIST_WORDS];
     listing::list(&new.text(), &mut afresh).expect("new text is taken");
-    for at in 0..256 {
+    for at in 0..STATEMENTS {
         let is_changed = program.statements().get(at) != new.statements().get(at);
         for x in 0..VARIABLES as u8 {
             for set in [Set::Defining, Set::Using] {
@@ -2486,7 +2519,7 @@ fn bits_met(
 #[test]
 fn lists_are_as_by_the_oracle() {
     let mut refusals = Tally::new("refusals of list", [1, 2, 3, 4, 5]);
-    let mut sizes = Tally::new("sizes of programs listed", 2..=256);
+    let mut sizes = Tally::new("sizes of programs listed", sizes_of_programs());
     let mut kinds = Tally::new("statements of programs listed", STATEMENT_KINDS);
     let mut list_rooms = rooms("words of lists", LIST_WORDS);
     let mut damages = damages("damages of programs listed");
@@ -2539,8 +2572,8 @@ fn lists_are_as_by_the_oracle() {
 #[test]
 fn lists_brought_up_to_date_are_as_by_the_oracle() {
     let mut refusals = Tally::new("refusals of relist", [1, 2, 3, 4, 5, 9, 10]);
-    let mut sizes = Tally::new("sizes of programs relisted", 2..=256);
-    let mut counts = Tally::new("marks of a round", 0..=256);
+    let mut sizes = Tally::new("sizes of programs relisted", sizes_of_programs());
+    let mut counts = Tally::new("marks of a round", mark_counts());
     let mut kinds = Tally::new("lists before a round", LIST_KINDS);
     let mut changes = Tally::new("marks accepted in a round", LIST_CHANGES);
     let mut bits = Tally::new("bits of a list", WRITTEN_BITS);
@@ -2552,10 +2585,7 @@ fn lists_brought_up_to_date_are_as_by_the_oracle() {
         let random = &mut random;
         let program = program(random, case);
         let mut text = program.text();
-        let count = in_turn(case, EACH_COUNT, 0..=256).unwrap_or(match random.below(30) {
-            0 => random.between(250, 258),
-            _ => random.below(program.count() as usize + 4).min(40),
-        });
+        let count = mark_count(random, case, (program.count() as usize + 4).min(40));
         let mut list = marks::text(&generate::marks(random, &program, count));
         let mut room_of = LIST_WORDS;
         if !is_whole(case) {
@@ -2595,7 +2625,7 @@ fn lists_brought_up_to_date_are_as_by_the_oracle() {
             let of = |program: &Program| *program.statement(mark.number).expect("it has it");
             changes.met(list_change(&of(&program), &of(&new)));
         }
-        if case % 16 < 2 {
+        if case % 64 < 2 {
             bits_met(&program, &new, &words, &after, &mut bits);
         }
         if kind == "right" {
@@ -2757,10 +2787,11 @@ const BAD_TEXTS: [&str; 4] = ["neither", "road", "creeper", "both"];
 fn joins_are_as_by_the_oracle_and_run_in_turn() {
     let mut refusals = Tally::new("refusals of join", [1, 2, 3, 4, 5, 21]);
     let mut of_creepers = Tally::new("refusals of the creeper text", [2, 3, 4, 5]);
-    let mut late = Tally::new("creepers refused beside a road of 256", [2, 3, 4, 5]);
+    let mut late =
+        Tally::new("creepers refused beside a road of the most statements", [2, 3, 4, 5]);
     let mut bad = Tally::new("texts that aren't taken", BAD_TEXTS);
-    let mut sizes = Tally::new("statements of joined programs", 3..=256);
-    let mut over = Tally::new("statements of pairs refused 21", 257..=259);
+    let mut sizes = Tally::new("statements of joined programs", sizes_from(3).map(|n| n as u32));
+    let mut over = Tally::new("statements of pairs refused 21", 1_025..=1_027);
     let mut text_rooms = rooms("bytes of joined text", TEXT_BYTES);
     let mut of_roads = damages("damages of roads");
     let mut damaged_creepers = damages("damages of creepers");
@@ -2769,7 +2800,7 @@ fn joins_are_as_by_the_oracle_and_run_in_turn() {
     for (case, mut random) in cases("join") {
         let random = &mut random;
         let mut pair = generate::road_and_creeper(random);
-        if let Some(size) = in_turn(case, EACH_SIZE, 3..=256) {
+        if let Some(size) = in_turn(case, EACH_SIZE, sizes_from(3)) {
             let first = random.between(2, size - 1);
             pair = [first, size + 1 - first].map(|size| generate::program(random, size));
         }
@@ -2779,13 +2810,13 @@ fn joins_are_as_by_the_oracle_and_run_in_turn() {
             match random.below(40) {
                 0..=3 => damaged(random, &mut road, &mut of_roads),
                 4 => road = generate::statement_soup(random),
-                5 => road = b"read i0\n".repeat(random.pick(&[0, 1, 257])),
+                5 => road = miscounted(random),
                 _ => {}
             }
             match random.below(40) {
                 0..=3 => damaged(random, &mut creeper, &mut damaged_creepers),
                 4 => creeper = generate::statement_soup(random),
-                5 => creeper = b"read i0\n".repeat(random.pick(&[0, 1, 257])),
+                5 => creeper = miscounted(random),
                 _ => {}
             }
             if random.below(20) == 0 {
@@ -2795,7 +2826,7 @@ fn joins_are_as_by_the_oracle_and_run_in_turn() {
         // Too many statements, if the creeper were taken.
         if case % 50 == 7 {
             let refused = refused_programs();
-            road = generate::program(random, 256).text();
+            road = generate::program(random, STATEMENTS).text();
             creeper = refused[(case / 50) as usize % refused.len()].0.clone();
         }
         text_rooms.met(bytes);
@@ -2810,7 +2841,7 @@ fn joins_are_as_by_the_oracle_and_run_in_turn() {
                 refusals.met(number);
                 if let [Ok(road), Err(_)] = &taken {
                     of_creepers.met(number);
-                    if road.count() == 256 {
+                    if road.count() as usize == STATEMENTS {
                         late.met(number);
                     }
                 }
@@ -2992,8 +3023,10 @@ fn stages_are_as_by_the_oracle() {
     let mut stages_rooms = rooms("bytes of stages", STAGES_BYTES);
     let mut text_rooms = rooms("bytes of returned text", TEXT_BYTES);
     let mut of_programs = damages("damages of programs kept");
-    let mut texts =
-        Tally::new("programs kept", ["of over 255 bytes", "of 256 lines", "shorter than the last"]);
+    let mut texts = Tally::new(
+        "programs kept",
+        ["of over 255 bytes", "of 1,024 lines", "shorter than the last"],
+    );
     for (case, mut random) in cases("stages").filter(|(case, _)| case % STAGES_FOR == 0) {
         let (case, random) = (case / STAGES_FOR, &mut random);
         let mut content = generate::stages(random);
@@ -3013,7 +3046,7 @@ fn stages_are_as_by_the_oracle() {
         let mut program = generate::kept_program(random).text();
         let (mut bytes, mut text_bytes) = (STAGES_BYTES, TEXT_BYTES);
         if case % 100 == 0 {
-            program = generate::program(random, 256).text();
+            program = generate::program(random, STATEMENTS).text();
         }
         if !is_whole(case) {
             if random.below(6) == 0 {
@@ -3024,7 +3057,7 @@ fn stages_are_as_by_the_oracle() {
             match random.below(40) {
                 0..=3 => damaged(random, &mut program, &mut of_programs),
                 4 => program = generate::statement_soup(random),
-                5 => program = b"read i0\n".repeat(random.pick(&[0, 1, 257])),
+                5 => program = miscounted(random),
                 6 => {
                     program = random
                         .pick(&[
@@ -3078,8 +3111,8 @@ fn stages_are_as_by_the_oracle() {
                 if program.len() > 255 {
                     texts.met("of over 255 bytes");
                 }
-                if program.iter().filter(|&&byte| byte == b'\n').count() == 256 {
-                    texts.met("of 256 lines");
+                if program.iter().filter(|&&byte| byte == b'\n').count() == STATEMENTS {
+                    texts.met("of 1,024 lines");
                 }
                 let was = known.iter().find(|stage| stage.name == name);
                 if was.map_or(false, |stage| stage.text.len() > program.len()) {
@@ -3391,11 +3424,11 @@ fn every_variable_at_every_write_is_as_by_the_oracle() {
     verdicts.report();
 }
 
-/// 254 lines of the longest statement between `read` and `write`.
+/// 1,022 lines of the longest statement between `read` and `write`.
 fn longest_program() -> Vec<u8> {
-    let longest = "i31 := -2147483648 + -2147483648\n";
-    let text = format!("read i31\n{}write i31\n", longest.repeat(254));
-    assert_eq!((longest.len(), text.len()), (33, 8_401));
+    let longest = "i63 := -2147483648 + -2147483648\n";
+    let text = format!("read i63\n{}write i63\n", longest.repeat(1_022));
+    assert_eq!((longest.len(), text.len()), (33, 33_745));
     text.into_bytes()
 }
 
@@ -3403,34 +3436,34 @@ fn longest_program() -> Vec<u8> {
 fn the_longest_programs_are_as_by_the_oracle() {
     let random = &mut Random::new(5);
     let longest = longest_program();
-    for budget in [0, 1, 255, 256, 1_000] {
+    for budget in [0, 1, 255, 256, 1_023, 1_024, 2_000] {
         assert!(run_agrees(random, "longest", &longest, 7, budget).is_ok());
     }
-    let conditions = ["stmt(i31 := -2147483648 + -2147483648)", "AY trans(-2147483648 - i31)"];
+    let conditions = ["stmt(i63 := -2147483648 + -2147483648)", "AY trans(-2147483648 - i63)"];
     for condition in conditions {
         let text = condition.as_bytes();
         assert!(table_agrees(random, condition, &longest, text, TABLE_WORDS).is_ok());
     }
     // Without marks it is given back, where there is room.
-    for room in [8_192, 8_400, 8_401, 8_402, 8_703, 8_704, 8_705] {
+    for room in [8_704, 33_744, 33_745, 33_746, 34_815, 34_816, 34_817] {
         match judgement_agrees(random, "longest", &longest, b"", (VERDICT_BYTES, room)) {
-            Ok(judged) => assert!(room >= 8_704 && judged.text == longest),
-            Err(number) => assert!(room < 8_704 && number == 1),
+            Ok(judged) => assert!(room >= 34_816 && judged.text == longest),
+            Err(number) => assert!(room < 34_816 && number == 1),
         }
     }
     // Each line but the first two and the last becomes the longest.
-    let copied = "i31 := i30 + i30\n".repeat(253);
-    let given = format!("read i31\ni30 := -2147483648\n{copied}write i31\n").into_bytes();
-    let mark = |n| format!("{n}: mark(rpl, i30, -2147483648)\n");
-    let list: String = (3..=255).map(mark).collect();
+    let copied = "i63 := i62 + i62\n".repeat(1_021);
+    let given = format!("read i63\ni62 := -2147483648\n{copied}write i63\n").into_bytes();
+    let mark = |n| format!("{n}: mark(rpl, i62, -2147483648)\n");
+    let list: String = (3..=1_023).map(mark).collect();
     let rooms = (VERDICT_BYTES, TEXT_BYTES);
     let judged = judgement_agrees(random, "longest", &given, list.as_bytes(), rooms);
     let judged = judged.expect("the list is taken");
-    assert_eq!(judged.verdicts, [0; 253]);
-    assert_eq!(judged.text.len(), 9 + 19 + 253 * 33 + 10);
+    assert_eq!(judged.verdicts, [0; 1_021]);
+    assert_eq!(judged.text.len(), 9 + 19 + 1_021 * 33 + 10);
     assert_eq!(judged.text[28..], longest[9 + 33..]);
     // A line more, or a byte, is one too many.
-    let longer = [&longest[..longest.len() - 10], b"skip\nwrite i31\n"].concat();
+    let longer = [&longest[..longest.len() - 10], b"skip\nwrite i63\n"].concat();
     assert_eq!(run_agrees(random, "longest", &longer, 7, 9), Err(3));
     let longer = String::from_utf8_lossy(&longest).replacen("8 +", "80 +", 1).into_bytes();
     assert_eq!(run_agrees(random, "longest", &longer, 7, 9), Err(2));
@@ -3555,7 +3588,7 @@ fn prices_edited_by_one_byte_are_as_by_the_oracle() {
 fn lists_edited_by_one_byte_are_as_by_the_oracle() {
     let random = &mut Random::new(10);
     let mut numbers = Tally::new("answers to edited lists", [0, 22]);
-    for list in [&b"i0 i31"[..], b"i1", b"i2 i20 i0", b""] {
+    for list in [&b"i0 i63"[..], b"i1", b"i2 i20 i0", b""] {
         for driver in edits(list) {
             let answer =
                 game_agrees(random, "edit", P.as_bytes(), &driver, b"use(i2)", TABLE_WORDS);

@@ -80,11 +80,11 @@ fn games_on_p() {
 #[test]
 fn lists_that_name_the_same_ifs() {
     let p: Vec<&str> = P.lines().collect();
-    let all: Vec<String> = (0..32).rev().map(|x| format!("i{x}")).collect();
-    for driver in ["i0 i1", "i1 i0", "i31 i0 i9", &all.join(" ")] {
+    let all: Vec<String> = (0..64).rev().map(|x| format!("i{x}")).collect();
+    for driver in ["i0 i1", "i1 i0", "i63 i0 i9", &all.join(" ")] {
         assert_eq!(told(&p, driver, "exit"), told(&p, "i0", "exit"), "{driver}");
     }
-    for driver in ["i1", "i1 i2 i3", "i31"] {
+    for driver in ["i1", "i1 i2 i3", "i63"] {
         assert_eq!(told(&p, driver, "exit"), told(&p, "", "exit"), "{driver}");
     }
 }
@@ -114,16 +114,17 @@ fn games_of_two_players() {
 
 #[test]
 fn a_chain_of_the_most_statements() {
-    let numbers: Vec<u32> = (0..256).rev().collect();
-    assert_told(&lines(256), "", "exit", &numbers, &[]);
-    assert_told(&lines(256), "i0 i1", "exit", &numbers, &[]);
+    let numbers: Vec<u32> = (0..1_024).rev().collect();
+    assert_eq!(numbers[0], 1_023);
+    assert_told(&lines(1_024), "", "exit", &numbers, &[]);
+    assert_told(&lines(1_024), "i0 i1", "exit", &numbers, &[]);
     // Against the order of lines: each `if` goes to the line before or round.
     let mut program: Vec<String> =
-        (1..=256).map(|n| format!("if i0 goto {} else {}", (n - 1).max(2), n)).collect();
-    (program[0], program[255]) = ("read i0".to_string(), "write i0".to_string());
-    program[1] = "if i1 goto 256 else 256".to_string();
-    let numbers: Vec<u32> = [vec![2, 1], (2..255).collect(), vec![0]].concat();
-    let arms: Vec<(usize, u8)> = (3..256).map(|n| (n, GOTO)).collect();
+        (1..=1_024).map(|n| format!("if i0 goto {} else {}", (n - 1).max(2), n)).collect();
+    (program[0], program[1_023]) = ("read i0".to_string(), "write i0".to_string());
+    program[1] = "if i1 goto 1024 else 1024".to_string();
+    let numbers: Vec<u32> = [vec![2, 1], (2..1_023).collect(), vec![0]].concat();
+    let arms: Vec<(usize, u8)> = (3..1_024).map(|n| (n, GOTO)).collect();
     assert_told(&program, "i0", "exit", &numbers, &arms);
 }
 
@@ -186,7 +187,11 @@ fn refusals_come_in_order() {
         " i0",
         "i0  i1",
         "i0 i0",
-        "i32",
+        "i64",
+        "i063",
+        "i70",
+        "i99",
+        "i630",
         "i00",
         "i0\n",
         "\n",
@@ -203,7 +208,7 @@ fn refusals_come_in_order() {
         "i4294967296",
         "i0\0",
         "use(i0)",
-        "i31 i31",
+        "i63 i63",
     ] {
         for condition in ["exit", "rubbish", &long] {
             assert_eq!(number(p, wrong, condition, TABLE_WORDS), 22, "{wrong:?}");

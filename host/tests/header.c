@@ -16,6 +16,18 @@ static const char P[] =
     "read i0\ni1 := i0\ni2 := 7\ni3 := i1 + i2\n"
     "if i0 goto 6 else 8\ni0 := i0 - 1\nif i0 goto 4 else 8\nwrite i3\n";
 
+/* What the header tells: sizes of programs and lists, and the least lengths of what is lent. */
+enum {
+    STATEMENTS = 1024,
+    VARIABLES = 64,
+    MARKS = 1024,
+    PART = 16,
+    TABLE = 1024,
+    REVIEW = 2048,
+    LIST = 2048,
+    TEXT = 34816
+};
+
 /* Our prices, which rewrites_our_prices sets. */
 static uint32_t ours[11];
 
@@ -25,8 +37,8 @@ static int run_answers(void) {
                          uint32_t *, uint64_t *) = rewrites_run;
     const uint8_t *program = (const uint8_t *)P;
     const size_t length = strlen(P);
-    const uint32_t values[32] = {0};
-    uint32_t ended = 11, steps = 12, statement = 13, left[32] = {14}, kept[8];
+    const uint32_t values[VARIABLES] = {0};
+    uint32_t ended = 11, steps = 12, statement = 13, left[VARIABLES] = {14}, kept[8];
     int32_t value = -15;
     uint64_t ticks = 17;
     size_t k;
@@ -56,7 +68,7 @@ static int run_answers(void) {
     CHECK(run(program, length, values, 2, 11, ours, &ended, &value, &steps, &statement, left, kept,
               &ticks) == 0);
     CHECK(ended == 0 && value == 9 && steps == 12 && statement == 8 && ticks == 32);
-    CHECK(left[0] == 0 && left[1] == 2 && left[2] == 7 && left[3] == 9 && left[31] == 0);
+    CHECK(left[0] == 0 && left[1] == 2 && left[2] == 7 && left[3] == 9 && left[63] == 0);
     for (k = 0; k < 8; k++) CHECK(kept[k] == 16);
     return 0;
 }
@@ -66,11 +78,11 @@ static int kept_answers(void) {
     static const char given[] = "read i0\ni24 := 5\ni31 := i0 - 1\nwrite i0\n";
     static const char bare[] = "read i24\nwrite i24\n";
     static const char used[] = "use(i24)", unused[] = "use(i23)", list[] = "2: mark(rm, i24, 5)\n";
-    static uint8_t verdicts[256], text[8704];
+    static uint8_t verdicts[MARKS], text[TEXT];
     const uint8_t *p = (const uint8_t *)given, *b = (const uint8_t *)bare;
-    uint32_t values[32] = {0}, ended, steps, statement, left[32], first, second, third;
+    uint32_t values[VARIABLES] = {0}, ended, steps, statement, left[VARIABLES], first, second, third;
     uint32_t places[10]; /* kept, with a word on both sides of it */
-    uint64_t table[256] = {0};
+    uint64_t table[TABLE] = {0};
     int32_t value;
     uint64_t ticks;
     size_t k;
@@ -95,14 +107,14 @@ static int kept_answers(void) {
     CHECK(ended == 1 && value == 9 && steps == 2 && places[1] == 9 && places[2] == 7);
 
     /* They are used at `write`, so an assignment before it stays. */
-    CHECK(rewrites_tabulate(p, strlen(given), (const uint8_t *)used, strlen(used), table, 256, &first,
+    CHECK(rewrites_tabulate(p, strlen(given), (const uint8_t *)used, strlen(used), table, TABLE, &first,
                             &second, &third) == 0);
     CHECK(first == 1 && second == 1 && third == 4 && table[0] == 8);
-    CHECK(rewrites_tabulate(p, strlen(given), (const uint8_t *)unused, strlen(unused), table, 256,
+    CHECK(rewrites_tabulate(p, strlen(given), (const uint8_t *)unused, strlen(unused), table, TABLE,
                             &first, &second, &third) == 0);
     CHECK(first == 1 && second == 0 && third == 0 && table[0] == 0);
-    CHECK(rewrites_judge(p, strlen(given), (const uint8_t *)list, strlen(list), verdicts, 256, text,
-                         8704, &first, &second, &third) == 0);
+    CHECK(rewrites_judge(p, strlen(given), (const uint8_t *)list, strlen(list), verdicts, MARKS, text,
+                         TEXT, &first, &second, &third) == 0);
     CHECK(first == 1 && second == 0 && third == strlen(given) && verdicts[0] == 14);
     return 0;
 }
@@ -114,21 +126,21 @@ static int division_answers(void) {
     static const char rewritten[] = "read i0\ni1 := i0 / i2\nskip\nwrite i0\n";
     static const char list[] = "2: mark(rm, i1, i0 / i2)\n3: mark(rm, i3, i0 / 2)\n";
     static const char forward[] = "EX node(3)";
-    static uint8_t verdicts[256], text[8704];
+    static uint8_t verdicts[MARKS], text[TEXT];
     const uint8_t *p = (const uint8_t *)given, *d = (const uint8_t *)dropped;
-    const uint32_t values[32] = {0};
-    uint64_t table[256] = {0};
-    uint32_t ended = 11, steps = 12, statement = 13, left[32], kept[8], first, second, third;
+    const uint32_t values[VARIABLES] = {0};
+    uint64_t table[TABLE] = {0};
+    uint32_t ended = 11, steps = 12, statement = 13, left[VARIABLES], kept[8], first, second, third;
     int32_t value = -15;
     uint64_t ticks;
     size_t k;
 
-    for (k = 0; k < 32; k++) left[k] = 14;
+    for (k = 0; k < VARIABLES; k++) left[k] = 14;
     for (k = 0; k < 8; k++) kept[k] = 16;
     CHECK(rewrites_run(p, strlen(given), values, 0, 2, ours, &ended, &value, &steps, &statement, left,
                        kept, &ticks) == 0);
     CHECK(ended == 2 && statement == 2 && steps == 2 && value == -15 && ticks == 28);
-    for (k = 0; k < 32; k++) CHECK(left[k] == 14);
+    for (k = 0; k < VARIABLES; k++) CHECK(left[k] == 14);
     for (k = 0; k < 8; k++) CHECK(kept[k] == 16);
 
     /* One step before, and by another divisor. */
@@ -140,12 +152,12 @@ static int division_answers(void) {
     CHECK(ended == 1 && value == -3 && steps == 3 && kept[0] == 0 && ticks == 32);
 
     /* A division steps to the next line. */
-    CHECK(rewrites_tabulate(p, strlen(given), (const uint8_t *)forward, strlen(forward), table, 256,
+    CHECK(rewrites_tabulate(p, strlen(given), (const uint8_t *)forward, strlen(forward), table, TABLE,
                             &first, &second, &third) == 0);
-    CHECK(first == 2 && second == 2 && third == 2 && table[0] == 4 && table[4] == 6);
+    CHECK(first == 2 && second == 2 && third == 2 && table[0] == 4 && table[PART] == 6);
 
-    CHECK(rewrites_judge(d, strlen(dropped), (const uint8_t *)list, strlen(list), verdicts, 256, text,
-                         8704, &first, &second, &third) == 0);
+    CHECK(rewrites_judge(d, strlen(dropped), (const uint8_t *)list, strlen(list), verdicts, MARKS, text,
+                         TEXT, &first, &second, &third) == 0);
     CHECK(first == 2 && second == 1 && third == strlen(rewritten));
     CHECK(verdicts[0] == 18 && verdicts[1] == 0);
     CHECK(memcmp(text, rewritten, strlen(rewritten)) == 0);
@@ -163,25 +175,26 @@ static int report_answers(void) {
     static const uint32_t prices[2][5] = {{4, 3, 3, 9, 4}, {4, 3, 2, 1, 4}};
     const uint8_t *p = (const uint8_t *)given, *m = (const uint8_t *)list;
     const size_t length = strlen(given), bound = strlen(list);
-    /* Two arrays of 256 with a word on both sides of each. */
-    uint32_t places[1 + 256 + 1 + 256 + 1], *const before = places + 1, *const after = places + 258;
+    /* Two arrays with a word on both sides of each. */
+    enum { BEFORE = 1, AFTER = BEFORE + STATEMENTS + 1, ALL = AFTER + STATEMENTS + 1 };
+    uint32_t places[ALL], *const before = places + BEFORE, *const after = places + AFTER;
     uint32_t statements = 11, total = 12, rewritten = 13;
     int32_t saved = -14;
     size_t k;
 
-    for (k = 0; k < 515; k++) places[k] = 0xa5c30000 + (uint32_t)k;
+    for (k = 0; k < ALL; k++) places[k] = 0xa5c30000 + (uint32_t)k;
     CHECK(report(p, length - 1, m, bound, ours, before, after, &statements, &total, &rewritten, &saved) == 2);
     CHECK(report(p, 0, m, bound, ours, before, after, &statements, &total, &rewritten, &saved) == 3);
     CHECK(report(NULL, 0, NULL, 0, ours, before, after, &statements, &total, &rewritten, &saved) == 3);
     CHECK(report(p, length, m, bound - 1, ours, before, after, &statements, &total, &rewritten, &saved) == 9);
     CHECK(statements == 11 && total == 12 && rewritten == 13 && saved == -14);
-    for (k = 0; k < 515; k++) CHECK(places[k] == 0xa5c30000 + k);
+    for (k = 0; k < ALL; k++) CHECK(places[k] == 0xa5c30000 + k);
 
     CHECK(report(p, length, m, bound, ours, before, after, &statements, &total, &rewritten, &saved) == 0);
     CHECK(statements == 5 && total == 23 && rewritten == 14 && saved == 9);
     for (k = 0; k < 5; k++) CHECK(before[k] == prices[0][k] && after[k] == prices[1][k]);
-    for (k = 6; k < 258; k++) CHECK(places[k] == 0xa5c30000 + k);
-    for (k = 263; k < 515; k++) CHECK(places[k] == 0xa5c30000 + k);
+    for (k = BEFORE + 5; k < AFTER; k++) CHECK(places[k] == 0xa5c30000 + k);
+    for (k = AFTER + 5; k < ALL; k++) CHECK(places[k] == 0xa5c30000 + k);
     CHECK(places[0] == 0xa5c30000);
 
     /* Without marks both columns are the same. */
@@ -201,10 +214,10 @@ static int prices_answers(void) {
     static const char list[] = "2: mark(rm, i1, i0)\n", copy[] = "read i0\ni1 := i0\nwrite i0\n";
     const uint8_t *text = (const uint8_t *)counted, *p = (const uint8_t *)P;
     const size_t eleven = strlen(counted) - 3;
-    const uint32_t values[32] = {0};
+    const uint32_t values[VARIABLES] = {0};
     uint32_t places[13], *const prices = places + 1; /* with a word on both sides */
-    uint32_t ended, steps, statement, left[32], kept[8];
-    static uint32_t before[256], after[256];
+    uint32_t ended, steps, statement, left[VARIABLES], kept[8];
+    static uint32_t before[STATEMENTS], after[STATEMENTS];
     uint32_t statements, given, rewritten;
     int32_t value, saved;
     uint64_t ticks;
@@ -266,17 +279,17 @@ static int cse_answers(void) {
     static const char copies[] = "read i0\ni1 := i0\ni2 := i0\nwrite i2\n";
     static const char single[] = "3: mark(cse, i1, i0)\n", wrong[] = "3: mark(cse, i1, i0 + 1 + 1)\n";
     static const char dead[] = "!EX E[!def(i1) U use(i1)]";
-    static uint8_t verdicts[256], text[8704];
+    static uint8_t verdicts[MARKS], text[TEXT];
     const uint8_t *p = (const uint8_t *)given;
     const size_t length = strlen(given), line = 24;
-    const uint32_t values[32] = {0};
-    uint64_t table[256] = {0};
-    uint32_t ended, steps, statement, left[32], kept[8], first, second, third;
+    const uint32_t values[VARIABLES] = {0};
+    uint64_t table[TABLE] = {0};
+    uint32_t ended, steps, statement, left[VARIABLES], kept[8], first, second, third;
     size_t begin, end;
     int32_t value;
     uint64_t ticks;
 
-    CHECK(rewrites_judge(p, length, (const uint8_t *)list, strlen(list), verdicts, 256, text, 8704,
+    CHECK(rewrites_judge(p, length, (const uint8_t *)list, strlen(list), verdicts, MARKS, text, TEXT,
                          &first, &second, &third) == 0);
     CHECK(first == 2 && second == 1 && third == strlen(reused));
     CHECK(verdicts[0] == 14 && verdicts[1] == 0);
@@ -284,28 +297,28 @@ static int cse_answers(void) {
     CHECK(rewrites_run(text, third, values, 4, 4, ours, &ended, &value, &steps, &statement, left, kept,
               &ticks) == 0);
     CHECK(ended == 1 && value == 5 && steps == 4);
-    CHECK(rewrites_judge(p, length, (const uint8_t *)turned, strlen(turned), verdicts, 256, text, 8704,
+    CHECK(rewrites_judge(p, length, (const uint8_t *)turned, strlen(turned), verdicts, MARKS, text, TEXT,
                          &first, &second, &third) == 0);
     CHECK(verdicts[0] == 0 && verdicts[1] == 14 && third == strlen(reused));
     CHECK(memcmp(text, reused, strlen(reused)) == 0);
 
     /* The rm by itself, by its condition's table too, and beside a cse that isn't accepted. */
-    CHECK(rewrites_judge(p, length, (const uint8_t *)list, line, verdicts, 256, text, 8704, &first,
+    CHECK(rewrites_judge(p, length, (const uint8_t *)list, line, verdicts, MARKS, text, TEXT, &first,
                          &second, &third) == 0);
     CHECK(first == 1 && second == 1 && verdicts[0] == 0 && third == strlen(dropped));
     CHECK(memcmp(text, dropped, strlen(dropped)) == 0);
-    CHECK(rewrites_tabulate(p, length, (const uint8_t *)dead, strlen(dead), table, 256, &first, &second,
+    CHECK(rewrites_tabulate(p, length, (const uint8_t *)dead, strlen(dead), table, TABLE, &first, &second,
                             &third) == 0);
-    CHECK(first == 6 && (table[4 * 5] & 2) == 2);
-    CHECK(rewrites_judge(p, length, (const uint8_t *)named, strlen(named), verdicts, 256, text, 8704,
+    CHECK(first == 6 && (table[PART * 5] & 2) == 2);
+    CHECK(rewrites_judge(p, length, (const uint8_t *)named, strlen(named), verdicts, MARKS, text, TEXT,
                          &first, &second, &third) == 0);
     CHECK(verdicts[0] == 14 && verdicts[1] == 12 && verdicts[2] == 0 && third == strlen(dropped));
 
     /* One operand doesn't fit; three are misspelled. */
     CHECK(rewrites_judge((const uint8_t *)copies, strlen(copies), (const uint8_t *)single,
-                         strlen(single), verdicts, 256, text, 8704, &first, &second, &third) == 0);
+                         strlen(single), verdicts, MARKS, text, TEXT, &first, &second, &third) == 0);
     CHECK(first == 1 && second == 0 && verdicts[0] == 13 && third == strlen(copies));
-    CHECK(rewrites_judge(p, length, (const uint8_t *)wrong, strlen(wrong), verdicts, 256, text, 8704,
+    CHECK(rewrites_judge(p, length, (const uint8_t *)wrong, strlen(wrong), verdicts, MARKS, text, TEXT,
                          &first, &second, &third) == 9);
     CHECK(rewrites_mark_line((const uint8_t *)list, strlen(list), 1, &begin, &end) == 0);
     CHECK(begin == line && end == strlen(list));
@@ -321,25 +334,25 @@ static int tabulate_answers(void) {
     const uint8_t *program = (const uint8_t *)P;
     const uint8_t *condition = (const uint8_t *)used_next;
     const size_t length = strlen(P), size = strlen(used_next);
-    uint64_t table[256];
+    uint64_t table[TABLE];
     uint32_t parts = 11, satisfied = 12, first = 13;
     size_t k;
 
-    for (k = 0; k < 256; k++) table[k] = 14;
-    CHECK(tabulate(program, 0, condition, 0, table, 255, &parts, &satisfied, &first) == 1);
-    CHECK(tabulate(program, 0, condition, 0, table, 256, &parts, &satisfied, &first) == 3);
-    CHECK(tabulate(program, length, condition, 0, table, 256, &parts, &satisfied, &first) == 7);
+    for (k = 0; k < TABLE; k++) table[k] = 14;
+    CHECK(tabulate(program, 0, condition, 0, table, TABLE - 1, &parts, &satisfied, &first) == 1);
+    CHECK(tabulate(program, 0, condition, 0, table, TABLE, &parts, &satisfied, &first) == 3);
+    CHECK(tabulate(program, length, condition, 0, table, TABLE, &parts, &satisfied, &first) == 7);
     CHECK(tabulate(program, length, condition, size, NULL, 0, &parts, &satisfied, &first) == 1);
     CHECK(tabulate(NULL, 0, NULL, 0, NULL, 0, &parts, &satisfied, &first) == 1);
-    CHECK(tabulate(NULL, 0, NULL, 0, table, 256, &parts, &satisfied, &first) == 3);
-    CHECK(tabulate(program, length, NULL, 0, table, 256, &parts, &satisfied, &first) == 7);
+    CHECK(tabulate(NULL, 0, NULL, 0, table, TABLE, &parts, &satisfied, &first) == 3);
+    CHECK(tabulate(program, length, NULL, 0, table, TABLE, &parts, &satisfied, &first) == 7);
     CHECK(parts == 11 && satisfied == 12 && first == 13);
-    for (k = 0; k < 256; k++) CHECK(table[k] == 14);
+    for (k = 0; k < TABLE; k++) CHECK(table[k] == 14);
 
-    CHECK(tabulate(program, length, condition, size, table, 256, &parts, &satisfied, &first) == 0);
+    CHECK(tabulate(program, length, condition, size, table, TABLE, &parts, &satisfied, &first) == 0);
     CHECK(parts == 4 && satisfied == 4 && first == 4);
-    for (k = 0; k < 16; k++) CHECK(table[k] == (k % 4 == 0 ? rows[k / 4] : 0));
-    for (k = 16; k < 256; k++) CHECK(table[k] == 14);
+    for (k = 0; k < 4 * PART; k++) CHECK(table[k] == (k % PART == 0 ? rows[k / PART] : 0));
+    for (k = 4 * PART; k < TABLE; k++) CHECK(table[k] == 14);
     return 0;
 }
 
@@ -354,35 +367,36 @@ static int force_answers(void) {
     const uint8_t *c = (const uint8_t *)end, *r = (const uint8_t *)rubbish;
     const size_t length = strlen(P);
     /* The arrays, with an entry on both sides of each. */
-    uint32_t places[258], *const number = places + 1, parts = 11, satisfied = 12, first = 13;
-    uint8_t marks[258], *const arm = marks + 1;
-    uint64_t table[260];
+    enum { ALL = STATEMENTS + 2 };
+    uint32_t places[ALL], *const number = places + 1, parts = 11, satisfied = 12, first = 13;
+    uint8_t marks[ALL], *const arm = marks + 1;
+    uint64_t table[TABLE + 4];
     size_t k;
 
-    for (k = 0; k < 258; k++) places[k] = 0xa5c30000 + (uint32_t)k;
-    for (k = 0; k < 258; k++) marks[k] = (uint8_t)(3 + k % 200);
-    for (k = 0; k < 260; k++) table[k] = 14 + k;
-    CHECK(force(p, 0, w, 5, r, 7, table, 255, &parts, &satisfied, &first, number, arm) == 1);
-    CHECK(force(p, length - 1, w, 5, r, 7, table, 256, &parts, &satisfied, &first, number, arm) == 2);
+    for (k = 0; k < ALL; k++) places[k] = 0xa5c30000 + (uint32_t)k;
+    for (k = 0; k < ALL; k++) marks[k] = (uint8_t)(3 + k % 200);
+    for (k = 0; k < TABLE + 4; k++) table[k] = 14 + k;
+    CHECK(force(p, 0, w, 5, r, 7, table, TABLE - 1, &parts, &satisfied, &first, number, arm) == 1);
+    CHECK(force(p, length - 1, w, 5, r, 7, table, TABLE, &parts, &satisfied, &first, number, arm) == 2);
     CHECK(force(NULL, 0, NULL, 0, NULL, 0, NULL, 0, &parts, &satisfied, &first, number, arm) == 1);
-    CHECK(force(NULL, 0, NULL, 0, NULL, 0, table, 256, &parts, &satisfied, &first, number, arm) == 3);
-    CHECK(force(p, length, w, 5, r, 7, table, 256, &parts, &satisfied, &first, number, arm) == 22);
-    CHECK(force(p, length, w, 3, c, 4, table, 256, &parts, &satisfied, &first, number, arm) == 22);
-    CHECK(force(p, length, NULL, 0, r, 7, table, 256, &parts, &satisfied, &first, number, arm) == 7);
+    CHECK(force(NULL, 0, NULL, 0, NULL, 0, table, TABLE, &parts, &satisfied, &first, number, arm) == 3);
+    CHECK(force(p, length, w, 5, r, 7, table, TABLE, &parts, &satisfied, &first, number, arm) == 22);
+    CHECK(force(p, length, w, 3, c, 4, table, TABLE, &parts, &satisfied, &first, number, arm) == 22);
+    CHECK(force(p, length, NULL, 0, r, 7, table, TABLE, &parts, &satisfied, &first, number, arm) == 7);
     CHECK(parts == 11 && satisfied == 12 && first == 13);
-    for (k = 0; k < 258; k++) CHECK(places[k] == 0xa5c30000 + k && marks[k] == 3 + k % 200);
-    for (k = 0; k < 260; k++) CHECK(table[k] == 14 + k);
+    for (k = 0; k < ALL; k++) CHECK(places[k] == 0xa5c30000 + k && marks[k] == 3 + k % 200);
+    for (k = 0; k < TABLE + 4; k++) CHECK(table[k] == 14 + k);
 
-    CHECK(force(p, length, d, 2, c, 4, table, 256, &parts, &satisfied, &first, number, arm) == 0);
+    CHECK(force(p, length, d, 2, c, 4, table, TABLE, &parts, &satisfied, &first, number, arm) == 0);
     CHECK(parts == 1 && satisfied == 1 && first == 8 && table[0] == 128);
-    for (k = 1; k < 4; k++) CHECK(table[k] == 0);
-    for (k = 4; k < 260; k++) CHECK(table[k] == 14 + k);
+    for (k = 1; k < PART; k++) CHECK(table[k] == 0);
+    for (k = PART; k < TABLE + 4; k++) CHECK(table[k] == 14 + k);
     for (k = 0; k < 8; k++) CHECK(number[k] == numbers[k]);
     for (k = 0; k < 8; k++) CHECK(arm[k] == (k == 4 || k == 6 ? 2 : 0));
-    for (k = 9; k < 258; k++) CHECK(places[k] == 0xa5c30000 + k && marks[k] == 3 + k % 200);
+    for (k = 9; k < ALL; k++) CHECK(places[k] == 0xa5c30000 + k && marks[k] == 3 + k % 200);
     CHECK(places[0] == 0xa5c30000 && marks[0] == 3);
 
-    CHECK(force(p, length, NULL, 0, c, 4, table, 256, &parts, &satisfied, &first, number, arm) == 0);
+    CHECK(force(p, length, NULL, 0, c, 4, table, TABLE, &parts, &satisfied, &first, number, arm) == 0);
     for (k = 0; k < 8; k++) CHECK(number[k] == (k == 7 ? 0 : 0xffffffff));
     for (k = 0; k < 8; k++) CHECK(arm[k] == (k == 4 || k == 6 ? 1 : 0));
     return 0;
@@ -408,31 +422,32 @@ static int review_answers(void) {
         {3, 5, 6, 2, 5}, {4, 2, 7, 1, 2}, {4, 3, 2, 1, 3}, {4, 5, 5, 4, 5}};
     const uint8_t *p = (const uint8_t *)P, *c = (const uint8_t *)lines;
     const size_t length = strlen(P), size = strlen(lines);
-    uint64_t memory[4 + 512 + 4], *const table = memory + 4;
+    uint64_t memory[4 + REVIEW + 4], *const table = memory + 4;
     uint32_t tables = 11, count = 12, places[PLACES];
     uint32_t *const a = places + TABLE_OF, *const b = places + PARTS, *const s = places + SATISFIED,
                     *const f = places + FIRST;
     size_t k, j;
 
-    for (k = 0; k < 520; k++) memory[k] = 13 + k;
+    for (k = 0; k < REVIEW + 8; k++) memory[k] = 13 + k;
     for (k = 0; k < PLACES; k++) places[k] = 0xa5c30000 + (uint32_t)k;
-    CHECK(review(p, length, c, size, table, 511, &tables, &count, a, b, s, f) == 1);
-    CHECK(review(p, 0, c, 0, table, 511, &tables, &count, a, b, s, f) == 1);
-    CHECK(review(p, 0, c, 0, table, 512, &tables, &count, a, b, s, f) == 3);
-    CHECK(review(p, length, c, 0, table, 512, &tables, &count, a, b, s, f) == 16);
-    CHECK(review(p, length, c, size - 1, table, 512, &tables, &count, a, b, s, f) == 7);
+    CHECK(review(p, length, c, size, table, REVIEW - 1, &tables, &count, a, b, s, f) == 1);
+    CHECK(review(p, 0, c, 0, table, REVIEW - 1, &tables, &count, a, b, s, f) == 1);
+    CHECK(review(p, 0, c, 0, table, REVIEW, &tables, &count, a, b, s, f) == 3);
+    CHECK(review(p, length, c, 0, table, REVIEW, &tables, &count, a, b, s, f) == 16);
+    CHECK(review(p, length, c, size - 1, table, REVIEW, &tables, &count, a, b, s, f) == 7);
     CHECK(review(p, length, c, size, NULL, 0, &tables, &count, a, b, s, f) == 1);
     CHECK(review(NULL, 0, NULL, 0, NULL, 0, &tables, &count, a, b, s, f) == 1);
-    CHECK(review(NULL, 0, NULL, 0, table, 512, &tables, &count, a, b, s, f) == 3);
-    CHECK(review(p, length, NULL, 0, table, 512, &tables, &count, a, b, s, f) == 16);
+    CHECK(review(NULL, 0, NULL, 0, table, REVIEW, &tables, &count, a, b, s, f) == 3);
+    CHECK(review(p, length, NULL, 0, table, REVIEW, &tables, &count, a, b, s, f) == 16);
     CHECK(tables == 11 && count == 12);
-    for (k = 0; k < 520; k++) CHECK(memory[k] == 13 + k);
+    for (k = 0; k < REVIEW + 8; k++) CHECK(memory[k] == 13 + k);
     for (k = 0; k < PLACES; k++) CHECK(places[k] == 0xa5c30000 + k);
 
-    CHECK(review(p, length, c, size, table, 512, &tables, &count, a, b, s, f) == 0);
+    CHECK(review(p, length, c, size, table, REVIEW, &tables, &count, a, b, s, f) == 0);
     CHECK(tables == 7 && count == 5);
-    for (k = 0; k < 28; k++) CHECK(table[k] == (k % 4 == 0 ? rows[k / 4] : 0));
-    for (k = 0; k < 520; k++) CHECK((k >= 4 && k < 4 + 28) || memory[k] == 13 + k);
+    for (k = 0; k < 7 * PART; k++) CHECK(table[k] == (k % PART == 0 ? rows[k / PART] : 0));
+    for (k = 0; k < REVIEW + 8; k++)
+        CHECK((k >= 4 && k < 4 + 7 * PART) || memory[k] == 13 + k);
     for (k = 0; k < 4; k++)
         for (j = 0; j < 5; j++) CHECK(places[TABLE_OF + 33 * k + j] == expected[k][j]);
     for (k = 0; k < PLACES; k++)
@@ -443,19 +458,21 @@ static int review_answers(void) {
 /* 32 lines fill every entry, and 128 tables every word. */
 static int full_review_answers(void) {
     static char lines[32 * 16], refused[33 * 16];
-    uint64_t memory[2 + 512 + 2], *const table = memory + 2;
+    uint64_t memory[2 + REVIEW + 2], *const table = memory + 2;
     uint32_t tables = 0, count = 0, places[PLACES];
     size_t size = 0, k;
 
     for (k = 0; k < 32; k++) size += (size_t)sprintf(lines + size, "!!!node(%u)\n", (unsigned)k);
-    for (k = 0; k < 516; k++) memory[k] = 13 + k;
+    for (k = 0; k < REVIEW + 4; k++) memory[k] = 13 + k;
     for (k = 0; k < PLACES; k++) places[k] = 0xa5c30000 + (uint32_t)k;
-    CHECK(rewrites_review((const uint8_t *)P, strlen(P), (const uint8_t *)lines, size, table, 512, &tables,
+    CHECK(rewrites_review((const uint8_t *)P, strlen(P), (const uint8_t *)lines, size, table, REVIEW, &tables,
                           &count, places + TABLE_OF, places + PARTS, places + SATISFIED,
                           places + FIRST) == 0);
     CHECK(tables == 128 && count == 32);
-    CHECK(memory[0] == 13 && memory[1] == 14 && memory[514] == 527 && memory[515] == 528);
-    CHECK(table[0] == 0 && table[4] == 255 && table[508] == 255 && table[511] == 0);
+    CHECK(memory[0] == 13 && memory[1] == 14);
+    CHECK(memory[REVIEW + 2] == REVIEW + 15 && memory[REVIEW + 3] == REVIEW + 16);
+    CHECK(table[0] == 0 && table[PART] == 255);
+    CHECK(table[REVIEW - PART] == 255 && table[REVIEW - 1] == 0);
     for (k = 0; k < 32; k++) CHECK(places[TABLE_OF + k] == 4 * k + 3 && places[PARTS + k] == 4);
     CHECK(places[SATISFIED] == 8 && places[SATISFIED + 1] == 7 && places[SATISFIED + 31] == 8);
     CHECK(places[FIRST] == 1 && places[FIRST + 1] == 2 && places[FIRST + 31] == 1);
@@ -463,11 +480,11 @@ static int full_review_answers(void) {
 
     /* One part more, and one line more. */
     sprintf(refused, "!%s", lines);
-    CHECK(rewrites_review((const uint8_t *)P, strlen(P), (const uint8_t *)refused, size + 1, table, 512,
+    CHECK(rewrites_review((const uint8_t *)P, strlen(P), (const uint8_t *)refused, size + 1, table, REVIEW,
                           &tables, &count, places + TABLE_OF, places + PARTS, places + SATISFIED,
                           places + FIRST) == 17);
     sprintf(refused, "%st", lines);
-    CHECK(rewrites_review((const uint8_t *)P, strlen(P), (const uint8_t *)refused, size + 1, table, 512,
+    CHECK(rewrites_review((const uint8_t *)P, strlen(P), (const uint8_t *)refused, size + 1, table, REVIEW,
                           &tables, &count, places + TABLE_OF, places + PARTS, places + SATISFIED,
                           places + FIRST) == 16);
     return 0;
@@ -483,40 +500,40 @@ static int judge_answers(void) {
         "read i0\ni1 := i0\ni2 := 7\ni3 := i1 + 7\n"
         "if i0 goto 6 else 8\ni0 := i0 - 1\nif i0 goto 4 else 8\nwrite i3\n";
     static const uint8_t bytes_of_list[5] = {0, 14, 12, 13, 11};
-    static uint8_t verdicts[256], text[8704];
+    static uint8_t verdicts[MARKS], text[TEXT];
     const uint8_t *p = (const uint8_t *)P, *m = (const uint8_t *)list;
     const size_t length = strlen(P), size = strlen(list), filled = strlen(rewritten);
     uint32_t count = 15, accepted = 16, bytes = 17;
     size_t k;
 
-    for (k = 0; k < 256; k++) verdicts[k] = 18;
-    for (k = 0; k < 8704; k++) text[k] = 19;
-    CHECK(judge(p, 0, m, 1, verdicts, 255, text, 8704, &count, &accepted, &bytes) == 1);
-    CHECK(judge(p, 0, m, 1, verdicts, 256, text, 8703, &count, &accepted, &bytes) == 1);
-    CHECK(judge(p, 0, m, 1, verdicts, 256, text, 8192, &count, &accepted, &bytes) == 1);
-    CHECK(judge(p, 0, m, 1, verdicts, 256, text, 8704, &count, &accepted, &bytes) == 3);
-    CHECK(judge(p, length, m, size - 1, verdicts, 256, text, 8704, &count, &accepted, &bytes) == 9);
-    CHECK(judge(p, length, m, size, NULL, 0, text, 8704, &count, &accepted, &bytes) == 1);
-    CHECK(judge(p, length, m, size, verdicts, 256, NULL, 0, &count, &accepted, &bytes) == 1);
+    for (k = 0; k < MARKS; k++) verdicts[k] = 18;
+    for (k = 0; k < TEXT; k++) text[k] = 19;
+    CHECK(judge(p, 0, m, 1, verdicts, MARKS - 1, text, TEXT, &count, &accepted, &bytes) == 1);
+    CHECK(judge(p, 0, m, 1, verdicts, MARKS, text, TEXT - 1, &count, &accepted, &bytes) == 1);
+    CHECK(judge(p, 0, m, 1, verdicts, MARKS, text, 8704, &count, &accepted, &bytes) == 1);
+    CHECK(judge(p, 0, m, 1, verdicts, MARKS, text, TEXT, &count, &accepted, &bytes) == 3);
+    CHECK(judge(p, length, m, size - 1, verdicts, MARKS, text, TEXT, &count, &accepted, &bytes) == 9);
+    CHECK(judge(p, length, m, size, NULL, 0, text, TEXT, &count, &accepted, &bytes) == 1);
+    CHECK(judge(p, length, m, size, verdicts, MARKS, NULL, 0, &count, &accepted, &bytes) == 1);
     CHECK(judge(NULL, 0, NULL, 0, NULL, 0, NULL, 0, &count, &accepted, &bytes) == 1);
-    CHECK(judge(NULL, 0, NULL, 0, verdicts, 256, text, 8704, &count, &accepted, &bytes) == 3);
+    CHECK(judge(NULL, 0, NULL, 0, verdicts, MARKS, text, TEXT, &count, &accepted, &bytes) == 3);
     CHECK(count == 15 && accepted == 16 && bytes == 17);
-    for (k = 0; k < 256; k++) CHECK(verdicts[k] == 18);
-    for (k = 0; k < 8704; k++) CHECK(text[k] == 19);
+    for (k = 0; k < MARKS; k++) CHECK(verdicts[k] == 18);
+    for (k = 0; k < TEXT; k++) CHECK(text[k] == 19);
 
-    CHECK(judge(p, length, m, size, verdicts, 256, text, 8704, &count, &accepted, &bytes) == 0);
+    CHECK(judge(p, length, m, size, verdicts, MARKS, text, TEXT, &count, &accepted, &bytes) == 0);
     CHECK(count == 5 && accepted == 1 && bytes == filled);
     CHECK(memcmp(verdicts, bytes_of_list, 5) == 0);
     CHECK(memcmp(text, rewritten, filled) == 0);
-    for (k = 5; k < 256; k++) CHECK(verdicts[k] == 18);
-    for (k = filled; k < 8704; k++) CHECK(text[k] == 19);
+    for (k = 5; k < MARKS; k++) CHECK(verdicts[k] == 18);
+    for (k = filled; k < TEXT; k++) CHECK(text[k] == 19);
 
     /* No marks give the program back. */
     for (k = 0; k < 5; k++) verdicts[k] = 18;
-    CHECK(judge(p, length, NULL, 0, verdicts, 256, text, 8704, &count, &accepted, &bytes) == 0);
+    CHECK(judge(p, length, NULL, 0, verdicts, MARKS, text, TEXT, &count, &accepted, &bytes) == 0);
     CHECK(count == 0 && accepted == 0 && bytes == length);
     CHECK(memcmp(text, P, length) == 0);
-    for (k = 0; k < 256; k++) CHECK(verdicts[k] == 18);
+    for (k = 0; k < MARKS; k++) CHECK(verdicts[k] == 18);
     return 0;
 }
 
@@ -526,11 +543,11 @@ static int below_zero_answers(void) {
     static const char rewritten[] = "read i0\ni1 := -40\ni2 := i0 - -40\nwrite i2\n";
     static const char condition[] = "stmt(i1 := -40)", wrong[] = "stmt(i1 := -0)";
     static const char list[] = "3: mark(rpl, i1, -40)\n2: mark(rm, i1, -40)\n";
-    static uint8_t verdicts[256], text[8704];
+    static uint8_t verdicts[MARKS], text[TEXT];
     const uint8_t *p = (const uint8_t *)given, *m = (const uint8_t *)list;
-    const uint32_t values[32] = {0};
-    uint64_t table[256] = {0};
-    uint32_t ended, steps, statement, left[32], kept[8], first, second, third;
+    const uint32_t values[VARIABLES] = {0};
+    uint64_t table[TABLE] = {0};
+    uint32_t ended, steps, statement, left[VARIABLES], kept[8], first, second, third;
     int32_t value;
     uint64_t ticks;
 
@@ -538,13 +555,13 @@ static int below_zero_answers(void) {
                        kept, &ticks) == 0);
     CHECK(ended == 1 && value == 42 && steps == 4);
 
-    CHECK(rewrites_tabulate(p, strlen(given), (const uint8_t *)condition, strlen(condition), table, 256,
+    CHECK(rewrites_tabulate(p, strlen(given), (const uint8_t *)condition, strlen(condition), table, TABLE,
                             &first, &second, &third) == 0);
     CHECK(first == 1 && second == 1 && third == 2 && table[0] == 2);
-    CHECK(rewrites_tabulate(p, strlen(given), (const uint8_t *)wrong, strlen(wrong), table, 256,
+    CHECK(rewrites_tabulate(p, strlen(given), (const uint8_t *)wrong, strlen(wrong), table, TABLE,
                             &first, &second, &third) == 7);
 
-    CHECK(rewrites_judge(p, strlen(given), m, strlen(list), verdicts, 256, text, 8704, &first, &second,
+    CHECK(rewrites_judge(p, strlen(given), m, strlen(list), verdicts, MARKS, text, TEXT, &first, &second,
                          &third) == 0);
     CHECK(first == 2 && second == 1 && third == strlen(rewritten));
     CHECK(verdicts[0] == 0 && verdicts[1] == 14);
@@ -560,21 +577,21 @@ static int mark_line_answers(void) {
         "4: mark(rpl, i2, 7)\n3: mark(rm, i2, 7)\n4: mark(rpl, i1, i0)\n"
         "6: mark(rm, i0, 1)\n9: mark(rm, i2, 7)\n";
     static const size_t bounds[6] = {0, 20, 39, 60, 79, 98};
-    static const uint32_t beyond[6] = {5, 6, 256, 65536, 0x80000000, 0xffffffff};
-    static const char one[] = "2147483647: mark(rm, i31, 2147483647 + 2147483647)\n";
-    static uint8_t many[257 * (sizeof one - 1)];
+    static const uint32_t beyond[6] = {5, 6, MARKS, 65536, 0x80000000, 0xffffffff};
+    static const char one[] = "2147483647: mark(rm, i63, 2147483647 + 2147483647)\n";
+    static uint8_t many[(MARKS + 1) * (sizeof one - 1)];
     const uint8_t *m = (const uint8_t *)list;
     const size_t size = strlen(list), length = sizeof one - 1, mark = (size_t)-1 / 3;
     size_t places[5]; /* begin and end, with a word on both sides of each */
     size_t j, k;
 
-    for (k = 0; k < 257; k++) memcpy(many + k * length, one, length);
+    for (k = 0; k <= MARKS; k++) memcpy(many + k * length, one, length);
     for (k = 0; k < 5; k++) places[k] = mark + k;
     CHECK(mark_line(m, size - 1, 0, &places[1], &places[3]) == 9);
     CHECK(mark_line(m, 1, 0xffffffff, &places[1], &places[3]) == 9);
-    CHECK(mark_line(many, 257 * length, 0, &places[1], &places[3]) == 10);
-    CHECK(mark_line(many, 257 * length, 0xffffffff, &places[1], &places[3]) == 10);
-    CHECK(mark_line(many, 257 * length - 1, 0, &places[1], &places[3]) == 9);
+    CHECK(mark_line(many, (MARKS + 1) * length, 0, &places[1], &places[3]) == 10);
+    CHECK(mark_line(many, (MARKS + 1) * length, 0xffffffff, &places[1], &places[3]) == 10);
+    CHECK(mark_line(many, (MARKS + 1) * length - 1, 0, &places[1], &places[3]) == 9);
     for (k = 0; k < 5; k++) CHECK(places[k] == mark + k);
 
     for (j = 0; j < 5; j++) {
@@ -588,10 +605,10 @@ static int mark_line_answers(void) {
         CHECK(mark_line(NULL, 0, beyond[j], &places[1], &places[3]) == 0);
         CHECK(places[1] == 0 && places[3] == 0);
     }
-    for (j = 0; j <= 256; j++) {
-        CHECK(mark_line(many, 256 * length, (uint32_t)j, &places[1], &places[3]) == 0);
+    for (j = 0; j <= MARKS; j++) {
+        CHECK(mark_line(many, MARKS * length, (uint32_t)j, &places[1], &places[3]) == 0);
         CHECK(places[1] == j * length);
-        CHECK(places[3] == (j < 256 ? j + 1 : j) * length);
+        CHECK(places[3] == (j < MARKS ? j + 1 : j) * length);
     }
     for (k = 0; k < 5; k += 2) CHECK(places[k] == mark + k);
 
@@ -602,7 +619,7 @@ static int mark_line_answers(void) {
 }
 
 /* The places of both counts, with a word on both sides of each. */
-enum { DEFINED = 1, USED = 34, COUNT_PLACES = 67 };
+enum { DEFINED = 1, USED = DEFINED + VARIABLES + 1, COUNT_PLACES = USED + VARIABLES + 1 };
 
 /* The list of P, made and brought up to date. */
 static int list_answers(void) {
@@ -613,69 +630,73 @@ static int list_answers(void) {
     static const char marks[] =
         "4: mark(rpl, i2, 7)\n3: mark(rm, i2, 7)\n4: mark(rpl, i1, i0)\n"
         "6: mark(rm, i0, 1)\n9: mark(rm, i2, 7)\n";
-    static const uint64_t first[8] = {33, 114, 2, 8, 4, 8, 8, 128}; /* each fourth word */
-    static uint8_t many[257 * 19];
+    static const uint64_t first[8] = {33, 114, 2, 8, 4, 8, 8, 128}; /* each PARTth word */
+    static uint8_t many[(MARKS + 1) * 19];
     const uint8_t *p = (const uint8_t *)P, *m = (const uint8_t *)marks;
     const size_t length = strlen(P), size = strlen(marks);
-    uint64_t memory[4 + 300 + 4], *const words = memory + 4;
+    enum { ALL = 4 + LIST + 44 + 4 };
+    uint64_t memory[ALL], *const words = memory + 4;
     uint32_t places[COUNT_PLACES], *const d = places + DEFINED, *const u = places + USED;
     size_t k;
 
-    for (k = 0; k < 257; k++) memcpy(many + 19 * k, "2: mark(rm, i0, 1)\n", 19);
-    for (k = 0; k < 308; k++) memory[k] = 13 + k;
+    for (k = 0; k <= MARKS; k++) memcpy(many + 19 * k, "2: mark(rm, i0, 1)\n", 19);
+    for (k = 0; k < ALL; k++) memory[k] = 13 + k;
     for (k = 0; k < COUNT_PLACES; k++) places[k] = 0xa5c30000 + (uint32_t)k;
-    CHECK(list(p, length, words, 255, d, u) == 1);
-    CHECK(list(p, length - 1, words, 255, d, u) == 1);
-    CHECK(list(p, length - 1, words, 256, d, u) == 2);
-    CHECK(list(p, 0, words, 256, d, u) == 3);
+    CHECK(list(p, length, words, LIST - 1, d, u) == 1);
+    CHECK(list(p, length - 1, words, LIST - 1, d, u) == 1);
+    CHECK(list(p, length - 1, words, LIST, d, u) == 2);
+    CHECK(list(p, 0, words, LIST, d, u) == 3);
     CHECK(list(p, length, NULL, 0, d, u) == 1);
     CHECK(list(NULL, 0, NULL, 0, d, u) == 1);
-    CHECK(list(NULL, 0, words, 256, d, u) == 3);
-    CHECK(relist(p, length, m, size, words, 255, d, u) == 1);
-    CHECK(relist(p, length - 1, m, 1, words, 255, d, u) == 1);
-    CHECK(relist(p, length - 1, m, 1, words, 256, d, u) == 2);
-    CHECK(relist(p, length, m, size - 1, words, 256, d, u) == 9);
-    CHECK(relist(p, length, many, sizeof many, words, 256, d, u) == 10);
+    CHECK(list(NULL, 0, words, LIST, d, u) == 3);
+    CHECK(relist(p, length, m, size, words, LIST - 1, d, u) == 1);
+    CHECK(relist(p, length - 1, m, 1, words, LIST - 1, d, u) == 1);
+    CHECK(relist(p, length - 1, m, 1, words, LIST, d, u) == 2);
+    CHECK(relist(p, length, m, size - 1, words, LIST, d, u) == 9);
+    CHECK(relist(p, length, many, sizeof many, words, LIST, d, u) == 10);
     CHECK(relist(p, length, m, size, NULL, 0, d, u) == 1);
     CHECK(relist(NULL, 0, NULL, 0, NULL, 0, d, u) == 1);
-    CHECK(relist(NULL, 0, NULL, 0, words, 256, d, u) == 3);
-    for (k = 0; k < 308; k++) CHECK(memory[k] == 13 + k);
+    CHECK(relist(NULL, 0, NULL, 0, words, LIST, d, u) == 3);
+    for (k = 0; k < ALL; k++) CHECK(memory[k] == 13 + k);
     for (k = 0; k < COUNT_PLACES; k++) CHECK(places[k] == 0xa5c30000 + k);
 
-    CHECK(list(p, length, words, 300, d, u) == 0);
-    for (k = 0; k < 256; k++) {
-        const uint64_t kept = k >= 196 && k % 8 == 4 ? 128 : 0;
-        CHECK(words[k] == (k < 32 && k % 4 == 0 ? first[k / 4] : kept));
+    CHECK(list(p, length, words, LIST + 44, d, u) == 0);
+    for (k = 0; k < LIST; k++) {
+        const size_t v = k / (2 * PART);
+        const uint64_t kept = v >= 24 && v < 32 && k % (2 * PART) == PART ? 128 : 0;
+        CHECK(words[k] == (v < 4 && k % PART == 0 ? first[k / PART] : kept));
     }
-    for (k = 0; k < 32; k++) {
+    for (k = 0; k < VARIABLES; k++) {
         CHECK(d[k] == (k == 0 ? 2 : k <= 3));
-        CHECK(u[k] == (k == 0 ? 4 : k <= 3 || k >= 24));
+        CHECK(u[k] == (k == 0 ? 4 : k <= 3 || (k >= 24 && k < 32)));
     }
 
     /* Statement 4 becomes `i3 := i1 + 7`, and loses its use of i2. */
-    CHECK(relist(p, length, m, size, words, 300, d, u) == 0);
-    for (k = 0; k < 8; k++) CHECK(words[4 * k] == (k == 5 ? 0 : first[k]));
+    CHECK(relist(p, length, m, size, words, LIST + 44, d, u) == 0);
+    for (k = 0; k < 8; k++) CHECK(words[PART * k] == (k == 5 ? 0 : first[k]));
     CHECK(d[2] == 1 && u[2] == 0 && u[0] == 4 && u[1] == 1);
 
     /* On zeros its other bits are set, and on ones its others cleared. */
-    for (k = 0; k < 256; k++) words[k] = 0;
-    CHECK(relist(p, length, m, size, words, 300, d, u) == 0);
-    for (k = 0; k < 256; k++) CHECK(words[k] == (k == 12 || k == 24 ? 8 : 0));
-    for (k = 0; k < 32; k++) CHECK(d[k] == (k == 3) && u[k] == (k == 1));
-    for (k = 0; k < 256; k++) words[k] = UINT64_MAX;
-    CHECK(relist(p, length, m, size, words, 300, d, u) == 0);
-    for (k = 0; k < 256; k++)
-        CHECK(words[k] == (k % 4 == 0 && k != 12 && k != 24 ? UINT64_MAX - 8 : UINT64_MAX));
-    for (k = 0; k < 32; k++) {
-        CHECK(d[k] == (k == 3 ? 256 : 255));
-        CHECK(u[k] == (k == 1 ? 256 : 255));
+    for (k = 0; k < LIST; k++) words[k] = 0;
+    CHECK(relist(p, length, m, size, words, LIST + 44, d, u) == 0);
+    for (k = 0; k < LIST; k++) CHECK(words[k] == (k == 3 * PART || k == 6 * PART ? 8 : 0));
+    for (k = 0; k < VARIABLES; k++) CHECK(d[k] == (k == 3) && u[k] == (k == 1));
+    for (k = 0; k < LIST; k++) words[k] = UINT64_MAX;
+    CHECK(relist(p, length, m, size, words, LIST + 44, d, u) == 0);
+    for (k = 0; k < LIST; k++) {
+        const int is_kept = k % PART != 0 || k == 3 * PART || k == 6 * PART;
+        CHECK(words[k] == (is_kept ? UINT64_MAX : UINT64_MAX - 8));
+    }
+    for (k = 0; k < VARIABLES; k++) {
+        CHECK(d[k] == (k == 3 ? STATEMENTS : STATEMENTS - 1));
+        CHECK(u[k] == (k == 1 ? STATEMENTS : STATEMENTS - 1));
     }
 
     /* No marks change no bit. */
-    CHECK(relist(p, length, NULL, 0, words, 256, d, u) == 0);
-    CHECK(words[0] == UINT64_MAX - 8 && d[3] == 256 && u[1] == 256);
-    for (k = 0; k < 308; k++) CHECK((k >= 4 && k < 4 + 256) || memory[k] == 13 + k);
-    for (k = 0; k < COUNT_PLACES; k += 33) CHECK(places[k] == 0xa5c30000 + k);
+    CHECK(relist(p, length, NULL, 0, words, LIST, d, u) == 0);
+    CHECK(words[0] == UINT64_MAX - 8 && d[3] == STATEMENTS && u[1] == STATEMENTS);
+    for (k = 0; k < ALL; k++) CHECK((k >= 4 && k < 4 + LIST) || memory[k] == 13 + k);
+    for (k = 0; k < COUNT_PLACES; k += VARIABLES + 1) CHECK(places[k] == 0xa5c30000 + k);
     return 0;
 }
 
@@ -687,35 +708,35 @@ static int join_answers(void) {
     static const char joined[] =
         "read i0\ni1 := i0 + 1\ni2 := i1\nif i2 goto 5 else 6\ni1 := i1 * i2\nwrite i1\n";
     static const char wrong[] = "read i0\nif i0 goto 1 else 2\nwrite i0\n";
-    static uint8_t text[8704 + 16], many[2048];
+    static uint8_t text[TEXT + 16], many[6 * STATEMENTS];
     const uint8_t *r = (const uint8_t *)road, *c = (const uint8_t *)creeper;
     const size_t m = strlen(road), n = strlen(creeper), bytes = strlen(joined);
     uint32_t places[5] = {1, 2, 3, 4, 5}; /* the second and the fourth are lent */
-    uint32_t values[32] = {0}, ended, steps, statement, left[32], kept[8];
+    uint32_t values[VARIABLES] = {0}, ended, steps, statement, left[VARIABLES], kept[8];
     uint64_t ticks;
     size_t k, length;
     int32_t value;
 
     memset(text, 0xee, sizeof text);
-    CHECK(join(r, m, c, n, text + 8, 8703, &places[1], &places[3]) == 1);
+    CHECK(join(r, m, c, n, text + 8, TEXT - 1, &places[1], &places[3]) == 1);
     CHECK(join(NULL, 0, NULL, 0, NULL, 0, &places[1], &places[3]) == 1);
-    CHECK(join(r, m - 1, c, n, text + 8, 8704, &places[1], &places[3]) == 2);
-    CHECK(join(NULL, 0, c, n - 1, text + 8, 8704, &places[1], &places[3]) == 3);
-    CHECK(join(r, m, c, n - 1, text + 8, 8704, &places[1], &places[3]) == 2);
-    CHECK(join(r, m, NULL, 0, text + 8, 8704, &places[1], &places[3]) == 3);
-    CHECK(join(r, 8, c, 8, text + 8, 8704, &places[1], &places[3]) == 3);
-    CHECK(join(r, m, (const uint8_t *)wrong, strlen(wrong), text + 8, 8704, &places[1], &places[3]) == 5);
+    CHECK(join(r, m - 1, c, n, text + 8, TEXT, &places[1], &places[3]) == 2);
+    CHECK(join(NULL, 0, c, n - 1, text + 8, TEXT, &places[1], &places[3]) == 3);
+    CHECK(join(r, m, c, n - 1, text + 8, TEXT, &places[1], &places[3]) == 2);
+    CHECK(join(r, m, NULL, 0, text + 8, TEXT, &places[1], &places[3]) == 3);
+    CHECK(join(r, 8, c, 8, text + 8, TEXT, &places[1], &places[3]) == 3);
+    CHECK(join(r, m, (const uint8_t *)wrong, strlen(wrong), text + 8, TEXT, &places[1], &places[3]) == 5);
 
-    /* 256 statements, and the least creeper program: 257. */
+    /* 1,024 statements, and a creeper program of three. */
     length = (size_t)sprintf((char *)many, "read i0\n");
-    for (k = 2; k < 256; k++) length += (size_t)sprintf((char *)many + length, "skip\n");
+    for (k = 2; k < STATEMENTS; k++) length += (size_t)sprintf((char *)many + length, "skip\n");
     length += (size_t)sprintf((char *)many + length, "write i0\n");
-    CHECK(join(many, length, r, m, text + 8, 8704, &places[1], &places[3]) == 21);
-    CHECK(join(many, length, r, m - 1, text + 8, 8704, &places[1], &places[3]) == 2);
+    CHECK(join(many, length, r, m, text + 8, TEXT, &places[1], &places[3]) == 21);
+    CHECK(join(many, length, r, m - 1, text + 8, TEXT, &places[1], &places[3]) == 2);
     for (k = 0; k < sizeof text; k++) CHECK(text[k] == 0xee);
     for (k = 0; k < 5; k++) CHECK(places[k] == k + 1);
 
-    CHECK(join(r, m, c, n, text + 8, 8704, &places[1], &places[3]) == 0);
+    CHECK(join(r, m, c, n, text + 8, TEXT, &places[1], &places[3]) == 0);
     CHECK(places[0] == 1 && places[1] == 6 && places[2] == 3 && places[3] == bytes && places[4] == 5);
     CHECK(memcmp(text + 8, joined, bytes) == 0);
     for (k = 0; k < sizeof text; k++) CHECK((k >= 8 && k < 8 + bytes) || text[k] == 0xee);
@@ -736,10 +757,10 @@ static int stages_answer(void) {
                           uint32_t *) = rewrites_keep;
     uint8_t (*const go_back)(const uint8_t *, size_t, const uint8_t *, size_t, uint8_t *, size_t,
                              uint32_t *) = rewrites_return;
-    enum { ALL = 70000, PLACE = 8750 };
+    enum { ALL = 280000, PLACE = ALL / 8 };
     static const uint8_t first[10] = {'f', 'i', 'r', 's', 't', 0, 0, 0, 101, 0};
     static const char least[] = "read i0\nwrite i0\n";
-    static uint8_t memory[8 + ALL + 8], before[ALL], text[8704 + 16];
+    static uint8_t memory[8 + ALL + 8], before[ALL], text[TEXT + 16];
     const uint8_t *p = (const uint8_t *)P, *name = (const uint8_t *)"first", *l = (const uint8_t *)least;
     const size_t length = strlen(P), short_length = strlen(least);
     uint8_t *const stages = memory + 8;
@@ -758,11 +779,11 @@ static int stages_answer(void) {
     CHECK(keep(stages, ALL, (const uint8_t *)"abcdefghi", 9, p, length, &places[1]) == 23);
     CHECK(keep(stages, ALL, (const uint8_t *)"A", 1, p, length, &places[1]) == 23);
     CHECK(keep(stages, ALL, (const uint8_t *)"a\0b", 3, p, length, &places[1]) == 23);
-    CHECK(go_back(stages, ALL - 1, name, 5, text + 8, 8704, &places[1]) == 1);
-    CHECK(go_back(stages, ALL, name, 5, text + 8, 8703, &places[1]) == 1);
+    CHECK(go_back(stages, ALL - 1, name, 5, text + 8, TEXT, &places[1]) == 1);
+    CHECK(go_back(stages, ALL, name, 5, text + 8, TEXT - 1, &places[1]) == 1);
     CHECK(go_back(NULL, 0, NULL, 0, NULL, 0, &places[1]) == 1);
-    CHECK(go_back(stages, ALL, NULL, 0, text + 8, 8704, &places[1]) == 23);
-    CHECK(go_back(stages, ALL, name, 5, text + 8, 8704, &places[1]) == 25);
+    CHECK(go_back(stages, ALL, NULL, 0, text + 8, TEXT, &places[1]) == 23);
+    CHECK(go_back(stages, ALL, name, 5, text + 8, TEXT, &places[1]) == 25);
     for (k = 0; k < sizeof memory; k++) CHECK(memory[k] == (k < 8 || k >= 8 + ALL ? 0xee : 0));
     for (k = 0; k < sizeof text; k++) CHECK(text[k] == 0xee);
     CHECK(places[0] == 1 && places[1] == 2 && places[2] == 3);
@@ -770,7 +791,7 @@ static int stages_answer(void) {
     CHECK(keep(stages, ALL, name, 5, p, length, &places[1]) == 0 && places[1] == 1);
     CHECK(memcmp(stages, first, 10) == 0 && memcmp(stages + 10, p, length) == 0 && length == 101);
     for (k = 10 + length; k < ALL; k++) CHECK(stages[k] == 0);
-    CHECK(go_back(stages, ALL, name, 5, text + 8, 8704, &places[1]) == 0 && places[1] == length);
+    CHECK(go_back(stages, ALL, name, 5, text + 8, TEXT, &places[1]) == 0 && places[1] == length);
     CHECK(memcmp(text + 8, p, length) == 0);
     for (k = 0; k < sizeof text; k++) CHECK((k >= 8 && k < 8 + length) || text[k] == 0xee);
 
@@ -779,9 +800,9 @@ static int stages_answer(void) {
     CHECK(keep(stages, ALL, name, 5, l, short_length, &places[1]) == 0 && places[1] == 1);
     CHECK(stages[8] == short_length && memcmp(stages + 10 + short_length, p + short_length,
                                               length - short_length) == 0);
-    CHECK(go_back(stages, ALL, name, 5, text + 8, 8704, &places[1]) == 0 && places[1] == short_length);
+    CHECK(go_back(stages, ALL, name, 5, text + 8, TEXT, &places[1]) == 0 && places[1] == short_length);
     stages[10] = 'x';
-    CHECK(go_back(stages, ALL, name, 5, text + 8, 8704, &places[1]) == 0 && places[1] == length);
+    CHECK(go_back(stages, ALL, name, 5, text + 8, TEXT, &places[1]) == 0 && places[1] == length);
     CHECK(keep(stages, ALL, name, 5, p, length, &places[1]) == 0 && places[1] == 2);
 
     /* Eight names and a ninth; each known one is replaced where it stands. */
@@ -792,7 +813,7 @@ static int stages_answer(void) {
     }
     memcpy(before, stages, ALL);
     CHECK(keep(stages, ALL, (const uint8_t *)"nine", 4, p, length, &places[1]) == 24);
-    CHECK(go_back(stages, ALL, (const uint8_t *)"nine", 4, text + 8, 8704, &places[1]) == 25);
+    CHECK(go_back(stages, ALL, (const uint8_t *)"nine", 4, text + 8, TEXT, &places[1]) == 25);
     CHECK(memcmp(before, stages, ALL) == 0 && places[1] == 8);
     for (k = 0; k < 8; k++) {
         CHECK(keep(stages, ALL, (const uint8_t *)EIGHT[k], strlen(EIGHT[k]), l, short_length,
@@ -807,7 +828,7 @@ static int stages_answer(void) {
     }
     for (k = 0; k < 8; k++) {
         const uint8_t *its = (const uint8_t *)EIGHT[k];
-        CHECK(go_back(stages, ALL, its, strlen(EIGHT[k]), text + 8, 8704, &places[1]) == 25);
+        CHECK(go_back(stages, ALL, its, strlen(EIGHT[k]), text + 8, TEXT, &places[1]) == 25);
     }
     CHECK(keep(stages, ALL, (const uint8_t *)"nine", 4, p, length, &places[1]) == 0 && places[1] == 1);
     for (k = 0; k < 8; k++) CHECK(memory[k] == 0xee && memory[8 + ALL + k] == 0xee);

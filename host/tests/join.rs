@@ -5,7 +5,7 @@
 mod common;
 
 use common::{given, lines, refused_programs, run, shown, text, P};
-use rewrites::{join, raw, Joined, Outcome, Refusal, KEPT, TEXT_BYTES};
+use rewrites::{join, raw, Joined, Outcome, Refusal, KEPT, TEXT_BYTES, VARIABLES};
 
 // What is lent
 
@@ -76,7 +76,7 @@ fn joined(road: &[u8], creeper: &[u8]) -> Vec<u8> {
 
 // Both programs in turn
 
-fn outcome(program: &[u8], values: &[u32; 32], input: u32, budget: u32) -> Outcome {
+fn outcome(program: &[u8], values: &[u32; VARIABLES], input: u32, budget: u32) -> Outcome {
     run(program, values, input, budget).unwrap_or_else(|refusal| panic!("{refusal}"))
 }
 
@@ -84,7 +84,13 @@ fn outcome(program: &[u8], values: &[u32; 32], input: u32, budget: u32) -> Outco
 const SEAM: u64 = 4 + 4 - 2;
 
 /// How the two programs stand one after the other under a budget, as the joined one is to tell it.
-fn in_turn(road: &[u8], creeper: &[u8], values: &[u32; 32], input: u32, budget: u32) -> Outcome {
+fn in_turn(
+    road: &[u8],
+    creeper: &[u8],
+    values: &[u32; VARIABLES],
+    input: u32,
+    budget: u32,
+) -> Outcome {
     let further = road.iter().filter(|&&byte| byte == 10).count() as u32 - 1;
     let (value, steps, ticks) = match outcome(road, values, input, budget) {
         Outcome::Ended { value, steps, ticks, .. } => (value, steps, ticks),
@@ -114,7 +120,7 @@ fn in_turn(road: &[u8], creeper: &[u8], values: &[u32; 32], input: u32, budget: 
 /// The joined program answers as both do in turn, under each of some budgets from some starts.
 fn assert_in_turn(road: &[u8], creeper: &[u8]) {
     let new = joined(road, creeper);
-    for values in [[0; 32], given(), [u32::MAX; 32]] {
+    for values in [[0; VARIABLES], given(), [u32::MAX; VARIABLES]] {
         for input in [0, 1, 2, 3, 5, 1000, 1 << 31, u32::MAX] {
             for budget in (0..60).chain([300, 1000]) {
                 assert_eq!(
@@ -133,7 +139,7 @@ fn ended(value: i32, steps: u32, ticks: u64) -> Outcome {
     Outcome::Ended { value, steps, kept: [0; KEPT], ticks }
 }
 
-const ZERO: [u32; 32] = [0; 32];
+const ZERO: [u32; VARIABLES] = [0; VARIABLES];
 
 #[test]
 fn two_become_one() {
@@ -260,25 +266,32 @@ fn a_fault_of_each() {
 }
 
 #[test]
-fn up_to_256_statements() {
+fn up_to_1024_statements() {
     let skips = |n| text(&lines(n));
-    for (n, m) in [(128, 129), (129, 128), (2, 255), (255, 2)] {
+    for (n, m) in [(512, 513), (513, 512), (2, 1_023), (1_023, 2)] {
         let new = joined(&skips(n), &skips(m));
-        let mut expected = lines(256);
+        let mut expected = lines(1_024);
         expected[n - 1] = "i0 := i0".to_string();
         assert_eq!(new, text(&expected));
-        assert_eq!(outcome(&new, &ZERO, 7, 256), ended(7, 256, 263));
+        assert_eq!(outcome(&new, &ZERO, 7, 1_024), ended(7, 1_024, 1_031));
     }
-    for (n, m) in [(129, 129), (256, 2), (2, 256), (255, 3), (3, 255), (256, 256)] {
+    // Those that an earlier release refused.
+    for (n, m) in [(129, 129), (256, 2), (2, 256), (256, 256)] {
+        assert_eq!(
+            joined(&skips(n), &skips(m)).iter().filter(|&&byte| byte == 10).count(),
+            n + m - 1
+        );
+    }
+    for (n, m) in [(513, 513), (1_024, 2), (2, 1_024), (1_023, 3), (3, 1_023), (1_024, 1_024)] {
         assert_refused(&skips(n), &skips(m), TEXT_BYTES, Refusal::JoinedCount);
     }
-    // Targets of three digits.
-    let mut creeper = lines(129);
-    creeper[1] = "if i0 goto 129 else 2".to_string();
-    let new = joined(&skips(128), &text(&creeper));
-    let mut expected = lines(256);
-    expected[127] = "i0 := i0".to_string();
-    expected[128] = "if i0 goto 256 else 129".to_string();
+    // Targets of three digits that get four.
+    let mut creeper = lines(513);
+    creeper[1] = "if i0 goto 513 else 489".to_string();
+    let new = joined(&skips(512), &text(&creeper));
+    let mut expected = lines(1_024);
+    expected[511] = "i0 := i0".to_string();
+    expected[512] = "if i0 goto 1024 else 1000".to_string();
     assert_eq!(new, text(&expected));
 }
 
@@ -286,23 +299,23 @@ fn up_to_256_statements() {
 #[test]
 fn the_longest_programs_are_joined() {
     let program = |n: usize| {
-        let mut lines = vec!["i31 := -2147483648 + -2147483648"; n];
-        lines[0] = "read i31";
-        lines[n - 1] = "write i31";
+        let mut lines = vec!["i63 := -2147483648 + -2147483648"; n];
+        lines[0] = "read i63";
+        lines[n - 1] = "write i63";
         text(&lines)
     };
-    let new = joined(&program(128), &program(129));
-    let mut expected = vec!["i31 := -2147483648 + -2147483648"; 256];
-    expected[0] = "read i31";
-    expected[127] = "i31 := i31";
-    expected[255] = "write i31";
+    let new = joined(&program(512), &program(513));
+    let mut expected = vec!["i63 := -2147483648 + -2147483648"; 1_024];
+    expected[0] = "read i63";
+    expected[511] = "i63 := i63";
+    expected[1_023] = "write i63";
     assert_eq!(new, text(&expected));
 }
 
 #[test]
 fn refusals_come_in_order() {
     let good = text(&["read i0", "write i0"]);
-    let full = text(&lines(256));
+    let full = text(&lines(1_024));
     let numbered = |number| *Refusal::ALL.iter().find(|r| r.number() == number).expect("a refusal");
     for (wrong, number) in refused_programs() {
         let refusal = numbered(number);
@@ -316,7 +329,7 @@ fn refusals_come_in_order() {
             assert_refused(&wrong, &other, TEXT_BYTES, refusal);
         }
     }
-    for room in [0, 1, 8_192, TEXT_BYTES - 1] {
+    for room in [0, 1, 8_704, TEXT_BYTES - 1] {
         assert_refused(&good, &good, room, Refusal::Buffer);
         assert_refused(b"rubbish", &good, room, Refusal::Buffer);
         assert_refused(&good, b"rubbish", room, Refusal::Buffer);

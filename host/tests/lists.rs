@@ -6,7 +6,8 @@ mod common;
 use common::{lines, refused_programs, shown, text, P};
 use oracle::generate::{self, Random};
 use rewrites::{judge, list, raw, relist, tabulate, Listing, Refusal};
-use rewrites::{LIST_WORDS, TABLE_WORDS, TEXT_BYTES, VARIABLES, VERDICT_BYTES};
+use rewrites::{LIST_WORDS, MARKS as MOST, PART_WORDS, STATEMENTS, TABLE_WORDS};
+use rewrites::{TEXT_BYTES, VARIABLES, VERDICT_BYTES};
 
 /// The marks to check against.
 const MARKS: &[u8] = b"4: mark(rpl, i2, 7)\n3: mark(rm, i2, 7)\n4: mark(rpl, i1, i0)\n\
@@ -129,7 +130,7 @@ fn changed(before: &[u64], after: &[u64]) -> Vec<(usize, u64)> {
 
 /// A bit in word 0 of the using set of each variable that the unit keeps.
 fn kept_uses(word: u64) -> impl Iterator<Item = (usize, u64)> {
-    [196, 204, 212, 220, 228, 236, 244, 252].into_iter().map(move |k| (k, word))
+    [784, 816, 848, 880, 912, 944, 976, 1_008].into_iter().map(move |k| (k, word))
 }
 
 /// The numbers of ones of a variable's two sets.
@@ -137,12 +138,21 @@ fn of(listing: &Listing, v: usize) -> (u32, u32) {
     (listing.defined[v], listing.used[v])
 }
 
+/// The first words of a variable's two sets.
+fn defining(v: usize) -> usize {
+    32 * v
+}
+
+fn using(v: usize) -> usize {
+    32 * v + 16
+}
+
 /// The ones of each set, counted from the words.
 fn counted(words: &[u64]) -> Listing {
-    let ones = |k: usize| words[k..k + 4].iter().map(|word| word.count_ones()).sum();
+    let ones = |k: usize| words[k..k + PART_WORDS].iter().map(|word| word.count_ones()).sum();
     Listing {
-        defined: std::array::from_fn(|v| ones(8 * v)),
-        used: std::array::from_fn(|v| ones(8 * v + 4)),
+        defined: std::array::from_fn(|v| ones(defining(v))),
+        used: std::array::from_fn(|v| ones(using(v))),
     }
 }
 
@@ -153,7 +163,7 @@ const ONES: [u64; LIST_WORDS] = [u64::MAX; LIST_WORDS];
 fn the_list_of_p() {
     let (words, listing) = made(P.as_bytes());
     let mut expected =
-        vec![(0, 33), (4, 114), (8, 2), (12, 8), (16, 4), (20, 8), (24, 8), (28, 128)];
+        vec![(0, 33), (16, 114), (32, 2), (48, 8), (64, 4), (80, 8), (96, 8), (112, 128)];
     expected.extend(kept_uses(128));
     assert_eq!(changed(&ZEROS, &words), expected);
     for v in 0..VARIABLES {
@@ -171,7 +181,7 @@ fn the_list_of_p() {
 fn the_marks_of_p_on_its_list() {
     let (given, before) = made(P.as_bytes());
     let (words, listing) = updated(P.as_bytes(), MARKS, &given);
-    assert_eq!(changed(&given, &words), [(20, 0)]);
+    assert_eq!(changed(&given, &words), [(80, 0)]);
     let mut expected = before;
     expected.used[2] = 0;
     assert_eq!(listing, expected);
@@ -181,7 +191,7 @@ fn the_marks_of_p_on_its_list() {
 #[test]
 fn the_marks_of_p_on_zeros() {
     let (words, listing) = updated(P.as_bytes(), MARKS, &ZEROS);
-    assert_eq!(changed(&ZEROS, &words), [(12, 8), (24, 8)]);
+    assert_eq!(changed(&ZEROS, &words), [(48, 8), (96, 8)]);
     for v in 0..VARIABLES {
         let expected = match v {
             1 => (0, 1),
@@ -196,25 +206,25 @@ fn the_marks_of_p_on_zeros() {
 fn the_marks_of_p_on_ones() {
     let (words, listing) = updated(P.as_bytes(), MARKS, &ONES);
     for (k, &word) in words.iter().enumerate() {
-        let is_cleared = k % 4 == 0 && k != 12 && k != 24;
+        let is_cleared = k % 16 == 0 && k != 48 && k != 96;
         assert_eq!(word, if is_cleared { !8 } else { u64::MAX }, "word {k}");
     }
     for v in 0..VARIABLES {
         let expected = match v {
-            1 => (255, 256),
-            3 => (256, 255),
-            _ => (255, 255),
+            1 => (1_023, 1_024),
+            3 => (1_024, 1_023),
+            _ => (1_023, 1_023),
         };
         assert_eq!(of(&listing, v), expected, "i{v}");
     }
 }
 
-/// Under 256 words the texts are no matter.
+/// Under 2,048 words the texts are no matter.
 #[test]
 fn a_short_list_is_refused_1() {
     let mut programs: Vec<Vec<u8>> = refused_programs().into_iter().map(|(p, _)| p).collect();
     programs.extend([P.as_bytes().to_vec(), b"raed i0\nwrite i0\n".to_vec()]);
-    for room in [0, 1, 4, 8, 128, 254, 255] {
+    for room in [0, 1, 16, 32, 256, 2_046, 2_047] {
         let words = vec![7; room];
         for program in &programs {
             assert_eq!(make(program, &words), (1, words.clone(), None));
@@ -226,24 +236,24 @@ fn a_short_list_is_refused_1() {
 }
 
 #[test]
-fn words_from_256_on_are_kept() {
+fn words_from_2048_on_are_kept() {
     let (given, listing) = made(P.as_bytes());
     let behind: Vec<u64> = (0..44).map(|k| 0x1111_0000 + k).collect();
     let before = [&ONES[..], &behind].concat();
-    assert_eq!(before.len(), 300);
+    assert_eq!(before.len(), 2_092);
     let (number, words, counts) = make(P.as_bytes(), &before);
-    assert_eq!((number, &words[..256], counts), (0, &given[..], Some(listing)));
-    assert_eq!(words[256..], behind);
+    assert_eq!((number, &words[..2_048], counts), (0, &given[..], Some(listing)));
+    assert_eq!(words[2_048..], behind);
     let (number, after, counts) = update(P.as_bytes(), MARKS, &words);
-    assert_eq!((number, changed(&words, &after)), (0, vec![(20, 0)]));
+    assert_eq!((number, changed(&words, &after)), (0, vec![(80, 0)]));
     let mut expected = listing;
     expected.used[2] = 0;
     assert_eq!(counts, Some(expected));
     // Ones there are in no count.
-    let before = vec![u64::MAX; 300];
+    let before = vec![u64::MAX; 2_092];
     let (_, after, counts) = update(P.as_bytes(), MARKS, &before);
-    assert_eq!(after[256..], before[256..]);
-    assert_eq!(counts.map(|counts| of(&counts, 31)), Some((255, 255)));
+    assert_eq!(after[2_048..], before[2_048..]);
+    assert_eq!(counts.map(|counts| of(&counts, 63)), Some((1_023, 1_023)));
 }
 
 #[test]
@@ -255,7 +265,7 @@ fn refused_texts_keep_all() {
             assert_eq!(update(&program, marks, &ONES), (number, ONES.to_vec(), None));
         }
     }
-    let many = b"4: mark(rpl, i2, 7)\n".repeat(257);
+    let many = b"4: mark(rpl, i2, 7)\n".repeat(MOST + 1);
     let both = [&many[..], b"x\n"].concat();
     for (marks, number) in [
         (&b"x\n"[..], 9),
@@ -266,60 +276,67 @@ fn refused_texts_keep_all() {
     ] {
         assert_eq!(update(P.as_bytes(), marks, &ONES), (number, ONES.to_vec(), None));
     }
-    // 256 lines are taken: the first is accepted, the others name 4 again.
-    let (words, _) = updated(P.as_bytes(), &many[..256 * 20], &ZEROS);
-    assert_eq!(changed(&ZEROS, &words), [(12, 8), (24, 8)]);
+    // 1,024 lines are taken: the first is accepted, the others name 4 again.
+    let (words, _) = updated(P.as_bytes(), &many[..MOST * 20], &ZEROS);
+    assert_eq!(changed(&ZEROS, &words), [(48, 8), (96, 8)]);
 }
 
 #[test]
 fn two_statements() {
     let (words, listing) = made(b"read i0\nwrite i0\n");
-    let expected: Vec<_> = [(0, 1), (4, 2)].into_iter().chain(kept_uses(2)).collect();
+    let expected: Vec<_> = [(0, 1), (16, 2)].into_iter().chain(kept_uses(2)).collect();
     assert_eq!(changed(&ZEROS, &words), expected);
     assert_eq!((of(&listing, 0), of(&listing, 1), of(&listing, 24)), ((1, 1), (0, 0), (0, 1)));
 
     let (words, listing) = made(b"read i31\nwrite i30\n");
-    let expected: Vec<_> = kept_uses(2).take(7).chain([(248, 1), (252, 2)]).collect();
+    let expected: Vec<_> = kept_uses(2).take(7).chain([(992, 1), (1_008, 2)]).collect();
     assert_eq!(changed(&ZEROS, &words), expected);
     assert_eq!((of(&listing, 30), of(&listing, 31)), ((0, 1), (1, 1)));
+
+    let (words, listing) = made(b"read i63\nwrite i62\n");
+    let expected: Vec<_> = kept_uses(2).chain([(2_000, 2), (2_016, 1)]).collect();
+    assert_eq!(changed(&ZEROS, &words), expected);
+    assert_eq!((of(&listing, 62), of(&listing, 63)), ((0, 1), (1, 0)));
 }
 
 /// Each bit of each word is a statement.
 #[test]
-fn two_hundred_and_fifty_six_statements() {
+fn one_thousand_and_twenty_four_statements() {
     let last = 1 << 63;
-    let (words, listing) = made(&text(&lines(256)));
-    assert_eq!(words[..8], [1, 0, 0, 0, 0, 0, 0, last]);
-    let kept: Vec<_> = kept_uses(last).map(|(k, word)| (k + 3, word)).collect();
+    let (words, listing) = made(&text(&lines(1_024)));
+    assert_eq!(changed(&ZEROS, &words)[..2], [(0, 1), (31, last)]);
+    let kept: Vec<_> = kept_uses(last).map(|(k, word)| (k + 15, word)).collect();
     assert_eq!(changed(&ZEROS, &words)[2..], kept);
     assert_eq!(of(&listing, 0), (1, 1));
 
-    let mut program = vec!["i5 := i5 + i5"; 256];
-    (program[0], program[255]) = ("read i0", "write i31");
+    let mut program = vec!["i5 := i5 + i5"; 1_024];
+    (program[0], program[1_023]) = ("read i0", "write i63");
     let (words, listing) = made(&text(&program));
-    let inner = [!1, u64::MAX, u64::MAX, u64::MAX >> 1];
-    assert_eq!((&words[40..44], &words[44..48]), (&inner[..], &inner[..]));
-    assert_eq!(words[..8], [1, 0, 0, 0, 0, 0, 0, 0]);
-    assert_eq!(words[252..], [0, 0, 0, last]);
-    assert_eq!((of(&listing, 5), of(&listing, 31)), ((254, 254), (0, 1)));
+    let mut inner = [u64::MAX; PART_WORDS];
+    (inner[0], inner[15]) = (!1, u64::MAX >> 1);
+    assert_eq!((&words[160..176], &words[176..192]), (&inner[..], &inner[..]));
+    assert_eq!((words[0], &words[1..32]), (1, &[0; 31][..]));
+    assert_eq!((&words[2_032..2_047], words[2_047]), (&[0; 15][..], last));
+    assert_eq!((of(&listing, 5), of(&listing, 63)), ((1_022, 1_022), (0, 1)));
 
     // Each statement is dropped in turn, where its value isn't used later on.
-    for at in 2..=255 {
-        let mut program = lines(256);
+    for at in (2..=70).chain(250..=260).chain(1_018..=1_023) {
+        let mut program = lines(STATEMENTS);
         program[at - 1] = "i5 := i6 + i7".to_string();
         let program = text(&program);
         let marks = format!("{at}: mark(rm, i5, i6 + i7)\n").into_bytes();
         let (given, _) = made(&program);
         let (word, bit) = ((at - 1) / 64, 1 << ((at - 1) % 64));
-        for k in [40, 52, 60] {
+        for k in [defining(5), using(6), using(7)] {
             assert_eq!(given[k + word], bit);
         }
         let (words, _) = updated(&program, &marks, &given);
-        assert_eq!(words, made(&text(&lines(256))).0);
+        assert_eq!(words, made(&text(&lines(STATEMENTS))).0);
         let (words, listing) = updated(&program, &marks, &ONES);
-        let expected: Vec<_> = (0..64).map(|set| (4 * set + word, !bit)).collect();
+        let expected: Vec<_> =
+            (0..2 * VARIABLES).map(|set| (PART_WORDS * set + word, !bit)).collect();
         assert_eq!(changed(&ONES, &words), expected);
-        assert_eq!((listing.defined, listing.used), ([255; VARIABLES], [255; VARIABLES]));
+        assert_eq!((listing.defined, listing.used), ([1_023; VARIABLES], [1_023; VARIABLES]));
     }
 }
 
@@ -327,7 +344,7 @@ fn two_hundred_and_fifty_six_statements() {
 fn a_variable_on_both_sides() {
     let (words, listing) = made(b"read i1\ni0 := i0 + i0\nwrite i1\n");
     let expected: Vec<_> =
-        [(0, 2), (4, 2), (8, 1), (12, 4)].into_iter().chain(kept_uses(4)).collect();
+        [(0, 2), (16, 2), (32, 1), (48, 4)].into_iter().chain(kept_uses(4)).collect();
     assert_eq!(changed(&ZEROS, &words), expected);
     assert_eq!((of(&listing, 0), of(&listing, 1)), ((1, 1), (1, 1)));
     // Both uses go with one mark.
@@ -335,7 +352,7 @@ fn a_variable_on_both_sides() {
     let marks = b"3: mark(rpl, i0, i1)\n";
     let (given, _) = made(program);
     let (words, listing) = updated(program, marks, &given);
-    assert_eq!(changed(&given, &words), [(4, 8), (12, 6)]);
+    assert_eq!(changed(&given, &words), [(16, 8), (48, 6)]);
     assert_eq!((of(&listing, 0), of(&listing, 1)), ((2, 1), (1, 2)));
 }
 
@@ -352,6 +369,7 @@ fn every_kind_of_statement() {
         ("i1 := i2 / i3", &[1], &[2, 3]),
         ("i1 := 1 / 0", &[1], &[]),
         ("i31 := i24 < i25", &[31], &[24, 25]),
+        ("i63 := i32 < i62", &[63], &[32, 62]),
         ("i1 := i2 = i2", &[1], &[2]),
         ("if i9 goto 3 else 3", &[], &[9]),
         ("skip", &[], &[]),
@@ -360,16 +378,16 @@ fn every_kind_of_statement() {
         let (words, listing) = made(&text(&["read i0", statement, "write i0"]));
         for v in 0..VARIABLES {
             let bit = |is_in: bool, at: usize| u64::from(is_in) << at;
-            let (first, last) = (v == 0, v == 0 || v >= 24);
+            let (first, last) = (v == 0, v == 0 || (24..32).contains(&v));
             let expected = (
                 bit(first, 0) | bit(defined.contains(&v), 1),
                 bit(used.contains(&v), 1) | bit(last, 2),
             );
-            assert_eq!((words[8 * v], words[8 * v + 4]), expected, "{statement}: i{v}");
+            assert_eq!((words[defining(v)], words[using(v)]), expected, "{statement}: i{v}");
             let ones = (expected.0.count_ones(), expected.1.count_ones());
             assert_eq!(of(&listing, v), ones, "{statement}: i{v}");
         }
-        assert!((0..LIST_WORDS).all(|k| k % 4 == 0 || words[k] == 0), "{statement}");
+        assert!((0..LIST_WORDS).all(|k| k % PART_WORDS == 0 || words[k] == 0), "{statement}");
     }
 }
 
@@ -381,11 +399,11 @@ fn a_replacement_at_write_leaves_the_kept_uses() {
     assert_eq!(rewritten(program, marks), b"read i0\ni9 := i0\nwrite i0\n");
     let (given, _) = made(program);
     let (words, listing) = updated(program, marks, &given);
-    assert_eq!(changed(&given, &words), [(4, 6), (76, 0)]);
+    assert_eq!(changed(&given, &words), [(16, 6), (304, 0)]);
     assert_eq!((of(&listing, 0), of(&listing, 9), of(&listing, 24)), ((1, 2), (1, 0), (0, 1)));
     // They are written too: set where they were missing.
     let (words, _) = updated(program, marks, &ZEROS);
-    let expected: Vec<_> = [(4, 4)].into_iter().chain(kept_uses(4)).collect();
+    let expected: Vec<_> = [(16, 4)].into_iter().chain(kept_uses(4)).collect();
     assert_eq!(changed(&ZEROS, &words), expected);
 
     // One that is kept is used there, written or not.
@@ -394,7 +412,7 @@ fn a_replacement_at_write_leaves_the_kept_uses() {
     assert_eq!(rewritten(program, marks), b"read i0\ni24 := i0\nwrite i0\n");
     let (given, _) = made(program);
     let (words, listing) = updated(program, marks, &given);
-    assert_eq!(changed(&given, &words), [(4, 6)]);
+    assert_eq!(changed(&given, &words), [(16, 6)]);
     assert_eq!(of(&listing, 24), (1, 1));
 }
 
@@ -404,11 +422,11 @@ fn a_dropped_assignment_loses_all_its_bits() {
     let marks = b"2: mark(rm, i1, i2 + i3)\n";
     let (given, _) = made(program);
     let (words, _) = updated(program, marks, &given);
-    assert_eq!(changed(&given, &words), [(8, 0), (20, 0), (28, 0)]);
+    assert_eq!(changed(&given, &words), [(32, 0), (80, 0), (112, 0)]);
     let (words, listing) = updated(program, marks, &ONES);
-    let expected: Vec<_> = (0..64).map(|set| (4 * set, !2)).collect();
+    let expected: Vec<_> = (0..2 * VARIABLES).map(|set| (PART_WORDS * set, !2)).collect();
     assert_eq!(changed(&ONES, &words), expected);
-    assert_eq!((listing.defined, listing.used), ([255; VARIABLES], [255; VARIABLES]));
+    assert_eq!((listing.defined, listing.used), ([1_023; VARIABLES], [1_023; VARIABLES]));
     assert_eq!(updated(program, marks, &ZEROS).0, ZEROS);
 }
 
@@ -441,16 +459,16 @@ fn a_value_that_is_read_again_is_used() {
     assert_eq!(verdicts(program, marks), [14, 0]);
     assert_eq!(rewritten(program, marks), b"read i0\ni1 := i0 + i2\ni3 := i1\nwrite i3\n");
     let (given, _) = made(program);
-    assert_eq!((given[4], given[12], given[20]), (6, 0, 6));
+    assert_eq!((given[16], given[48], given[80]), (6, 0, 6));
     let (words, listing) = updated(program, marks, &given);
-    assert_eq!(changed(&given, &words), [(4, 2), (12, 4), (20, 2)]);
+    assert_eq!(changed(&given, &words), [(16, 2), (48, 4), (80, 2)]);
     assert_eq!((of(&listing, 0), of(&listing, 1), of(&listing, 2)), ((1, 1), (1, 1), (0, 1)));
     assert_eq!(made(&rewritten(program, marks)), (words, listing));
     // Statement 3 alone is written.
     let (words, _) = updated(program, marks, &ZEROS);
-    assert_eq!(changed(&ZEROS, &words), [(12, 4), (24, 4)]);
+    assert_eq!(changed(&ZEROS, &words), [(48, 4), (96, 4)]);
     let (words, _) = updated(program, marks, &ONES);
-    let cleared = (0..64).map(|set| 4 * set).filter(|&k| k != 12 && k != 24);
+    let cleared = (0..2 * VARIABLES).map(|set| PART_WORDS * set).filter(|&k| k != 48 && k != 96);
     assert_eq!(changed(&ONES, &words), cleared.map(|k| (k, !4)).collect::<Vec<_>>());
     // One that is refused gives T no use.
     let marks = b"3: mark(cse, i4, i0 + i2)\n";
@@ -473,16 +491,18 @@ fn marks_on_several_statements() {
     assert_eq!(verdicts(&program, marks), [0, 13, 0]);
     let (given, _) = made(&program);
     let (words, listing) = updated(&program, marks, &given);
-    assert_eq!(changed(&given, &words), [(13, 0), (14, 2)]);
+    assert_eq!(changed(&given, &words), [(49, 0), (50, 2)]);
     assert_eq!((of(&listing, 1), of(&listing, 3)), ((1, 1), (0, 1)));
     assert_eq!(made(&rewritten(&program, marks)), (words, listing));
 
     // Statement 70 defines i2 and uses i3, 190 defines i5; 130 isn't changed.
     let (words, _) = updated(&program, marks, &ONES);
-    for set in 0..64 {
+    for set in 0..2 * VARIABLES {
         let of_70 = if set == 4 || set == 7 { 0 } else { 1 << 5 };
         let of_190 = if set == 10 { 0 } else { 1 << 61 };
-        assert_eq!(words[4 * set..4 * set + 4], [u64::MAX, !of_70, !of_190, u64::MAX], "{set}");
+        let mut expected = [u64::MAX; PART_WORDS];
+        (expected[1], expected[2]) = (!of_70, !of_190);
+        assert_eq!(words[PART_WORDS * set..][..PART_WORDS], expected, "{set}");
     }
 }
 
@@ -490,17 +510,20 @@ fn marks_on_several_statements() {
 #[test]
 fn sets_are_rows_of_conditions() {
     let mut random = Random::new(12);
-    for size in [2, 3, 8, 63, 64, 65, 128, 129, 200, 256] {
+    for size in [2, 3, 8, 63, 64, 65, 128, 129, 200, 256, 257, 1_023, 1_024] {
         let program = generate::program(&mut random, size).text();
         let (words, listing) = made(&program);
         for v in 0..VARIABLES {
             for (first, count, atom) in
-                [(8 * v, listing.defined[v], "def"), (8 * v + 4, listing.used[v], "use")]
+                [(defining(v), listing.defined[v], "def"), (using(v), listing.used[v], "use")]
             {
                 let mut table = [0; TABLE_WORDS];
                 let answer = tabulate(&program, format!("{atom}(i{v})").as_bytes(), &mut table);
                 let satisfied = answer.expect("the condition is taken").satisfied;
-                assert_eq!((&words[first..first + 4], count), (&table[..4], satisfied));
+                assert_eq!(
+                    (&words[first..][..PART_WORDS], count),
+                    (&table[..PART_WORDS], satisfied)
+                );
             }
         }
     }

@@ -5,24 +5,22 @@ mod common;
 
 use common::{shown, text, P};
 use oracle::generate::{self, Random};
-use rewrites::{judge, mark_line, raw, Refusal, TEXT_BYTES, VERDICT_BYTES};
+use rewrites::{judge, mark_line, raw, Refusal, MARKS, TEXT_BYTES, VERDICT_BYTES};
 use std::ops::Range;
 
 /// The list to check against.
 const LIST: &[u8] = b"4: mark(rpl, i2, 7)\n3: mark(rm, i2, 7)\n4: mark(rpl, i1, i0)\n\
     6: mark(rm, i0, 1)\n9: mark(rm, i2, 7)\n";
 
-const MOST_MARKS: usize = 256;
-
 /// Lines at and beyond the most marks. Most have the low bits of a line that there is.
 const BEYOND: [u32; 12] = [
-    256,
-    257,
-    260,
-    512,
+    1_024,
+    1_025,
+    1_028,
+    2_048,
     1 << 16,
     (1 << 16) + 1,
-    (1 << 16) + 256,
+    (1 << 16) + 1_024,
     1 << 24,
     1 << 31,
     (1 << 31) + 1,
@@ -32,7 +30,7 @@ const BEYOND: [u32; 12] = [
 
 /// The lines that are asked for in a list of any size.
 fn lines() -> impl Iterator<Item = u32> {
-    [0, 1, 2, 4, 5, 254, 255].into_iter().chain(BEYOND)
+    [0, 1, 2, 4, 5, 255, 256, 1_022, 1_023].into_iter().chain(BEYOND)
 }
 
 /// What the places hold before a call, and the words on both sides of each.
@@ -81,7 +79,7 @@ fn the_lines_of_the_list_of_p() {
     for (line, bounds) in [0..20, 20..39, 39..60, 60..79, 79..98].into_iter().enumerate() {
         assert_lies(LIST, line as u32, bounds);
     }
-    for line in [5, 6, 7, 255].into_iter().chain(BEYOND) {
+    for line in [5, 6, 7, 255, 256, 1_023].into_iter().chain(BEYOND) {
         assert_lies(LIST, line, 98..98);
     }
 }
@@ -94,15 +92,15 @@ fn the_empty_list_has_no_line() {
 }
 
 #[test]
-fn marks_up_to_256_have_their_lines_and_257_are_refused_10() {
+fn marks_up_to_1024_have_their_lines_and_1025_are_refused_10() {
     for (line, bytes) in [
         ("0: mark(rm, i0, 0)", 19),
-        ("2147483647: mark(rm, i31, 2147483647 + 2147483647)", 51),
-        ("2147483647: mark(rm, i31, -2147483648 + -2147483648)", 53),
+        ("2147483647: mark(rm, i63, 2147483647 + 2147483647)", 51),
+        ("2147483647: mark(rm, i63, -2147483648 + -2147483648)", 53),
         // The longest.
-        ("2147483647: mark(cse, i31, -2147483648 + -2147483648)", 54),
+        ("2147483647: mark(cse, i63, -2147483648 + -2147483648)", 54),
     ] {
-        for count in [1, 2, 255, MOST_MARKS] {
+        for count in [1, 2, 257, MARKS] {
             let list = repeated(line, count);
             assert_eq!(list.len(), bytes * count);
             for at in 0..count {
@@ -112,12 +110,12 @@ fn marks_up_to_256_have_their_lines_and_257_are_refused_10() {
                 assert_lies(&list, at, list.len()..list.len());
             }
         }
-        for count in [257, 258, 512] {
+        for count in [1_025, 1_026, 2_048] {
             assert_refused(&repeated(line, count), Refusal::MarkCount);
         }
     }
-    // 65,792 lines are 256 by the low 16 bits of their count.
-    for count in [65_536, 65_792] {
+    // 66,560 lines are 1,024 by the low 16 bits of their count.
+    for count in [65_536, 66_560] {
         let list = repeated("0: mark(rm, i0, 0)", count);
         assert_eq!(mark_line(&list, 0), Err(Refusal::MarkCount));
     }
@@ -150,7 +148,7 @@ fn lines_of_every_length_lie_end_to_end() {
 fn a_last_line_without_byte_10_is_refused_9() {
     assert_refused(b"4", Refusal::MarkMisspelled);
     assert_refused(&LIST[..LIST.len() - 1], Refusal::MarkMisspelled);
-    for count in [1, 2, 255, 256, 257, 300] {
+    for count in [1, 2, 257, 1_023, 1_024, 1_025, 1_100] {
         let mut list = repeated("4: mark(rpl, i2, 7)", count);
         list.pop();
         assert_refused(&list, Refusal::MarkMisspelled);
@@ -188,8 +186,8 @@ fn a_misspelled_line_is_refused_9_whichever_is_asked_for() {
 
 #[test]
 fn refusal_9_comes_before_10() {
-    for at in [0, 100, 255, 256, 257, 299] {
-        let mut marks = vec!["4: mark(rpl, i2, 7)"; 300];
+    for at in [0, 256, 1_023, 1_024, 1_025, 1_099] {
+        let mut marks = vec!["4: mark(rpl, i2, 7)"; 1_100];
         assert_refused(&text(&marks), Refusal::MarkCount);
         marks[at] = "4: mark(rpl, i2, 7) ";
         assert_refused(&text(&marks), Refusal::MarkMisspelled);
@@ -226,7 +224,7 @@ fn random_lists_are_put_together_from_their_lines() {
         let size = 2 + random.below(12);
         let program = generate::program(&mut random, size);
         let count = match case % 100 {
-            0 => random.between(254, MOST_MARKS),
+            0 => random.between(MARKS - 2, MARKS),
             _ => random.below(24),
         };
         let marks = generate::marks(&mut random, &program, count);
@@ -240,11 +238,11 @@ fn random_lists_are_put_together_from_their_lines() {
             whole.extend_from_slice(bytes);
         }
         assert_eq!(whole, list);
-        let far = random.bits() as u32 | 1 << 8;
+        let far = random.bits() as u32 | MARKS as u32;
         for line in [count as u32, count as u32 + 1, far] {
             assert_lies(&list, line, list.len()..list.len());
         }
-        most += usize::from(count == MOST_MARKS);
+        most += usize::from(count == MARKS);
         empty += usize::from(count == 0);
     }
     assert!(most > 5 && empty > 50, "{} {}", most, empty);

@@ -7,7 +7,7 @@ mod common;
 use common::{given, lines, refused_programs, run, shown, text, P};
 use oracle::generate::{self, Random};
 use rewrites::{judge, raw, tabulate, Judged, Outcome, Refusal, Verdict};
-use rewrites::{FIRST_KEPT, KEPT, PART_WORDS, TABLE_WORDS, TEXT_BYTES, VERDICT_BYTES};
+use rewrites::{FIRST_KEPT, KEPT, PART_WORDS, TABLE_WORDS, TEXT_BYTES, VARIABLES, VERDICT_BYTES};
 
 // What is lent
 
@@ -91,7 +91,7 @@ fn assert_number(marks: &[u8], expected: u8) {
 
 /// The verdicts of the marks are these, and the new text is this one. All else is kept.
 fn assert_texts(program: &[u8], marks: &[u8], verdicts: &[u8], new: &[u8]) {
-    for room in [ROOM, [VERDICT_BYTES + 1, TEXT_BYTES + 1], [1000, 10_000]] {
+    for room in [ROOM, [VERDICT_BYTES + 1, TEXT_BYTES + 1], [3_000, 40_000]] {
         let expected = (0, filled(room, verdicts, new));
         assert_eq!(lend(program, marks, room), expected, "{}\n{}", shown(program), shown(marks));
     }
@@ -155,7 +155,7 @@ fn alike(given: Outcome, new: Outcome) -> bool {
 
 /// Runs of the two programs are alike, from some starts and under some budgets.
 fn assert_alike(program: &[u8], new: &[u8]) {
-    for values in [[0; 32], given(), given().map(|v| v % 2), [u32::MAX; 32]] {
+    for values in [[0; VARIABLES], given(), given().map(|v| v % 2), [u32::MAX; VARIABLES]] {
         for input in [0, 1, 2, 3, 5, 1000, i32::MAX as u32, 1 << 31, u32::MAX] {
             for budget in (0..24).chain([300]) {
                 let outcome = |text| run(text, &values, input, budget).expect("a program is taken");
@@ -260,7 +260,7 @@ write i3
 fn no_marks_give_the_program_back() {
     assert_judged(&p(), &[], &[]);
     assert_judged(&["read i0", "write i0"], &[], &[]);
-    assert_judged(&lines(256), &[], &[]);
+    assert_judged(&lines(1_024), &[], &[]);
     assert_eq!(P.len(), 101);
     let answer = judge(P.as_bytes(), b"", &mut [0; VERDICT_BYTES], &mut [0; TEXT_BYTES]);
     assert_eq!(answer, Ok(Judged { marks: 0, accepted: 0, bytes: 101 }));
@@ -297,11 +297,11 @@ fn a_mark_on_each_statement_of_p() {
 
 // Lists
 
-/// 256 lines, of which 254 assign a variable that is never used.
+/// 1,024 lines, of which 1,022 assign a variable that is never used.
 fn assignments() -> Vec<&'static str> {
-    let mut program = vec!["i1 := 7"; 256];
+    let mut program = vec!["i1 := 7"; 1_024];
     program[0] = "read i0";
-    program[255] = "write i0";
+    program[1_023] = "write i0";
     program
 }
 
@@ -311,42 +311,46 @@ fn repeated(line: &str, times: usize) -> Vec<u8> {
 }
 
 #[test]
-fn marks_up_to_256_are_taken_and_257_refused_10() {
+fn marks_up_to_1024_are_taken_and_1025_refused_10() {
     // Each assignment can go. `read` and `write` are none.
     let program = text(&assignments());
-    let marks: Vec<String> = (1..=256).map(|n| format!("{}: mark(rm, i1, 7)", n)).collect();
-    let mut verdicts = [0; 256];
+    let marks: Vec<String> = (1..=1_024).map(|n| format!("{}: mark(rm, i1, 7)", n)).collect();
+    let mut verdicts = [0; 1_024];
     verdicts[0] = 13;
-    verdicts[255] = 13;
-    assert_texts(&program, &text(&marks), &verdicts, &text(&lines(256)));
-    assert_alike(&program, &text(&lines(256)));
+    verdicts[1_023] = 13;
+    assert_texts(&program, &text(&marks), &verdicts, &text(&lines(1_024)));
+    assert_alike(&program, &text(&lines(1_024)));
     let answer = judge(&program, &text(&marks), &mut [0; VERDICT_BYTES], &mut [0; TEXT_BYTES]);
-    // 254 lines `skip` of 5 bytes, and 8 and 9.
-    assert_eq!(answer, Ok(Judged { marks: 256, accepted: 254, bytes: 1287 }));
+    // 1,022 lines `skip` of 5 bytes, and 8 and 9.
+    assert_eq!(answer, Ok(Judged { marks: 1_024, accepted: 1_022, bytes: 5_127 }));
 
-    let mut verdicts = [12; 256];
+    let mut verdicts = [12; 1_024];
     verdicts[0] = 0;
     let new = P.replace("i3 := i1 + i2", "i3 := i1 + 7");
-    let marks = repeated("4: mark(rpl, i2, 7)", 256);
+    let marks = repeated("4: mark(rpl, i2, 7)", 1_024);
     assert_texts(P.as_bytes(), &marks, &verdicts, new.as_bytes());
-    assert_texts(P.as_bytes(), &repeated("0: mark(rm, i0, 0)", 256), &[11; 256], P.as_bytes());
-    for marks in [0, 1, 2, 255] {
+    assert_texts(P.as_bytes(), &repeated("0: mark(rm, i0, 0)", 1_024), &[11; 1_024], P.as_bytes());
+    for marks in [0, 1, 2, 255, 256, 257, 1_023] {
         assert_number(&repeated("4: mark(rpl, i2, 7)", marks), 0);
     }
-    // 65,792 lines are 256 by the low 16 bits of their count.
-    for marks in [257, 258, 300, 512, 1000, 65_536, 65_792] {
+    // The longest: 1,024 lines of 54 bytes have room in a file of 65,535.
+    let longest = repeated("2147483647: mark(cse, i63, -2147483648 + -2147483648)", 1_024);
+    assert_eq!(longest.len(), 55_296);
+    assert_texts(P.as_bytes(), &longest, &[11; 1_024], P.as_bytes());
+    // 66,560 lines are 1,024 by the low 16 bits of their count.
+    for marks in [1_025, 1_026, 1_280, 2_048, 65_536, 66_560] {
         assert_number(&repeated("4: mark(rpl, i2, 7)", marks), 10);
     }
 }
 
 #[test]
-fn every_line_is_read_also_beyond_256() {
-    for bad in [0, 100, 254, 255, 256, 257, 299] {
-        let mut marks = vec!["4: mark(rpl, i2, 7)"; 300];
+fn every_line_is_read_also_beyond_1024() {
+    for bad in [0, 256, 1_022, 1_023, 1_024, 1_025, 1_099] {
+        let mut marks = vec!["4: mark(rpl, i2, 7)"; 1_100];
         marks[bad] = "4: mark(rpl, i2, 7) ";
         assert_number(&text(&marks), 9);
     }
-    let mut marks = repeated("4: mark(rpl, i2, 7)", 300);
+    let mut marks = repeated("4: mark(rpl, i2, 7)", 1_100);
     assert_number(&marks, 10);
     marks.extend_from_slice(b"x\n");
     assert_number(&marks, 9);
@@ -357,7 +361,7 @@ fn a_last_line_without_byte_10_is_refused_9() {
     for marks in ["4", "4: mark(rpl, i2, 7)", "4: mark(rpl, i2, 7)\n3: mark(rm, i2, 7)"] {
         assert_number(marks.as_bytes(), 9);
     }
-    for count in [1, 2, 256, 257, 300] {
+    for count in [1, 2, 257, 1_024, 1_025, 1_100] {
         let mut marks = repeated("4: mark(rpl, i2, 7)", count);
         marks.pop();
         assert_number(&marks, 9);
@@ -393,7 +397,7 @@ const MISSPELLED: &[&str] = &[
     "+4: mark(rm, i2, 7)", "04: mark(rm, i2, 7)", "00: mark(rm, i2, 7)", "4.0: mark(rm, i2, 7)",
     "4, 5: mark(rm, i2, 7)", "0x4: mark(rm, i2, 7)", "4: 4: mark(rm, i2, 7)",
     "4: mark(rm, 7, i2)", "4: mark(rpl, 7, i2)", "4: mark(rm, i, 7)", "4: mark(rm, I2, 7)",
-    "4: mark(rm, i32, 7)", "4: mark(rm, i02, 7)", "4: mark(rm, i2, i32)", "4: mark(rm, i2, i00)",
+    "4: mark(rm, i64, 7)", "4: mark(rm, i063, 7)", "4: mark(rm, i02, 7)", "4: mark(rm, i2, i64)", "4: mark(rm, i2, i00)",
     "4: mark(rm, i2, 07)", "4: mark(rm, i2, 2147483648)",
     "4: mark(rpl, i2, 2147483648)", "4: mark(rpl, i2, 4294967303)", "4: mark(rm, i2 := 7)",
     "4: mark(rm, i2, i2 := 7)", "4: mark(rm, i2, (7))", "4: mark(rm, i2, 7, 7)",
@@ -411,7 +415,7 @@ const MISSPELLED: &[&str] = &[
     "4: mark(cse, i2)", "4: mark(cse, i2, i1 +)", "4: mark(cse, i2, + i1)", "4: mark(cse, i2, i1+i2)",
     "4: mark(cse, i2, i1 +i2)", "4: mark(cse, i2, i1 % i2)", "4: mark(cse, i2, (i1 + i2))",
     "4: mark(cse, i2, i3 := i1 + i2)", "4: mark(cse, i2, i1 + i2, 7)", "4: mark(cse, i2, i1, i2)",
-    "4: mark(cse, i2, i1 + i32)", "4: mark(cse, i32, i1 + i2)", "4: mark(cse, 7, i1 + i2)",
+    "4: mark(cse, i2, i1 + i64)", "4: mark(cse, i64, i1 + i2)", "4: mark(cse, 7, i1 + i2)",
     "4: mark(cse, i2, i1 + i2) ", "4: mark(cse, i2, i1 + i2))", "4: mark(cse, i2, i1 + i2",
     "4: mark(cse i2, i1 + i2)", "4: mark(cse,i2, i1 + i2)", "4: mark(cse, i2,i1 + i2)",
     "4: mark(cse , i2, i1 + i2)", "4: mark( cse, i2, i1 + i2)", "4: mark(cse,  i2, i1 + i2)",
@@ -467,12 +471,12 @@ fn a_doubled_byte_is_refused_9_unless_it_is_a_digit() {
 
 #[test]
 fn spelled_marks_of_each_kind_are_taken() {
-    for x in 0..32 {
-        assert_number(&text(&[format!("4: mark(rm, i{}, i{})", x, 31 - x)]), 0);
-        assert_number(&text(&[format!("4: mark(rpl, i{}, i{})", x, 31 - x)]), 0);
-        assert_number(&text(&[format!("4: mark(cse, i{}, i{})", x, 31 - x)]), 0);
+    for x in 0..64 {
+        assert_number(&text(&[format!("4: mark(rm, i{}, i{})", x, 63 - x)]), 0);
+        assert_number(&text(&[format!("4: mark(rpl, i{}, i{})", x, 63 - x)]), 0);
+        assert_number(&text(&[format!("4: mark(cse, i{}, i{})", x, 63 - x)]), 0);
     }
-    for a in ["0", "1", "10", "2147483647", "i0", "i31"] {
+    for a in ["0", "1", "10", "2147483647", "i0", "i63"] {
         assert_number(&text(&[format!("4: mark(rm, i2, {})", a)]), 0);
         assert_number(&text(&[format!("4: mark(rpl, i2, {})", a)]), 0);
         assert_number(&text(&[format!("4: mark(cse, i2, {})", a)]), 0);
@@ -577,19 +581,35 @@ fn statement_numbers_take_no_sign() {
 
 #[test]
 fn a_number_that_the_program_lacks_gets_11() {
-    // 260 and 65540 are 4 by their low bits, and a mark on 4 is accepted.
-    for n in ["0", "9", "10", "12", "256", "257", "260", "65540", "2147483646", "2147483647"] {
+    // 260, 1028 and 65540 are 4 by their low bits, and a mark on 4 is accepted.
+    for n in [
+        "0",
+        "9",
+        "10",
+        "12",
+        "256",
+        "260",
+        "1024",
+        "1025",
+        "1028",
+        "65540",
+        "2147483646",
+        "2147483647",
+    ] {
         let mark = format!("{}: mark(rpl, i2, 7)", n);
         assert_judged(&p(), &[(&mark, 11)], &[]);
         let mark = format!("{}: mark(rm, i2, 7)", n);
         assert_judged(&p(), &[(&mark, 11)], &[]);
     }
     let program = ["read i0", "i1 := 7", "write i0"];
-    for n in [0, 4, 258, 65538] {
+    for n in [0, 4, 258, 1_026, 65538] {
         let mark = format!("{}: mark(rm, i1, 7)", n);
         assert_judged(&program, &[(&mark, 11)], &[]);
     }
-    assert_judged(&lines(256), &[("257: mark(rm, i1, 7)", 11), ("256: mark(rm, i1, 7)", 13)], &[]);
+    for n in [256, 257, 1_024] {
+        let marks = [n + 1, n].map(|number| format!("{number}: mark(rm, i1, 7)"));
+        assert_judged(&lines(n), &[(&marks[0], 11), (&marks[1], 13)], &[]);
+    }
 }
 
 #[test]
@@ -604,11 +624,11 @@ fn refusal_11_comes_before_12() {
         ("0: mark(rpl, i2, 7)", 11),
     ];
     assert_judged(&p(), &marks, &[]);
-    // A line on no statement names none: 0 isn't 1, and 260 isn't 4.
+    // A line on no statement names none: 0 isn't 1, and 1028 isn't 4.
     assert_judged(&p(), &[("0: mark(rm, i2, 7)", 11), ("1: mark(rm, i2, 7)", 13)], &[]);
     assert_judged(
         &p(),
-        &[("260: mark(rpl, i2, 7)", 11), ("4: mark(rpl, i2, 7)", 0)],
+        &[("1028: mark(rpl, i2, 7)", 11), ("4: mark(rpl, i2, 7)", 0)],
         &[(4, "i3 := i1 + 7")],
     );
 }
@@ -659,13 +679,13 @@ fn of_two_marks_that_fit_and_hold_the_first_is_made() {
 
 #[test]
 fn every_statement_may_be_named_once() {
-    // 128 statements, each twice, with word boundaries of 64 statements among them.
-    for first in [2, 65, 128] {
+    // 512 statements, each twice, with word boundaries of 64 statements among them.
+    for first in [2, 65, 512] {
         let once: Vec<String> =
-            (first..first + 128).map(|n| format!("{}: mark(rm, i1, 7)", n)).collect();
+            (first..first + 512).map(|n| format!("{}: mark(rm, i1, 7)", n)).collect();
         let mut marks: Vec<(&str, u8)> = once.iter().map(|line| (&line[..], 0)).collect();
         marks.extend(once.iter().map(|line| (&line[..], 12)));
-        let made: Vec<(usize, &str)> = (first..first + 128).map(|n| (n, "skip")).collect();
+        let made: Vec<(usize, &str)> = (first..first + 512).map(|n| (n, "skip")).collect();
         assert_judged(&assignments(), &marks, &made);
     }
 }
@@ -866,7 +886,7 @@ fn assert_dropped(right: &str, unused: u8, written: u8) {
 
 #[test]
 fn a_division_is_dropped_only_by_a_constant_other_than_0() {
-    for right in ["i0 / i2", "i0 / 0", "0 / 0", "5 / i0", "i2 / i2", "i1 / i1", "7 / i31"] {
+    for right in ["i0 / i2", "i0 / 0", "0 / 0", "5 / i0", "i2 / i2", "i1 / i1", "7 / i63"] {
         assert_dropped(right, 18, 18);
     }
     for divisor in ["2", "-1", "1", "-2147483648", "2147483647", "-2", "256", "65536"] {
@@ -942,7 +962,7 @@ fn a_division_that_is_dropped_would_lose_its_fault() {
     assert_judged(&program, &[("2: mark(rm, i1, i0 / i2)", 18)], &[]);
     assert!(holds(&program, "!EX E[!def(i1) U use(i1)]", 2));
     let wrong = text(&changed(&program, &[(2, "skip")]));
-    let outcome = |program: &[u8]| run(program, &[0; 32], 5, 9);
+    let outcome = |program: &[u8]| run(program, &[0; VARIABLES], 5, 9);
     assert_eq!(outcome(&text(&program)), Ok(Outcome::Fault { statement: 2, steps: 2, ticks: 28 }));
     let kept = [0; KEPT];
     assert_eq!(outcome(&wrong), Ok(Outcome::Ended { value: 5, steps: 3, kept, ticks: 9 }));
@@ -1269,7 +1289,7 @@ fn rpl_with_e_for_a_takes_a_copy_on_one_path() {
 
 #[test]
 fn an_assignment_to_i24_to_i31_stays_before_the_end() {
-    for x in 2..32 {
+    for x in 2..64 {
         let (line, mark) = (format!("i{} := 5", x), format!("2: mark(rm, i{}, 5)", x));
         let program = ["read i0", &line, "i1 := i0", "write i1"];
         let without = changed(&program, &[(2, "skip")]);
@@ -1333,10 +1353,10 @@ fn rpl_at_write_does_not_fit_what_is_kept_only() {
     assert!(holds(&program, "use(i25)", 3));
     assert!(holds(&program, &published("3: mark(rpl, i25, i0)"), 3));
     assert_judged(&program, &[("3: mark(rpl, i25, i0)", 13)], &[]);
-    for written in [0, 23, 24, 28, 31] {
+    for written in [0, 23, 24, 28, 31, 32, 63] {
         let line = format!("write i{}", written);
         let program = ["read i0", "i25 := i0", &line];
-        for x in (1..32).filter(|&x| x != 25) {
+        for x in (1..64).filter(|&x| x != 25) {
             // No `X := i9` stands anywhere.
             let mark = format!("3: mark(rpl, i{}, i9)", x);
             assert_judged(&program, &[(&mark, if x == written { 14 } else { 13 })], &[]);
@@ -1411,7 +1431,7 @@ fn rm_of_2(verdict: u8) -> (&'static str, u8) {
 fn cse_puts_the_variable_for_the_right_side() {
     assert_judged(&TWICE, &[REUSED], &[MADE]);
     for o in ["+", "-", "*", "/", "<", "="] {
-        for (a, b) in [("i0", "1"), ("i3", "i4"), ("5", "6"), ("-7", "i31"), ("i5", "i5")] {
+        for (a, b) in [("i0", "1"), ("i3", "i4"), ("5", "6"), ("-7", "i63"), ("i5", "i5")] {
             let [source, again] = ["i1", "i2"].map(|x| format!("{} := {} {} {}", x, a, o, b));
             let program = ["read i0", &source, "skip", &again, "write i2"];
             let mark = format!("4: mark(cse, i1, {} {} {})", a, o, b);
@@ -1429,7 +1449,7 @@ fn cse_puts_the_variable_for_the_right_side() {
 fn cse_fits_the_same_right_side_of_two_operands() {
     // 14 shows that the mark fits: whether 3 computes what T holds is asked by the condition.
     for fitting in
-        ["3: mark(cse, i2, i0 + 1)", "3: mark(cse, i0, i0 + 1)", "3: mark(cse, i31, i0 + 1)"]
+        ["3: mark(cse, i2, i0 + 1)", "3: mark(cse, i0, i0 + 1)", "3: mark(cse, i63, i0 + 1)"]
     {
         assert_judged(&TWICE, &[(fitting, 14)], &[]);
     }
@@ -1460,7 +1480,7 @@ fn cse_fits_the_same_right_side_of_two_operands() {
 
 #[test]
 fn cse_of_one_operand_is_spelled_and_gets_13() {
-    for right in ["i0", "7", "-40", "0", "i31"] {
+    for right in ["i0", "7", "-40", "0", "i63"] {
         let [source, again] = ["i1", "i2"].map(|x| format!("{} := {}", x, right));
         let program = ["read i0", &source, &again, "write i2"];
         let mark = format!("3: mark(cse, i1, {})", right);
@@ -1872,32 +1892,32 @@ fn lent(marks: &[(String, u8)]) -> Vec<(&str, u8)> {
 }
 
 #[test]
-fn lists_of_256_cse_are_judged() {
-    // 127 sums, each computed twice, and with each an `rm` that only its `cse` refuses.
+fn lists_of_1024_cse_are_judged() {
+    // 511 sums, each computed twice, and with each an `rm` that only its `cse` refuses.
     let mut program = vec!["read i0".to_string()];
-    program.extend((0..127).flat_map(|k| ["i1", "i2"].map(|x| format!("{} := i0 + {}", x, k))));
+    program.extend((0..511).flat_map(|k| ["i1", "i2"].map(|x| format!("{} := i0 + {}", x, k))));
     program.push("write i2".to_string());
     let rm = |k: usize, verdict| (format!("{}: mark(rm, i1, i0 + {})", 2 * k + 2, k), verdict);
     let cse = |k: usize| (format!("{}: mark(cse, i1, i0 + {})", 2 * k + 3, k), 0);
-    let mut marks: Vec<(String, u8)> = (0..127).flat_map(|k| [rm(k, 14), cse(k)]).collect();
+    let mut marks: Vec<(String, u8)> = (0..511).flat_map(|k| [rm(k, 14), cse(k)]).collect();
     marks.push(("1: mark(cse, i1, i0 + 1)".to_string(), 13));
-    marks.push(("256: mark(cse, i1, i0 + 1)".to_string(), 13));
-    assert_eq!(marks.len(), 256);
-    let made: Vec<(usize, &str)> = (0..127).map(|k| (2 * k + 3, "i2 := i1")).collect();
+    marks.push(("1024: mark(cse, i1, i0 + 1)".to_string(), 13));
+    assert_eq!(marks.len(), 1_024);
+    let made: Vec<(usize, &str)> = (0..511).map(|k| (2 * k + 3, "i2 := i1")).collect();
     assert_judged(&program, &lent(&marks), &made);
     marks.reverse();
     assert_judged(&program, &lent(&marks), &made);
-    let alone: Vec<(String, u8)> = (0..127).map(|k| rm(k, 0)).collect();
-    let dropped: Vec<(usize, &str)> = (0..127).map(|k| (2 * k + 2, "skip")).collect();
+    let alone: Vec<(String, u8)> = (0..511).map(|k| rm(k, 0)).collect();
+    let dropped: Vec<(usize, &str)> = (0..511).map(|k| (2 * k + 2, "skip")).collect();
     assert_judged(&program, &lent(&alone), &dropped);
 
-    // 253 statements read one variable.
-    let mut program = vec!["i2 := i0 + 1"; 256];
-    (program[0], program[1], program[255]) = ("read i0", "i1 := i0 + 1", "write i2");
+    // 1,021 statements read one variable.
+    let mut program = vec!["i2 := i0 + 1"; 1_024];
+    (program[0], program[1], program[1_023]) = ("read i0", "i1 := i0 + 1", "write i2");
     let mut marks: Vec<(String, u8)> =
-        (3..256).map(|n| (format!("{}: mark(cse, i1, i0 + 1)", n), 0)).collect();
+        (3..1_024).map(|n| (format!("{}: mark(cse, i1, i0 + 1)", n), 0)).collect();
     marks.push((rm_of_2(14).0.to_string(), 14));
-    let made: Vec<(usize, &str)> = (3..256).map(|n| (n, "i2 := i1")).collect();
+    let made: Vec<(usize, &str)> = (3..1_024).map(|n| (n, "i2 := i1")).collect();
     assert_judged(&program, &lent(&marks), &made);
     assert_judged(&program, &[rm_of_2(0)], &[DROPPED]);
 }
@@ -2048,43 +2068,43 @@ fn accepted_marks_are_all_made_together() {
 
 #[test]
 fn the_longest_programs_are_written() {
-    let mut longest = vec!["i31 := -2147483648 + -2147483648"; 256];
-    longest[0] = "read i31";
-    longest[255] = "write i31";
-    assert_eq!(text(&longest).len(), 8401);
+    let mut longest = vec!["i63 := -2147483648 + -2147483648"; 1_024];
+    longest[0] = "read i63";
+    longest[1_023] = "write i63";
+    assert_eq!(text(&longest).len(), 33_745);
     assert_judged(&longest, &[], &[]);
 
-    // 253 lines of 15 bytes become 33 each: 9 + 18 + 253 * 33 + 10.
-    let mut program = vec!["i31 := i0 + i0"; 256];
-    program[0] = "read i31";
+    // 1,021 lines of 15 bytes become 33 each: 9 + 18 + 1,021 * 33 + 10.
+    let mut program = vec!["i63 := i0 + i0"; 1_024];
+    program[0] = "read i63";
     program[1] = "i0 := -2147483648";
-    program[255] = "write i31";
+    program[1_023] = "write i63";
     let marks: Vec<String> =
-        (3..256).map(|n| format!("{}: mark(rpl, i0, -2147483648)", n)).collect();
+        (3..1_024).map(|n| format!("{}: mark(rpl, i0, -2147483648)", n)).collect();
     let marks: Vec<(&str, u8)> = marks.iter().map(|line| (&line[..], 0)).collect();
-    let made: Vec<(usize, &str)> = (3..256).map(|n| (n, longest[2])).collect();
-    assert_eq!(text(&changed(&program, &made)).len(), 8386);
+    let made: Vec<(usize, &str)> = (3..1_024).map(|n| (n, longest[2])).collect();
+    assert_eq!(text(&changed(&program, &made)).len(), 33_730);
     assert_judged(&program, &marks, &made);
 }
 
 #[test]
 fn the_longest_programs_without_signs_are_written() {
-    let mut longest = vec!["i31 := 2147483647 + 2147483647"; 256];
-    longest[0] = "read i31";
-    longest[255] = "write i31";
-    assert_eq!(text(&longest).len(), 7893);
+    let mut longest = vec!["i63 := 2147483647 + 2147483647"; 1_024];
+    longest[0] = "read i63";
+    longest[1_023] = "write i63";
+    assert_eq!(text(&longest).len(), 31_701);
     assert_judged(&longest, &[], &[]);
 
-    // 253 lines of 15 bytes become 31 each: 9 + 17 + 253 * 31 + 10.
-    let mut program = vec!["i31 := i0 + i0"; 256];
-    program[0] = "read i31";
+    // 1,021 lines of 15 bytes become 31 each: 9 + 17 + 1,021 * 31 + 10.
+    let mut program = vec!["i63 := i0 + i0"; 1_024];
+    program[0] = "read i63";
     program[1] = "i0 := 2147483647";
-    program[255] = "write i31";
+    program[1_023] = "write i63";
     let marks: Vec<String> =
-        (3..256).map(|n| format!("{}: mark(rpl, i0, 2147483647)", n)).collect();
+        (3..1_024).map(|n| format!("{}: mark(rpl, i0, 2147483647)", n)).collect();
     let marks: Vec<(&str, u8)> = marks.iter().map(|line| (&line[..], 0)).collect();
-    let made: Vec<(usize, &str)> = (3..256).map(|n| (n, longest[2])).collect();
-    assert_eq!(text(&changed(&program, &made)).len(), 7879);
+    let made: Vec<(usize, &str)> = (3..1_024).map(|n| (n, longest[2])).collect();
+    assert_eq!(text(&changed(&program, &made)).len(), 31_687);
     assert_judged(&program, &marks, &made);
 }
 
@@ -2139,7 +2159,7 @@ fn a_copy_counts_though_it_is_rewritten() {
 
 /// Lists that are refused 9 and 10.
 fn refused_marks() -> Vec<(Vec<u8>, u8)> {
-    let many = repeated("4: mark(rpl, i2, 7)", 257);
+    let many = repeated("4: mark(rpl, i2, 7)", 1_025);
     vec![
         (b"rubbish".to_vec(), 9),
         (b"\n".to_vec(), 9),
@@ -2151,18 +2171,18 @@ fn refused_marks() -> Vec<(Vec<u8>, u8)> {
 }
 
 #[test]
-fn verdicts_under_256_or_new_text_under_8704_bytes_are_refused_1() {
+fn verdicts_under_1024_or_new_text_under_34816_bytes_are_refused_1() {
     for marks in [&b""[..], b"4: mark(rpl, i2, 7)\n"] {
-        for verdicts in [0, 1, 5, 255] {
+        for verdicts in [0, 1, 5, 256, 1_023] {
             assert_eq!(number(P.as_bytes(), marks, [verdicts, TEXT_BYTES]), 1);
-            assert_eq!(number(P.as_bytes(), marks, [verdicts, 10_000]), 1);
+            assert_eq!(number(P.as_bytes(), marks, [verdicts, 40_000]), 1);
         }
-        for bytes in [0, 1, 100, 101, 7893, 8191, 8192, 8193, 8401, 8448, 8703] {
+        for bytes in [0, 1, 100, 101, 8_192, 8_703, 8_704, 8_705, 33_745, 33_792, 34_815] {
             assert_eq!(number(P.as_bytes(), marks, [VERDICT_BYTES, bytes]), 1);
-            assert_eq!(number(P.as_bytes(), marks, [1000, bytes]), 1);
-            assert_eq!(number(P.as_bytes(), marks, [255, bytes]), 1);
+            assert_eq!(number(P.as_bytes(), marks, [3_000, bytes]), 1);
+            assert_eq!(number(P.as_bytes(), marks, [1_023, bytes]), 1);
         }
-        for room in [ROOM, [257, 8704], [256, 8705], [65_536, 65_536]] {
+        for room in [ROOM, [1_025, 34_816], [1_024, 34_817], [65_536, 65_536]] {
             assert_eq!(number(P.as_bytes(), marks, room), 0);
         }
     }
@@ -2174,12 +2194,12 @@ fn refusals_come_in_order_and_change_nothing_lent() {
     let lists = [vec![good], refused_marks()].concat();
     for (marks, of_marks) in &lists {
         assert_number(marks, *of_marks);
-        for room in [[255, 8704], [256, 8703], [256, 8192], [0, 0]] {
+        for room in [[1_023, 34_816], [1_024, 34_815], [256, 8_704], [0, 0]] {
             assert_eq!(number(P.as_bytes(), marks, room), 1);
         }
         for (program, of_program) in refused_programs() {
             assert_eq!(number(&program, marks, ROOM), of_program);
-            for room in [[255, 8704], [256, 8703], [256, 8192], [0, 0]] {
+            for room in [[1_023, 34_816], [1_024, 34_815], [256, 8_704], [0, 0]] {
                 assert_eq!(number(&program, marks, room), 1);
             }
         }
@@ -2188,7 +2208,7 @@ fn refusals_come_in_order_and_change_nothing_lent() {
 
 #[test]
 fn a_second_call_keeps_what_the_first_filled_beyond_its_own() {
-    let (mut verdicts, mut new) = (vec![99; 300], vec![99; 9000]);
+    let (mut verdicts, mut new) = (vec![99; 1_100], vec![99; 35_000]);
     let list = text(&LIST.map(|(line, _)| line));
     let answer = judge(P.as_bytes(), &list, &mut verdicts, &mut new);
     assert_eq!(answer, Ok(Judged { marks: 5, accepted: 1, bytes: 100 }));
@@ -2288,7 +2308,7 @@ fn endless_runs_stay_alike() {
     assert_eq!((answer.accepted, &verdicts[..2]), (2, &[0, 0][..]));
     let new = &new[..answer.bytes as usize];
     for budget in [0, 1, 2, 3, 100, 999_998, 999_999, 1_000_000] {
-        for values in [[0; 32], given()] {
+        for values in [[0; VARIABLES], given()] {
             let outcome = |text| run(text, &values, 3, budget).expect("a program is taken");
             assert!(matches!(outcome(&program), Outcome::Spent { .. }));
             assert!(alike(outcome(&program), outcome(new)));

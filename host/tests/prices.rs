@@ -4,7 +4,7 @@
 mod common;
 
 use common::{lines, text, P};
-use rewrites::{raw, report, run, Outcome, Prices, Refusal, Report, KINDS, MOST_STEPS};
+use rewrites::{raw, report, run, Outcome, Prices, Refusal, Report, KINDS, MOST_STEPS, VARIABLES};
 
 /// The marks to check against.
 const MARKS: &[u8] = b"4: mark(rpl, i2, 7)\n3: mark(rm, i2, 7)\n4: mark(rpl, i1, i0)\n\
@@ -200,23 +200,23 @@ fn a_difference_may_be_below_zero() {
     assert_eq!(answer.after[..3], [1, 65_535, 1]);
     assert_eq!((answer.given, answer.rewritten, answer.saved), (3, 65_537, -65_534));
     // The most that a list can cost.
-    let mut program = vec!["i1 := i0"; 256];
-    (program[0], program[255]) = ("read i0", "write i0");
-    let marks: Vec<String> = (2..256).map(|n| format!("{n}: mark(rm, i1, i0)")).collect();
+    let mut program = vec!["i1 := i0"; 1_024];
+    (program[0], program[1_023]) = ("read i0", "write i0");
+    let marks: Vec<String> = (2..1_024).map(|n| format!("{n}: mark(rm, i1, i0)")).collect();
     let answer = told(&text(&program), &text(&marks), &prices);
-    assert_eq!((answer.given, answer.rewritten, answer.saved), (256, 16_645_892, -16_645_636));
+    assert_eq!((answer.given, answer.rewritten, answer.saved), (1_024, 66_976_772, -66_975_748));
 }
 
 #[test]
 fn the_largest_totals() {
-    let answer = told(&text(&lines(256)), b"", &Prices([65_535; KINDS]));
-    assert_eq!((answer.given, answer.rewritten, answer.saved), (16_776_960, 16_776_960, 0));
+    let answer = told(&text(&lines(1_024)), b"", &Prices([65_535; KINDS]));
+    assert_eq!((answer.given, answer.rewritten, answer.saved), (67_107_840, 67_107_840, 0));
 }
 
 // Runs
 
 fn ticks(program: &[u8], input: u32, budget: u32, prices: &Prices) -> u64 {
-    run(program, &[0; 32], input, budget, prices).expect("the program is taken").ticks()
+    run(program, &[0; VARIABLES], input, budget, prices).expect("the program is taken").ticks()
 }
 
 #[test]
@@ -234,14 +234,14 @@ fn runs_of_p_by_the_prices_1_to_11() {
 #[test]
 fn all_but_ticks_stays() {
     for prices in [Prices::ours(), COUNTED, Prices([65_535; KINDS]), Prices([0; KINDS])] {
-        match run(P.as_bytes(), &[0; 32], 2, 12, &prices) {
+        match run(P.as_bytes(), &[0; VARIABLES], 2, 12, &prices) {
             Ok(Outcome::Ended { value: 9, steps: 12, kept, .. }) => assert_eq!(kept, [0; 8]),
             other => panic!("{other:?}"),
         }
-        let spent = run(P.as_bytes(), &[0; 32], 2, 11, &prices);
+        let spent = run(P.as_bytes(), &[0; VARIABLES], 2, 11, &prices);
         assert!(matches!(spent, Ok(Outcome::Spent { statement: 8, .. })));
-        assert_eq!(run(P.as_bytes(), &[0; 32], 2, 1_000_001, &prices), Err(Refusal::Budget));
-        assert_eq!(run(b"", &[0; 32], 2, 9, &prices), Err(Refusal::LineCount));
+        assert_eq!(run(P.as_bytes(), &[0; VARIABLES], 2, 1_000_001, &prices), Err(Refusal::Budget));
+        assert_eq!(run(b"", &[0; VARIABLES], 2, 9, &prices), Err(Refusal::LineCount));
         assert_eq!(report(b"", b"", &prices), Err(Refusal::LineCount));
         assert_eq!(report(P.as_bytes(), b"x", &prices), Err(Refusal::MarkMisspelled));
     }
@@ -258,7 +258,7 @@ fn a_million_steps_at_the_largest_price() {
     // A fault and an end count their last step.
     let faulting = text(&["read i0", "i1 := i0 / 0", "write i1"]);
     assert_eq!(ticks(&faulting, 3, MOST_STEPS, &most), 2 * 65_535);
-    assert_eq!(ticks(&text(&lines(256)), 3, 256, &most), 256 * 65_535);
+    assert_eq!(ticks(&text(&lines(1_024)), 3, 1_024, &most), 1_024 * 65_535);
 }
 
 // Entries outside the range

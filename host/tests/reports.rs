@@ -49,7 +49,7 @@ fn each_kind_of_statement_has_its_price() {
     for (statement, price) in [
         ("skip", 1),
         ("if i0 goto 3 else 3", 3),
-        ("if i31 goto 2 else 3", 3),
+        ("if i63 goto 2 else 3", 3),
         ("i1 := i0", 2),
         ("i1 := 7", 2),
         ("i1 := -2147483648", 2),
@@ -67,7 +67,7 @@ fn each_kind_of_statement_has_its_price() {
         assert_eq!(told.before[..3], [4, price, 4], "{statement}");
         assert_eq!((told.given, told.saved), (8 + price, 0), "{statement}");
     }
-    assert_eq!(totals(&["read i31", "write i31"], &[]), (8, 8, 0));
+    assert_eq!(totals(&["read i63", "write i63"], &[]), (8, 8, 0));
 }
 
 #[test]
@@ -152,11 +152,11 @@ fn the_prices_after_are_those_of_the_new_text() {
 #[test]
 fn the_longest_program() {
     let mut program = vec!["i1 := 7 / 2"; STATEMENTS];
-    (program[0], program[255]) = ("read i0", "write i0");
-    let marks: Vec<String> = (2..256).map(|n| format!("{n}: mark(rm, i1, 7 / 2)")).collect();
+    (program[0], program[1_023]) = ("read i0", "write i0");
+    let marks: Vec<String> = (2..1_024).map(|n| format!("{n}: mark(rm, i1, 7 / 2)")).collect();
     let marks: Vec<&str> = marks.iter().map(String::as_str).collect();
-    assert_eq!(totals(&program, &marks), (6_104, 262, 5_842));
-    assert_eq!(totals(&lines(256), &[]), (262, 262, 0));
+    assert_eq!(totals(&program, &marks), (24_536, 1_030, 23_506));
+    assert_eq!(totals(&lines(1_024), &[]), (1_030, 1_030, 0));
 }
 
 #[test]
@@ -168,8 +168,8 @@ fn refusals_come_as_in_judging() {
     let p = P.as_bytes();
     assert_eq!(report(p, b"rubbish"), Err(Refusal::MarkMisspelled));
     assert_eq!(report(p, b"3: mark(rm, i2, 7)"), Err(Refusal::MarkMisspelled));
-    assert_eq!(report(p, &b"3: mark(rm, i2, 7)\n".repeat(257)), Err(Refusal::MarkCount));
-    let wrong = [&b"3: mark(rm, i2, 7)\n".repeat(257)[..], b"x\n"].concat();
+    assert_eq!(report(p, &b"3: mark(rm, i2, 7)\n".repeat(1_025)), Err(Refusal::MarkCount));
+    let wrong = [&b"3: mark(rm, i2, 7)\n".repeat(1_025)[..], b"x\n"].concat();
     assert_eq!(report(p, &wrong), Err(Refusal::MarkMisspelled));
-    assert!(report(p, &b"3: mark(rm, i2, 7)\n".repeat(256)).is_ok());
+    assert!(report(p, &b"3: mark(rm, i2, 7)\n".repeat(1_024)).is_ok());
 }

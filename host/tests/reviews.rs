@@ -109,7 +109,7 @@ fn assert_number(conditions: &str, expected: u8) {
 
 /// The tables are these rows, and the lines are so; all else is kept.
 fn assert_rows(program: &[u8], conditions: &str, rows: &[[u64; PART_WORDS]], lines: &[Line]) {
-    for room in [REVIEW_WORDS, REVIEW_WORDS + 1, 1000] {
+    for room in [REVIEW_WORDS, REVIEW_WORDS + 1, 4_000] {
         let expected = (0, filled(room, rows, lines));
         assert_eq!(lend(program, conditions.as_bytes(), room), expected, "{}", conditions);
     }
@@ -117,9 +117,16 @@ fn assert_rows(program: &[u8], conditions: &str, rows: &[[u64; PART_WORDS]], lin
     assert_eq!(answer, Ok(reviewed(rows.len(), lines)), "{}", conditions);
 }
 
+/// A row that has these words, each in its place, the others being 0.
+fn row(words: &[(usize, u64)]) -> [u64; PART_WORDS] {
+    let mut row = [0; PART_WORDS];
+    words.iter().for_each(|&(k, word)| row[k] = word);
+    row
+}
+
 /// The rows of P: word 0 of each, the others being 0.
 fn assert_on_p(conditions: &str, words: &[u64], lines: &[Line]) {
-    let rows: Vec<[u64; PART_WORDS]> = words.iter().map(|&word| [word, 0, 0, 0]).collect();
+    let rows: Vec<[u64; PART_WORDS]> = words.iter().map(|&word| row(&[(0, word)])).collect();
     assert_rows(P.as_bytes(), conditions, &rows, lines);
 }
 
@@ -259,13 +266,13 @@ fn operators_of_right_sides_are_told_apart() {
 }
 
 #[test]
-fn rows_have_a_bit_for_each_of_256_statements() {
-    let program = text(&lines(256));
-    let last = [0, 0, 0, 1 << 63];
-    let not_last = [u64::MAX, u64::MAX, u64::MAX, u64::MAX >> 1];
-    let rows = [last, not_last, [0, 1, 0, 0]];
-    let lines = [line(1, 2, 255, 1), line(0, 1, 1, 256), line(2, 1, 1, 65)];
-    assert_rows(&program, "!exit\nexit\nnode(65)\n", &rows, &lines);
+fn rows_have_a_bit_for_each_of_1024_statements() {
+    let program = text(&lines(1_024));
+    let mut not_last = [u64::MAX; PART_WORDS];
+    not_last[15] >>= 1;
+    let rows = [row(&[(15, 1 << 63)]), not_last, row(&[(1, 1)]), row(&[(4, 1)])];
+    let lines = [line(1, 2, 1_023, 1), line(0, 1, 1, 1_024), line(2, 1, 1, 65), line(3, 1, 1, 257)];
+    assert_rows(&program, "!exit\nexit\nnode(65)\nnode(257)\n", &rows, &lines);
 }
 
 /// `use` of variables that the unit keeps holds at `write` too.
@@ -402,11 +409,11 @@ fn longest() -> String {
 }
 
 #[test]
-fn a_table_under_512_words_is_refused_1() {
-    for room in [0, 1, 4, 255, 256, 257, 511] {
+fn a_table_under_2048_words_is_refused_1() {
+    for room in [0, 1, 16, 511, 512, 1_024, 2_047] {
         assert_eq!(number(P.as_bytes(), b"true\n", room), 1);
     }
-    for room in [512, 513, 1024] {
+    for room in [2_048, 2_049, 4_096] {
         assert_eq!(number(P.as_bytes(), b"true\n", room), 0);
     }
 }
@@ -436,8 +443,9 @@ fn a_second_call_keeps_what_the_first_filled_beyond_its_tables() {
     assert_eq!(answer, reviewed(3, &[line(1, 2, 7, 1), line(2, 1, 1, 1)]));
     let answer = review(P.as_bytes(), b"true\n", &mut table).expect("it is taken");
     assert_eq!(answer, reviewed(1, &[line(0, 1, 8, 1)]));
-    assert_eq!(table[..16], [255, 0, 0, 0, 127, 0, 0, 0, 1, 0, 0, 0, 9, 9, 9, 9]);
-    assert!(table[12..].iter().all(|&word| word == 9));
+    let rows = [row(&[(0, 255)]), row(&[(0, 127)]), row(&[(0, 1)])].concat();
+    assert_eq!(table[..rows.len()], rows);
+    assert!(table[rows.len()..].iter().all(|&word| word == 9));
 }
 
 // Each line by itself

@@ -6,13 +6,18 @@ mod common;
 use common::{given, lines, shown, text, P};
 use oracle::machine;
 use oracle::pricing::OURS;
-use rewrites::{raw, Outcome, Prices, Refusal, FIRST_KEPT, KEPT};
+use rewrites::{raw, Outcome, Prices, Refusal, FIRST_KEPT, KEPT, VARIABLES};
 
 /// What stands for the ticks of an answer that is compared without them.
 const ANY: u64 = u64::MAX;
 
 /// A run. Its ticks are held to the second implementation's and left out, so that only the tests of ticks have to add them up.
-fn run(program: &[u8], values: &[u32; 32], input: u32, budget: u32) -> Result<Outcome, Refusal> {
+fn run(
+    program: &[u8],
+    values: &[u32; VARIABLES],
+    input: u32,
+    budget: u32,
+) -> Result<Outcome, Refusal> {
     let mut answer = common::run(program, values, input, budget);
     if let Ok(outcome) = &mut answer {
         let counted = machine::run(program, *values, input, budget, &OURS).map(|it| it.ticks());
@@ -27,7 +32,7 @@ fn run(program: &[u8], values: &[u32; 32], input: u32, budget: u32) -> Result<Ou
 }
 
 /// The given values with some of them replaced.
-fn given_but(changes: &[(usize, u32)]) -> [u32; 32] {
+fn given_but(changes: &[(usize, u32)]) -> [u32; VARIABLES] {
     let mut values = given();
     for &(x, v) in changes {
         values[x] = v;
@@ -36,7 +41,7 @@ fn given_but(changes: &[(usize, u32)]) -> [u32; 32] {
 }
 
 /// What is kept of values at the end of a run.
-fn kept(values: [u32; 32]) -> [u32; KEPT] {
+fn kept(values: [u32; VARIABLES]) -> [u32; KEPT] {
     std::array::from_fn(|k| values[FIRST_KEPT + k])
 }
 
@@ -50,7 +55,7 @@ fn ended_with(value: i32, steps: u32, changes: &[(usize, u32)]) -> Result<Outcom
     Ok(Outcome::Ended { value, steps, kept: kept(given_but(changes)), ticks: ANY })
 }
 
-fn spent(statement: u32, values: [u32; 32]) -> Result<Outcome, Refusal> {
+fn spent(statement: u32, values: [u32; VARIABLES]) -> Result<Outcome, Refusal> {
     Ok(Outcome::Spent { statement, values, ticks: ANY })
 }
 
@@ -160,7 +165,7 @@ fn refusal_15_comes_before_any_of_the_text() {
         Vec::new(),
         text(&["skip", "skip"]),
         text(&["read i0", "if i0 goto 9 else 9", "write i0"]),
-        text(&lines(257)),
+        text(&lines(1_025)),
     ];
     for (text, expected) in texts.iter().zip([2, 3, 4, 5, 3]) {
         assert_number(text, expected);
@@ -200,16 +205,16 @@ fn a_run_may_take_1000000_steps() {
 // Lines
 
 #[test]
-fn programs_of_2_and_of_256_lines_are_taken() {
-    for n in [2, 3, 255, 256] {
-        assert_eq!(run(&text(&lines(n)), &given(), 5, 1000), ended(5, n as u32));
+fn programs_of_2_to_1024_lines_are_taken() {
+    for n in [2, 3, 255, 256, 257, 512, 1_023, 1_024] {
+        assert_eq!(run(&text(&lines(n)), &given(), 5, 2_000), ended(5, n as u32));
     }
 }
 
 #[test]
-fn over_256_lines_are_refused_3() {
+fn over_1024_lines_are_refused_3() {
     // 65,538 lines are 2 lines by the low 16 bits of their count.
-    for n in [257, 258, 300, 512, 1000, 65_538] {
+    for n in [1_025, 1_026, 1_280, 2_048, 65_538] {
         assert_number(&text(&lines(n)), 3);
     }
 }
@@ -223,18 +228,23 @@ fn under_2_lines_are_refused_3() {
 }
 
 #[test]
-fn every_line_is_read_also_beyond_256() {
-    let mut program = lines(300);
+fn every_line_is_read_also_beyond_1024() {
+    let mut program = lines(1_100);
     program.push("skip ".to_string());
     assert_number(&text(&program), 2);
-    for bad in [0, 100, 255, 256, 257, 299] {
-        let mut program = lines(300);
+    for bad in [0, 256, 1_023, 1_024, 1_025, 1_099] {
+        let mut program = lines(1_100);
         program[bad] = "skop".to_string();
         assert_number(&text(&program), 2);
     }
+    // 1,025 lines, the last of which is misspelled.
+    let mut program = lines(1_025);
+    assert_number(&text(&program), 3);
+    program[1_024] = "write i64".to_string();
+    assert_number(&text(&program), 2);
     let mut program = lines(100_000);
     assert_number(&text(&program), 3);
-    program[99_999] = "write i32".to_string();
+    program[99_999] = "write i64".to_string();
     assert_number(&text(&program), 2);
 }
 
@@ -252,7 +262,7 @@ fn a_last_line_without_byte_10_is_refused_2() {
     for text in ["r", "skip", "read i0", "read i0\nwrite i0", "read i0\nskip\nwrite i0"] {
         assert_number(text.as_bytes(), 2);
     }
-    for n in [256, 257, 300] {
+    for n in [256, 1_024, 1_025, 1_100] {
         let mut program = text(&lines(n));
         program.pop();
         assert_number(&program, 2);
@@ -277,25 +287,26 @@ fn the_text_ends_at_its_length() {
 
 #[test]
 fn the_longest_program_is_taken() {
-    let mut program = vec!["i31 := -2147483648 + -2147483648"; 256];
-    program[0] = "read i31";
-    program[255] = "write i31";
+    let mut program = vec!["i63 := -2147483648 + -2147483648"; 1_024];
+    program[0] = "read i63";
+    program[1_023] = "write i63";
     assert_eq!(program[1].len(), 32);
     let program = text(&program);
-    assert_eq!(program.len(), 8401);
+    assert_eq!(program.len(), 33_745);
     // -2147483648 twice is -2^32.
-    assert_eq!(run(&program, &given(), 5, 256), ended_with(0, 256, &[(31, 0)]));
+    assert_eq!(run(&program, &given(), 5, 1_024), ended_with(0, 1_024, &[(63, 0)]));
+    assert_eq!(run(&program, &given(), 5, 1_023), spent(1_024, given_but(&[(63, 0)])));
 }
 
 #[test]
 fn the_longest_program_without_signs_is_taken() {
-    let mut program = vec!["i31 := 2147483647 + 2147483647"; 256];
-    program[0] = "read i31";
-    program[255] = "write i31";
+    let mut program = vec!["i63 := 2147483647 + 2147483647"; 1_024];
+    program[0] = "read i63";
+    program[1_023] = "write i63";
     let program = text(&program);
-    assert_eq!(program.len(), 7893);
+    assert_eq!(program.len(), 31_701);
     // 2147483647 twice is 2^32 - 2.
-    assert_eq!(run(&program, &given(), 5, 256), ended_with(-2, 256, &[(31, MINUS_2)]));
+    assert_eq!(run(&program, &given(), 5, 1_024), ended_with(-2, 1_024, &[(63, MINUS_2)]));
 }
 
 // Spelling
@@ -334,8 +345,8 @@ fn assert_number_at(places: &[&str], mark: &str, spelling: &str, expected: u8) {
 }
 
 #[test]
-fn variables_i0_to_i31_are_taken() {
-    for x in 0..32 {
+fn variables_i0_to_i63_are_taken() {
+    for x in 0..64 {
         assert_number_at(&VARIABLE_PLACES, "V", &format!("i{}", x), 0);
     }
 }
@@ -344,8 +355,8 @@ fn variables_i0_to_i31_are_taken() {
 fn other_variables_are_refused_2() {
     #[rustfmt::skip]
     let wrong = [
-        "i32", "i33", "i39", "i40", "i99", "i100", "i310", "i256", "i288", "i4294967296",
-        "i18446744073709551616", "i00", "i01", "i031", "i000", "i", "I0", "j0", "x", "ii0", "i0i",
+        "i64", "i65", "i69", "i70", "i80", "i99", "i100", "i630", "i256", "i319", "i4294967296",
+        "i18446744073709551616", "i00", "i01", "i063", "i000", "i", "I0", "j0", "x", "ii0", "i0i",
         "i 0", "i-1", "i+1", "i0x", "0i", "i١", "",
     ];
     for spelling in wrong {
@@ -758,14 +769,14 @@ fn write_missing_or_elsewhere_is_refused_4() {
 }
 
 #[test]
-fn the_256th_line_must_be_write() {
-    let mut program = lines(256);
-    program[255] = "skip".to_string();
+fn the_1024th_line_must_be_write() {
+    let mut program = lines(1_024);
+    program[1_023] = "skip".to_string();
     assert_number(&text(&program), 4);
-    program[255] = "read i0".to_string();
+    program[1_023] = "read i0".to_string();
     assert_number(&text(&program), 4);
-    program[254] = "write i0".to_string();
-    program[255] = "write i0".to_string();
+    program[1_022] = "write i0".to_string();
+    program[1_023] = "write i0".to_string();
     assert_number(&text(&program), 4);
 }
 
@@ -774,9 +785,11 @@ fn targets_2_to_n_are_taken() {
     for target in ["2", "3", "4"] {
         assert_number_at(&TARGET_PLACES, "T", target, 0);
     }
-    let mut program = lines(256);
-    program[1] = "if i0 goto 256 else 2".to_string();
-    assert_eq!(run(&text(&program), &given(), 5, 9), ended(5, 3));
+    let mut program = lines(1_024);
+    for line in ["if i0 goto 1024 else 2", "if i63 goto 1024 else 1024"] {
+        program[1] = line.to_string();
+        assert_eq!(run(&text(&program), &given(), 5, 9), ended(5, 3));
+    }
 }
 
 #[test]
@@ -787,12 +800,16 @@ fn targets_outside_2_to_n_are_refused_5() {
     {
         assert_number_at(&TARGET_PLACES, "T", target, 5);
     }
-    let mut program = lines(256);
-    for (target, expected) in [("0", 5), ("1", 5), ("2", 0), ("256", 0), ("257", 5), ("258", 5)] {
-        program[254] = format!("if i0 goto {} else 2", target);
-        assert_number(&text(&program), expected);
-        program[254] = format!("if i0 goto 2 else {}", target);
-        assert_number(&text(&program), expected);
+    for n in [256, 257, 1_024] {
+        let mut program = lines(n);
+        for (target, expected) in
+            [(0, 5), (1, 5), (2, 0), (n - 1, 0), (n, 0), (n + 1, 5), (n + 2, 5)]
+        {
+            program[n - 2] = format!("if i0 goto {} else 2", target);
+            assert_number(&text(&program), expected);
+            program[n - 2] = format!("if i0 goto 2 else {}", target);
+            assert_number(&text(&program), expected);
+        }
     }
 }
 
@@ -825,8 +842,8 @@ fn refusal_4_comes_before_5_whatever_the_line_order() {
 fn refusal_3_comes_before_4_and_5() {
     assert_number(&text(&["write i0"]), 3);
     assert_number(&text(&["if i0 goto 0 else 9"]), 3);
-    assert_number(&text(&vec!["skip"; 257]), 3);
-    assert_number(&text(&vec!["if i0 goto 0 else 1"; 257]), 3);
+    assert_number(&text(&vec!["skip"; 1_025]), 3);
+    assert_number(&text(&vec!["if i0 goto 0 else 1"; 1_025]), 3);
 }
 
 #[test]
@@ -834,8 +851,8 @@ fn refusal_2_comes_before_3_4_and_5_whatever_the_line_order() {
     assert_number(&text(&["skop"]), 2);
     assert_number(&text(&["skip", "skop"]), 2);
     assert_number(&text(&["skop", "skip"]), 2);
-    assert_number(&text(&["read i0", "if i0 goto 0 else 0", "write i32"]), 2);
-    assert_number(&text(&["read i32", "if i0 goto 0 else 0", "write i0"]), 2);
+    assert_number(&text(&["read i0", "if i0 goto 0 else 0", "write i64"]), 2);
+    assert_number(&text(&["read i64", "if i0 goto 0 else 0", "write i0"]), 2);
     assert_number(&text(&["read i0", "if i0 goto 0 else 2147483648", "write i0"]), 2);
 }
 
@@ -1015,7 +1032,7 @@ fn the_written_value_is_signed() {
 
 #[test]
 fn read_stores_the_input_and_keeps_the_other_values() {
-    for x in 0..32 {
+    for x in 0..64 {
         let first = format!("read i{}", x);
         for input in [0, 5, MINUS_1] {
             let left = given_but(&[(x, input)]);
@@ -1026,8 +1043,8 @@ fn read_stores_the_input_and_keeps_the_other_values() {
 
 #[test]
 fn write_writes_its_own_variable() {
-    for x in 0..32 {
-        for y in 0..32 {
+    for x in 0..64 {
+        for y in 0..64 {
             let program = [format!("read i{}", x), format!("write i{}", y)];
             let expected = if x == y { 5 } else { 1000 + y };
             let answer = run(&text(&program), &given(), 5, 2);
@@ -1038,11 +1055,11 @@ fn write_writes_its_own_variable() {
 
 #[test]
 fn an_assignment_changes_its_own_variable_alone() {
-    for x in 0..32 {
+    for x in 0..64 {
         let line = format!("i{} := 77", x);
         let left = given_but(&[(0, 5), (x, 77)]);
         assert_eq!(run_lines(&["read i0", &line, "write i0"], 5, 2), spent(3, left));
-        for y in 1..32 {
+        for y in 1..64 {
             let line = format!("i{} := i{} + 1", x, y);
             let left = given_but(&[(0, 5), (x, 1001 + y)]);
             let answer = run_lines(&["read i0", &line, "write i0"], 5, 2);
@@ -1167,14 +1184,14 @@ fn quotients_at_the_ends_of_the_range() {
 
 #[test]
 fn a_slash_is_taken_where_the_other_operators_are() {
-    for right in ["i0 / i1", "1 / i1", "i0 / 1", "7 / 2", "i0 / 0", "-7 / -2", "i31 / i31"] {
+    for right in ["i0 / i1", "1 / i1", "i0 / 1", "7 / 2", "i0 / 0", "-7 / -2", "i63 / i63"] {
         assert_number(&text(&["read i0", &format!("i1 := {}", right), "write i0"]), 0);
     }
     // The longest statement.
-    let mut program = vec!["i31 := -2147483648 / -2147483648"; 256];
-    program[0] = "read i31";
-    program[255] = "write i31";
-    assert_eq!(run(&text(&program), &given(), 5, 256), ended_with(1, 256, &[(31, 1)]));
+    let mut program = vec!["i63 := -2147483648 / -2147483648"; 1_024];
+    program[0] = "read i63";
+    program[1_023] = "write i63";
+    assert_eq!(run(&text(&program), &given(), 5, 1_024), ended_with(1, 1_024, &[(63, 1)]));
 }
 
 #[test]
@@ -1183,7 +1200,7 @@ fn other_slashes_are_refused_2() {
     let right_sides = [
         "i0 / i1 / i2", "i0/i1", "/ i1", "i0 /i1", "i0/ i1", "/i1", "/", " / ", " / i1", "i0 /",
         "i0 / ", "i0 // i1", "i0 / / i1", "i0  / i1", "i0 /  i1", "i0 / i1 ", "i0 / i1 /",
-        "i0 / i1 + i2", "i0 + i1 / i2", "i0 / -0", "i0 / +1", "i0 / - 1", "i0 / -i1", "i0 / i32",
+        "i0 / i1 + i2", "i0 + i1 / i2", "i0 / -0", "i0 / +1", "i0 / - 1", "i0 / -i1", "i0 / i64",
         "i0 / 01", "i0 / 2147483648", "i0 / -2147483649", "i0 \\ i1", "i0 % i1", "i0 : i1",
         "i0 ÷ i1", "i0 ∕ i1", "(i0 / i1)", "i0\t/ i1", "i0 /\ti1", "i0 \0 i1", "i0 / i1\r",
     ];
@@ -1255,10 +1272,10 @@ fn a_fault_may_come_after_any_number_of_steps() {
 #[test]
 fn a_fault_is_told_at_the_statement_that_divides() {
     // Any line between the first and the last.
-    for n in [2, 3, 128, 255] {
-        let mut program = lines(256);
+    for n in [2, 3, 128, 255, 256, 257, 1_023] {
+        let mut program = lines(1_024);
         program[n - 1] = "i1 := i2 / 0".to_string();
-        assert_eq!(run(&text(&program), &given(), 5, 300), fault(n as u32, n as u32));
+        assert_eq!(run(&text(&program), &given(), 5, 1_100), fault(n as u32, n as u32));
     }
     // The first that a run comes to, whatever stands before it.
     let program = ["read i0", "if i0 goto 4 else 3", "i1 := 1 / 0", "i1 := 2 / 0", "write i1"];
@@ -1285,7 +1302,7 @@ fn an_ended_run_tells_i24_to_i31_in_order() {
 #[test]
 fn what_is_kept_is_what_the_run_left() {
     let program = ["read i0", "i24 := 5", "i31 := i0 - 1", "write i0"];
-    let mut values = [0; 32];
+    let mut values = [0; VARIABLES];
     values[25] = 7;
     let kept = [5, 7, 0, 0, 0, 0, 0, MINUS_1];
     for budget in [4, 5, 1_000_000] {
@@ -1300,7 +1317,7 @@ fn what_is_kept_is_what_the_run_left() {
 
 #[test]
 fn each_kept_variable_is_told_in_its_place_and_no_other_is() {
-    for x in 0..32 {
+    for x in 0..64 {
         // Set before the end, read, and set twice.
         for program in [
             [format!("read i{}", (x + 1) % 24), format!("i{} := -77", x), "write i23".to_string()],
@@ -1325,7 +1342,7 @@ fn each_kept_variable_is_told_in_its_place_and_no_other_is() {
 fn all_32_bits_are_kept() {
     let program = text(&["read i24", "i31 := i24 + i25", "write i0"]);
     for input in [1, 255, 256, 65535, 65536, 1 << 24, MOST, LEAST, LEAST + 1, MINUS_2, MINUS_1] {
-        let values = [input; 32];
+        let values = [input; VARIABLES];
         let mut kept = [input; KEPT];
         kept[7] = input.wrapping_add(input);
         let expected = Outcome::Ended { value: input as i32, steps: 3, kept, ticks: ANY };
@@ -1351,7 +1368,7 @@ fn both_arms_of_an_if_set_what_is_kept() {
 fn what_one_pass_keeps_starts_the_next() {
     // i30 counts passes, and i24 sums up the inputs.
     let program = text(&["read i0", "i30 := i30 + 1", "i24 := i24 + i0", "write i24"]);
-    let mut values = [0; 32];
+    let mut values = [0; VARIABLES];
     for (pass, (input, sum)) in [(5, 5), (7, 12), (MINUS_1, 11)].into_iter().enumerate() {
         let kept = [sum, 0, 0, 0, 0, 0, pass as u32 + 1, 0];
         let answer = run(&program, &values, input, 4);
@@ -1423,12 +1440,12 @@ fn a_statement_counts_once_for_each_time() {
 
 #[test]
 fn ticks_of_a_million_steps() {
-    // 254 statements a round: 253 products and an `if`.
-    let mut program = vec!["i1 := i1 * i0"; 256];
-    (program[0], program[254], program[255]) = ("read i0", "if i2 goto 2 else 2", "write i1");
-    let rounds = 3_937;
-    assert_eq!(1 + 254 * rounds + 1, 1_000_000);
-    assert_eq!(ticks(&program, 3, 1_000_000), 4 + rounds * (253 * 9 + 3) + 9);
+    // 1,022 statements a round: 1,021 products and an `if`; the last round stops behind 483 products.
+    let mut program = vec!["i1 := i1 * i0"; 1_024];
+    (program[0], program[1_022], program[1_023]) = ("read i0", "if i2 goto 2 else 2", "write i1");
+    let rounds = 978;
+    assert_eq!(1 + 1_022 * rounds + 483, 1_000_000);
+    assert_eq!(ticks(&program, 3, 1_000_000), 4 + rounds * (1_021 * 9 + 3) + 483 * 9);
     let divided = ["read i0", "i1 := i0 / 3", "if i2 goto 2 else 2", "write i1"];
     assert_eq!(ticks(&divided, 9, 1_000_000), 4 + 500_000 * 24 + 499_999 * 3);
 }
@@ -1451,13 +1468,13 @@ struct Lent {
     value: i32,
     steps: u32,
     statement: u32,
-    before: [u32; 32],
-    left: [u32; 32],
-    between: [u32; 32],
+    before: [u32; VARIABLES],
+    left: [u32; VARIABLES],
+    between: [u32; VARIABLES],
     kept: [u32; KEPT],
-    after: [u32; 32],
+    after: [u32; VARIABLES],
     ticks: u64,
-    last: [u32; 32],
+    last: [u32; VARIABLES],
 }
 
 const LENT: Lent = Lent {
@@ -1465,13 +1482,13 @@ const LENT: Lent = Lent {
     value: -0x0eee_0002,
     steps: 0xeeee_0003,
     statement: 0xeeee_0004,
-    before: [0xbbbb_bbbb; 32],
-    left: [0xcccc_cccc; 32],
-    between: [0xaaaa_aaaa; 32],
+    before: [0xbbbb_bbbb; VARIABLES],
+    left: [0xcccc_cccc; VARIABLES],
+    between: [0xaaaa_aaaa; VARIABLES],
     kept: [0x9999_9999; KEPT],
-    after: [0xdddd_dddd; 32],
+    after: [0xdddd_dddd; VARIABLES],
     ticks: 0x8888_8888_7777_7777,
-    last: [0x6666_6666; 32],
+    last: [0x6666_6666; VARIABLES],
 };
 
 /// The number that a raw call returns, and the lent places after it.
@@ -1517,7 +1534,7 @@ fn a_refused_call_changes_nothing_lent() {
     for (text, budget, expected) in cases {
         assert_eq!(lend(text.as_bytes(), 2, budget), (expected, LENT), "{:?}", text);
     }
-    assert_eq!(lend(&text(&lines(257)), 2, 100), (3, LENT));
+    assert_eq!(lend(&text(&lines(1_025)), 2, 100), (3, LENT));
 }
 
 #[test]
@@ -1566,12 +1583,12 @@ fn refusals_print_their_words() {
     let words = [
         (
             1,
-            "table under 256 words, or 512 of a review, verdicts under 256 bytes, new text under \
-             8,704 bytes or stages under 70,000 bytes",
+            "table under 1,024 words, or 2,048 of a review or a list, verdicts under 1,024 bytes, \
+             new text under 34,816 bytes or stages under 280,000 bytes",
         ),
         (15, "budget over 1,000,000"),
         (2, "some line isn't spelled as a statement, or the last lacks its byte 10"),
-        (3, "under 2 or over 256 lines"),
+        (3, "under 2 or over 1,024 lines"),
         (4, "`read` or `write` missing from its place or standing elsewhere"),
         (5, "a target outside 2 to N"),
         (22, "a misspelled or repeated variable of the driver"),
@@ -1581,8 +1598,8 @@ fn refusals_print_their_words() {
         (8, "condition of over 64 parts"),
         (17, "review of over 128 differing parts"),
         (9, "some line of the marks misspelled, or the last without its byte 10"),
-        (10, "over 256 lines of marks"),
-        (21, "joined program of over 256 statements"),
+        (10, "over 1,024 lines of marks"),
+        (21, "joined program of over 1,024 statements"),
         (19, "some line of the prices isn't a number from 1 to 65,535, or the last lacks its byte 10"),
         (20, "other than eleven lines of prices"),
         (23, "a stage's name that isn't 1 to 8 lower-case letters"),

@@ -11,9 +11,17 @@
 #include <string.h>
 
 #define ROOM ((size_t)4 << 20)
+#define STATEMENTS 1024
+#define MARKS 1024
+#define VARIABLES 64
+#define TABLE 1024
+#define REVIEW 2048
+#define LIST 2048
+#define TEXT 34816
+#define STAGES 280000
 #define PATTERN 0xa5
 
-static uint8_t program[8704], condition[1024], conditions[32 * 1025], marks[8704];
+static uint8_t program[TEXT], condition[1024], conditions[32 * 1025], marks[64 * MARKS];
 static size_t program_len, condition_len, conditions_len, marks_len;
 static uint8_t number;
 
@@ -23,50 +31,50 @@ static uint32_t prices[11];
 static void *nothing(void *unused) { return unused; }
 
 static void *run(void *unused) {
-    static uint32_t values[32], ended, steps, statement, left[32], kept[8];
+    static uint32_t values[VARIABLES], ended, steps, statement, left[VARIABLES], kept[8];
     static uint64_t ticks;
     static int32_t value;
-    number = rewrites_run(program, program_len, values, 0, 1000, prices, &ended, &value, &steps,
+    number = rewrites_run(program, program_len, values, 0, 5000, prices, &ended, &value, &steps,
                           &statement, left, kept, &ticks);
     return unused;
 }
 
 static void *tabulate(void *unused) {
-    static uint64_t table[256];
+    static uint64_t table[TABLE];
     static uint32_t parts, satisfied, first;
-    number = rewrites_tabulate(program, program_len, condition, condition_len, table, 256, &parts,
+    number = rewrites_tabulate(program, program_len, condition, condition_len, table, TABLE, &parts,
                                &satisfied, &first);
     return unused;
 }
 
 static void *review(void *unused) {
-    static uint64_t table[512];
+    static uint64_t table[REVIEW];
     static uint32_t tables, lines, table_of[32], parts[32], satisfied[32], first[32];
-    number = rewrites_review(program, program_len, conditions, conditions_len, table, 512, &tables,
+    number = rewrites_review(program, program_len, conditions, conditions_len, table, REVIEW, &tables,
                              &lines, table_of, parts, satisfied, first);
     return unused;
 }
 
 static void *force(void *unused) {
-    static const uint8_t driver[] = "i31";
-    static uint64_t table[256];
-    static uint32_t parts, satisfied, first, least[256];
-    static uint8_t arm[256];
-    number = rewrites_force(program, program_len, driver, 3, condition, condition_len, table, 256, &parts,
-                            &satisfied, &first, least, arm);
+    static const uint8_t driver[] = "i63";
+    static uint64_t table[TABLE];
+    static uint32_t parts, satisfied, first, least[STATEMENTS];
+    static uint8_t arm[STATEMENTS];
+    number = rewrites_force(program, program_len, driver, 3, condition, condition_len, table, TABLE,
+                            &parts, &satisfied, &first, least, arm);
     return unused;
 }
 
 static void *judge(void *unused) {
-    static uint8_t verdicts[256], text[8704];
+    static uint8_t verdicts[MARKS], text[TEXT];
     static uint32_t count, accepted, bytes;
-    number = rewrites_judge(program, program_len, marks, marks_len, verdicts, 256, text, 8704, &count,
+    number = rewrites_judge(program, program_len, marks, marks_len, verdicts, MARKS, text, TEXT, &count,
                             &accepted, &bytes);
     return unused;
 }
 
 static void *report(void *unused) {
-    static uint32_t before[256], after[256], statements, given, rewritten;
+    static uint32_t before[STATEMENTS], after[STATEMENTS], statements, given, rewritten;
     static int32_t saved;
     number = rewrites_report(program, program_len, marks, marks_len, prices, before, after, &statements,
                              &given, &rewritten, &saved);
@@ -75,26 +83,26 @@ static void *report(void *unused) {
 
 static void *mark_line(void *unused) {
     static size_t begin, end;
-    number = rewrites_mark_line(marks, marks_len, 255, &begin, &end);
+    number = rewrites_mark_line(marks, marks_len, MARKS - 1, &begin, &end);
     return unused;
 }
 
 static void *list(void *unused) {
-    static uint64_t words[256];
-    static uint32_t defined[32], used[32];
-    number = rewrites_list(program, program_len, words, 256, defined, used);
+    static uint64_t words[LIST];
+    static uint32_t defined[VARIABLES], used[VARIABLES];
+    number = rewrites_list(program, program_len, words, LIST, defined, used);
     return unused;
 }
 
 static void *relist(void *unused) {
-    static uint64_t words[256];
-    static uint32_t defined[32], used[32];
-    number = rewrites_relist(program, program_len, marks, marks_len, words, 256, defined, used);
+    static uint64_t words[LIST];
+    static uint32_t defined[VARIABLES], used[VARIABLES];
+    number = rewrites_relist(program, program_len, marks, marks_len, words, LIST, defined, used);
     return unused;
 }
 
 /* A table of prices, or lines of one, and the digits of one line. */
-static uint8_t tariff[8704];
+static uint8_t tariff[TEXT];
 static size_t tariff_len;
 
 static void *read_prices(void *unused) {
@@ -103,26 +111,26 @@ static void *read_prices(void *unused) {
     return unused;
 }
 
-/* Two programs of 128 and 129 lines, each of the longest statement: the joined one has 256. */
-static uint8_t road[8704], creeper[8704];
+/* Two programs of 512 and 513 lines, each of the longest statement: the joined one has 1,024. */
+static uint8_t road[TEXT], creeper[TEXT];
 static size_t road_len, creeper_len;
 
 static size_t put_program(uint8_t *text, int lines) {
-    size_t length = sprintf((char *)text, "read i31\n");
+    size_t length = sprintf((char *)text, "read i63\n");
     while (lines-- > 2)
-        length += sprintf((char *)text + length, "i31 := -2147483648 + -2147483648\n");
-    return length + sprintf((char *)text + length, "write i31\n");
+        length += sprintf((char *)text + length, "i63 := -2147483648 + -2147483648\n");
+    return length + sprintf((char *)text + length, "write i63\n");
 }
 
 static void *join(void *unused) {
-    static uint8_t text[8704];
+    static uint8_t text[TEXT];
     static uint32_t statements, bytes;
-    number = rewrites_join(road, road_len, creeper, creeper_len, text, 8704, &statements, &bytes);
+    number = rewrites_join(road, road_len, creeper, creeper_len, text, TEXT, &statements, &bytes);
     return unused;
 }
 
-/* Eight places, each with a program of 256 lines of the longest statement. */
-static uint8_t stages[70000], longest[8704], name[] = "a";
+/* Eight places, each with a program of 1,024 lines of the longest statement. */
+static uint8_t stages[STAGES], longest[TEXT], name[] = "a";
 static size_t longest_len;
 
 static void *keep(void *unused) {
@@ -132,9 +140,9 @@ static void *keep(void *unused) {
 }
 
 static void *go_back(void *unused) {
-    static uint8_t text[8704];
+    static uint8_t text[TEXT];
     static uint32_t bytes;
-    number = rewrites_return(stages, sizeof stages, name, 1, text, 8704, &bytes);
+    number = rewrites_return(stages, sizeof stages, name, 1, text, TEXT, &bytes);
     return unused;
 }
 
@@ -172,21 +180,21 @@ static void put_line(void) {
     conditions[conditions_len++] = 10;
 }
 
-/* 256 lines, in which each of 127 sums is computed twice, and 256 marks: the second of each is to read
+/* 1,024 lines, in which each of 511 sums is computed twice, and 1,024 marks: the second of each is to read
    the first's variable, and the first is to go, which only that refuses. */
 static void put_sums(void) {
     int line, sum;
 
-    program_len = sprintf((char *)program, "read i31\n");
-    for (line = 2; line < 256; line++) {
+    program_len = sprintf((char *)program, "read i63\n");
+    for (line = 2; line < STATEMENTS; line++) {
         sum = line / 2;
-        program_len += sprintf((char *)program + program_len, "i%d := i31 + %d\n", line % 2, sum);
-        marks_len += sprintf((char *)marks + marks_len, "%d: mark(%s, i0, i31 + %d)\n", line,
+        program_len += sprintf((char *)program + program_len, "i%d := i63 + %d\n", line % 2, sum);
+        marks_len += sprintf((char *)marks + marks_len, "%d: mark(%s, i0, i63 + %d)\n", line,
                              line % 2 ? "cse" : "rm", sum);
     }
-    program_len += sprintf((char *)program + program_len, "write i31\n");
-    for (line = 1; line <= 256; line += 255)
-        marks_len += sprintf((char *)marks + marks_len, "%d: mark(cse, i0, i31 + 1)\n", line);
+    program_len += sprintf((char *)program + program_len, "write i63\n");
+    for (line = 1; line <= STATEMENTS; line += STATEMENTS - 1)
+        marks_len += sprintf((char *)marks + marks_len, "%d: mark(cse, i0, i63 + 1)\n", line);
 }
 
 int main(int count, char **arguments) {
@@ -207,66 +215,66 @@ int main(int count, char **arguments) {
 
     put_sums();
     bytes = overwritten(judge) - alone;
-    printf("%7lu bytes of stack: judge, 256 marks, of which 127 add a use\n", (unsigned long)bytes);
+    printf("%7lu bytes of stack: judge, 1,024 marks, of which 511 add a use\n", (unsigned long)bytes);
     fails += number != 0 || bytes > most[1];
     bytes = overwritten(report) - alone;
-    printf("%7lu bytes of stack: report, 256 marks, of which 127 add a use\n", (unsigned long)bytes);
+    printf("%7lu bytes of stack: report, 1,024 marks, of which 511 add a use\n", (unsigned long)bytes);
     fails += number != 0 || bytes > most[5];
     marks_len = 0;
 
-    /* 256 lines: each goes to the line before. */
-    program_len = sprintf((char *)program, "read i31\n");
-    for (line = 2; line < 256; line++)
-        program_len += sprintf((char *)program + program_len, "if i31 goto %d else 256\n",
-                               line > 2 ? line - 1 : 255);
-    program_len += sprintf((char *)program + program_len, "write i31\n");
+    /* 1,024 lines: each goes to the line before. */
+    program_len = sprintf((char *)program, "read i63\n");
+    for (line = 2; line < STATEMENTS; line++)
+        program_len += sprintf((char *)program + program_len, "if i63 goto %d else %d\n",
+                               line > 2 ? line - 1 : STATEMENTS - 1, STATEMENTS);
+    program_len += sprintf((char *)program + program_len, "write i63\n");
 
-    /* 256 marks: each fits, or is of the other kind. */
-    for (line = 1; line <= 256; line++)
-        marks_len += sprintf((char *)marks + marks_len, "%d: mark(%s, i31, i30)\n", line,
+    /* 1,024 marks: each fits, or is of the other kind. */
+    for (line = 1; line <= MARKS; line++)
+        marks_len += sprintf((char *)marks + marks_len, "%d: mark(%s, i63, i62)\n", line,
                              line % 8 ? "rpl" : "rm");
 
     bytes = overwritten(run) - alone;
     printf("%7lu bytes of stack: run\n", (unsigned long)bytes);
     fails += number != 0 || bytes > most[0];
     bytes = overwritten(judge) - alone;
-    printf("%7lu bytes of stack: judge, 256 marks\n", (unsigned long)bytes);
+    printf("%7lu bytes of stack: judge, 1,024 marks\n", (unsigned long)bytes);
     fails += number != 0 || bytes > most[1];
     bytes = overwritten(report) - alone;
-    printf("%7lu bytes of stack: report, 256 marks\n", (unsigned long)bytes);
+    printf("%7lu bytes of stack: report, 1,024 marks\n", (unsigned long)bytes);
     fails += number != 0 || bytes > most[5];
     bytes = overwritten(mark_line) - alone;
-    printf("%7lu bytes of stack: mark_line, the last of 256 marks\n", (unsigned long)bytes);
+    printf("%7lu bytes of stack: mark_line, the last of 1,024 marks\n", (unsigned long)bytes);
     fails += number != 0 || bytes > most[4];
     for (line = 0; line < 11; line++) tariff_len += sprintf((char *)tariff + tariff_len, "65535\n");
     bytes = overwritten(read_prices) - alone;
     printf("%7lu bytes of stack: prices, eleven lines\n", (unsigned long)bytes);
     fails += number != 0 || bytes > most[10];
-    for (line = 11; line < 1400; line++) tariff_len += sprintf((char *)tariff + tariff_len, "65535\n");
+    for (line = 11; line < 5000; line++) tariff_len += sprintf((char *)tariff + tariff_len, "65535\n");
     bytes = overwritten(read_prices) - alone;
-    printf("%7lu bytes of stack: prices, 1,400 lines: %d\n", (unsigned long)bytes, number);
+    printf("%7lu bytes of stack: prices, 5,000 lines: %d\n", (unsigned long)bytes, number);
     fails += number != 20 || bytes > most[10];
     memset(tariff, '1', sizeof tariff);
     bytes = overwritten(read_prices) - alone;
-    printf("%7lu bytes of stack: prices, a line of 8,400 digits: %d\n", (unsigned long)bytes, number);
+    printf("%7lu bytes of stack: prices, a line of 34,816 digits: %d\n", (unsigned long)bytes, number);
     fails += number != 19 || bytes > most[10];
-    road_len = put_program(road, 128);
-    creeper_len = put_program(creeper, 129);
+    road_len = put_program(road, STATEMENTS / 2);
+    creeper_len = put_program(creeper, STATEMENTS / 2 + 1);
     bytes = overwritten(join) - alone;
-    printf("%7lu bytes of stack: join, 128 and 129 statements\n", (unsigned long)bytes);
+    printf("%7lu bytes of stack: join, 512 and 513 statements\n", (unsigned long)bytes);
     fails += number != 0 || bytes > most[9];
-    road_len = put_program(road, 256);
-    creeper_len = put_program(creeper, 256);
+    road_len = put_program(road, STATEMENTS);
+    creeper_len = put_program(creeper, STATEMENTS);
     bytes = overwritten(join) - alone;
-    printf("%7lu bytes of stack: join, 256 and 256 statements: %d\n", (unsigned long)bytes, number);
+    printf("%7lu bytes of stack: join, 1,024 and 1,024 statements: %d\n", (unsigned long)bytes, number);
     fails += number != 21 || bytes > most[9];
     bytes = overwritten(list) - alone;
     printf("%7lu bytes of stack: list\n", (unsigned long)bytes);
     fails += number != 0 || bytes > most[7];
     bytes = overwritten(relist) - alone;
-    printf("%7lu bytes of stack: relist, 256 marks\n", (unsigned long)bytes);
+    printf("%7lu bytes of stack: relist, 1,024 marks\n", (unsigned long)bytes);
     fails += number != 0 || bytes > most[8];
-    longest_len = put_program(longest, 256);
+    longest_len = put_program(longest, STATEMENTS);
     for (line = 0; line < 8; line++) {
         name[0] = (uint8_t)('a' + line);
         bytes = overwritten(keep) - alone;

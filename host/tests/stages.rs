@@ -5,7 +5,9 @@ mod common;
 
 use common::{lines, refused_programs, text, P};
 use rewrites::{go_back, judge, keep, raw, run, Outcome, Prices, Refusal, Stages};
-use rewrites::{NAME_BYTES, PLACES, PLACE_BYTES, STAGES_BYTES, TEXT_BYTES, VERDICT_BYTES};
+use rewrites::{
+    NAME_BYTES, PLACES, PLACE_BYTES, STAGES_BYTES, TEXT_BYTES, VARIABLES, VERDICT_BYTES,
+};
 
 // What is lent
 
@@ -137,7 +139,7 @@ fn p_is_kept_and_returned() {
     assert_eq!((returned.len(), &returned[..]), (101, P.as_bytes()));
 }
 
-/// Length bytes 0 255 are 65,280, past the place; behind the eighth of exactly 70,000 bytes nothing may be read.
+/// Length bytes 0 255 are 65,280, past the place; behind the eighth of exactly 280,000 bytes nothing may be read.
 #[test]
 fn a_length_past_the_place_is_an_empty_place() {
     let whole = full();
@@ -148,8 +150,9 @@ fn a_length_past_the_place_is_an_empty_place() {
         let wrong = [
             [0, 255],
             [255, 255],
-            [0x24, 0x22],
-            [0x25, 0x22],
+            // 34,990, the last that has room, and one more.
+            [0xae, 0x88],
+            [0xaf, 0x88],
             [0, right],
             [right - 1, 0],
             [right + 1, 0],
@@ -298,14 +301,14 @@ fn a_shorter_program_keeps_the_old_tail() {
     assert_eq!(returned(&stages, "first"), Ok(shorter));
 }
 
-/// Places are eighths of 70,000 bytes, and the rest is kept.
+/// Places are eighths of 280,000 bytes, and the rest is kept.
 #[test]
 fn longer_buffers() {
     let mut stages = vec![MARK; STAGES_BYTES + 1_000];
     stages[..STAGES_BYTES].fill(0);
     for (at, name) in EIGHT.iter().enumerate() {
         assert_eq!(keep_in(&mut stages, name, P.as_bytes()), Ok(at as u32 + 1));
-        assert_eq!(&stages[at * 8_750..at * 8_750 + name.len()], name.as_bytes());
+        assert_eq!(&stages[at * 35_000..at * 35_000 + name.len()], name.as_bytes());
     }
     assert!(stages[STAGES_BYTES..].iter().all(|&byte| byte == MARK));
     assert_eq!(returned(&stages, "eight"), Ok(P.as_bytes().to_vec()));
@@ -320,35 +323,36 @@ fn longer_buffers() {
 #[test]
 fn rooms() {
     let stages = full();
-    for room in [0, 1, 8_750, 65_536, 69_999] {
+    for room in [0, 1, 35_000, 70_000, 279_999] {
         for name in [&b"one"[..], b"nine", b""] {
             assert_eq!(kept(&stages[..room], name, P.as_bytes()).0, Err(Refusal::Buffer));
             assert_eq!(kept(&stages[..room], name, b"rubbish").0, Err(Refusal::Buffer));
             assert_eq!(returned_with(&stages[..room], name, TEXT_BYTES), Err(Refusal::Buffer));
         }
     }
-    for room in [0, 1, 8_192, 8_703] {
+    for room in [0, 1, 8_704, 34_815] {
         for name in [&b"one"[..], b"nine", b""] {
             assert_eq!(returned_with(&stages, name, room), Err(Refusal::Buffer));
         }
     }
-    assert_eq!(STAGES_BYTES, 70_000);
+    assert_eq!((STAGES_BYTES, TEXT_BYTES), (280_000, 34_816));
     let numbers =
         [Refusal::StageName, Refusal::StagesFull, Refusal::StageUnknown].map(Refusal::number);
     assert_eq!(numbers, [23, 24, 25]);
 }
 
-/// The longest program fills 8,411 bytes of its place; both bytes of its length are needed.
+/// The longest program fills 33,755 bytes of its place; both bytes of its length are needed.
 #[test]
 fn the_longest_program() {
-    let mut lines = vec!["i31 := -2147483648 + -2147483648"; 256];
-    lines[0] = "read i31";
-    lines[255] = "write i31";
+    let mut lines = vec!["i63 := -2147483648 + -2147483648"; 1_024];
+    lines[0] = "read i63";
+    lines[1_023] = "write i63";
     let longest = text(&lines);
+    assert_eq!(longest.len(), 33_745);
     let mut stages = full();
     for (at, name) in EIGHT.iter().enumerate() {
         assert_eq!(keep_in(&mut stages, name, &longest), Ok(at as u32 + 1));
-        assert_eq!(stages[at * PLACE_BYTES + 8..at * PLACE_BYTES + 10], [209, 32]);
+        assert_eq!(stages[at * PLACE_BYTES + 8..at * PLACE_BYTES + 10], [209, 131]);
     }
     assert_eq!(returned(&stages, "eight"), Ok(longest));
 }
@@ -385,7 +389,9 @@ fn outcomes_last_over_rounds_and_live_variables_do_not() {
     let back = stages.go_back("given").expect("it is kept");
     assert_eq!(back, given);
     let ours = Prices::ours();
-    let outcome = |program: &[u8], budget| run(program, &[5; 32], 3, budget, &ours).expect("it is taken");
+    let outcome = |program: &[u8], budget| {
+        run(program, &[5; VARIABLES], 3, budget, &ours).expect("it is taken")
+    };
     for budget in 0..8 {
         match [&given, &twice].map(|program| outcome(program, budget)) {
             [Outcome::Spent { statement, values, .. }, Outcome::Spent { statement: other, values: left, .. }] =>

@@ -6,11 +6,17 @@ mod common;
 
 use common::{run, text};
 use rewrites::{judge, review, Outcome};
-use rewrites::{KEPT, PART_WORDS, REVIEW_WORDS, TEXT_BYTES, VARIABLES, VERDICT_BYTES};
+use rewrites::{
+    KEPT, PART_WORDS, REVIEW_LINES, REVIEW_WORDS, TEXT_BYTES, VARIABLES, VERDICT_BYTES,
+};
 
 /// The states before each step of a run, from the first to the last, each a statement and the values there; and how the
 /// run ends, without its ticks, which a rewriting may change.
-fn trace(program: &[u8], values: &[u32; 32], input: u32) -> (Vec<(u32, [u32; 32])>, Outcome) {
+fn trace(
+    program: &[u8],
+    values: &[u32; VARIABLES],
+    input: u32,
+) -> (Vec<(u32, [u32; VARIABLES])>, Outcome) {
     let mut states = Vec::new();
     for budget in 0..1_000 {
         match run(program, values, input, budget).expect("a program is taken") {
@@ -35,13 +41,16 @@ fn without_ticks(mut outcome: Outcome) -> Outcome {
 /// For each variable whether it is live at each statement, statement n at n - 1.
 fn live(program: &[u8], count: usize) -> Vec<Vec<bool>> {
     let lines: Vec<String> = (0..VARIABLES).map(|x| format!("E[!def(i{x}) U use(i{x})]")).collect();
-    let mut table = [0; REVIEW_WORDS];
-    let reviewed = review(program, &text(&lines), &mut table).expect("a program is taken");
-    let bit = |x: usize, at: usize| {
-        let row = PART_WORDS * reviewed.table_of[x] as usize;
-        table[row + at / 64] >> (at % 64) & 1 == 1
-    };
-    (0..VARIABLES).map(|x| (0..count).map(|at| bit(x, at)).collect()).collect()
+    let mut live = Vec::new();
+    for lines in lines.chunks(REVIEW_LINES) {
+        let mut table = [0; REVIEW_WORDS];
+        let reviewed = review(program, &text(lines), &mut table).expect("a program is taken");
+        for &of_line in &reviewed.table_of[..lines.len()] {
+            let row = &table[PART_WORDS * of_line as usize..];
+            live.push((0..count).map(|at| row[at / 64] >> (at % 64) & 1 == 1).collect());
+        }
+    }
+    live
 }
 
 /// The new text of a list with these verdicts.
@@ -64,7 +73,7 @@ fn side_by_side(
     program: &[&str],
     marks: &[(&str, u8)],
     made: &[(usize, &str)],
-    (values, input): (&[u32; 32], u32),
+    (values, input): (&[u32; VARIABLES], u32),
     differences: &[(usize, &[Difference])],
 ) -> Outcome {
     let mut rewritten = program.to_vec();
@@ -106,7 +115,7 @@ fn a_sum_and_a_dropped_product() {
     let made = [(3, "skip"), (4, "i2 := i1")];
     // i5 is set anew by 5, so it is dead from 3 to 5.
     let differences = from(4, 5, &[(5, 8, 0)]);
-    let start = (&[0; 32], 4);
+    let start = (&[0; VARIABLES], 4);
     assert_eq!(side_by_side(&program, &marks, &made, start, &differences), ended(5, 6));
     let live = live(&text(&program), 6);
     assert_eq!(live[5], [false, false, false, false, false, true]);
@@ -118,13 +127,13 @@ fn a_pair_that_faults() {
     let program = ["read i0", "i3 := 9", "i1 := i2 - i2", "i4 := i0 / i1", "i3 := i4", "write i3"];
     let marks = [("2: mark(rm, i3, 9)", 0), ("4: mark(rm, i4, i0 / i1)", 18)];
     let differences = from(3, 4, &[(3, 9, 0)]);
-    let ends = side_by_side(&program, &marks, &[(2, "skip")], (&[0; 32], 5), &differences);
+    let ends = side_by_side(&program, &marks, &[(2, "skip")], (&[0; VARIABLES], 5), &differences);
     assert_eq!(ends, Outcome::Fault { statement: 4, steps: 4, ticks: 0 });
     // The same by 0 in place of i1, where i1 is a copy of it.
     let program = ["read i0", "i3 := 9", "i1 := 0", "i4 := i0 / i1", "i3 := i4", "write i3"];
     let marks = [("2: mark(rm, i3, 9)", 0), ("4: mark(rpl, i1, 0)", 0)];
     let made = [(2, "skip"), (4, "i4 := i0 / 0")];
-    let ends = side_by_side(&program, &marks, &made, (&[0; 32], 5), &differences);
+    let ends = side_by_side(&program, &marks, &made, (&[0; VARIABLES], 5), &differences);
     assert_eq!(ends, Outcome::Fault { statement: 4, steps: 4, ticks: 0 });
 }
 
@@ -136,7 +145,7 @@ fn a_kept_gear_set_on_one_arm() {
     let mut kept = [0; KEPT];
     for (input, gear, steps) in [(0, 1, 4), (7, 3, 5)] {
         kept[0] = gear;
-        let ends = side_by_side(&program, &marks, &[], (&[0; 32], input), &[]);
+        let ends = side_by_side(&program, &marks, &[], (&[0; VARIABLES], input), &[]);
         assert_eq!(ends, Outcome::Ended { value: input as i32, steps, ticks: 0, kept });
     }
     // i24 is live there, but for the arm that sets it.
@@ -155,10 +164,12 @@ fn a_kept_gear_set_on_one_arm() {
     let marks = [("2: mark(rm, i24, i0 + 1)", 0)];
     let made = [(2, "skip")];
     kept[0] = 14;
-    let ends = side_by_side(&program, &marks, &made, (&[0; 32], 7), &from(3, 4, &[(24, 8, 0)]));
+    let ends =
+        side_by_side(&program, &marks, &made, (&[0; VARIABLES], 7), &from(3, 4, &[(24, 8, 0)]));
     assert_eq!(ends, Outcome::Ended { value: 7, steps: 6, ticks: 0, kept });
     kept[0] = 10;
-    let ends = side_by_side(&program, &marks, &made, (&[0; 32], 0), &from(3, 6, &[(24, 1, 0)]));
+    let ends =
+        side_by_side(&program, &marks, &made, (&[0; VARIABLES], 0), &from(3, 6, &[(24, 1, 0)]));
     assert_eq!(ends, Outcome::Ended { value: 5, steps: 8, ticks: 0, kept });
 }
 
@@ -182,7 +193,7 @@ fn a_copy_before_a_loop() {
         ("2: mark(rm, i1, i2)", 14),
     ];
     let made = [(3, "skip"), (4, "i3 := i3 + i2"), (5, "skip"), (6, "i0 := i0 - i2")];
-    let mut values = [0; 32];
+    let mut values = [0; VARIABLES];
     values[2] = 2;
     // Two rounds of four steps. i6 is 1, then 4, then 8 in the given program.
     let differences =
@@ -205,7 +216,7 @@ fn the_uses_that_a_list_adds_are_not_the_given_programs() {
     let made = [(3, "skip"), (4, "i2 := i1"), (5, "skip")];
     let (three, both): (&[Difference], &[Difference]) = (&[(3, 6, 0)], &[(1, 4, 7), (3, 6, 0)]);
     let differences = [from(4, 5, three), from(6, 6, both)].concat();
-    let ends = side_by_side(&program, &marks, &made, (&[0; 32], 6), &differences);
+    let ends = side_by_side(&program, &marks, &made, (&[0; VARIABLES], 6), &differences);
     assert_eq!(ends, ended(7, 6));
     assert_eq!(live(&text(&program), 6)[1], [false; 6]);
 }

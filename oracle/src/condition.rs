@@ -15,8 +15,16 @@ pub const LONGEST_TEXT: usize = 1_024;
 /// The largest number of parts.
 pub const MOST_PARTS: usize = 64;
 
+/// The words of a part, in which each statement that a program may have is a bit.
+pub const PART_WORDS: usize = MOST_LINES / 64;
+
 /// The smallest table that may be lent, in words.
-pub const TABLE_WORDS: usize = 256;
+pub const TABLE_WORDS: usize = MOST_PARTS * PART_WORDS;
+
+/// The words of a part of a table, counted from 0.
+pub fn words_of(table: &mut [u64], part: usize) -> &mut [u64] {
+    &mut table[PART_WORDS * part..][..PART_WORDS]
+}
 
 #[derive(Clone, Copy, Debug, PartialEq, Eq, Hash)]
 pub enum Atom {
@@ -520,7 +528,7 @@ pub fn tabulate(
     let steps = Steps::new(&program);
     let mut checker = Checker::new(&program, &steps, &condition);
     for part in 0..condition.parts().len() {
-        let words = &mut table[4 * part..4 * part + 4];
+        let words = words_of(table, part);
         words.fill(0);
         for at in 0..program.statements().len() {
             if checker.holds(part, at) {

@@ -4,14 +4,14 @@ use crate::condition::{Checker, Condition, TABLE_WORDS};
 use crate::forcing::{self, Arm, Player};
 use crate::liveness::{differing, Liveness};
 use crate::machine::{self, Kept, Outcome, Run, State, Values, VALUES};
-use crate::marks::{self, TEXT_BYTES, VERDICT_BYTES};
+use crate::marks::{self, MOST_MARKS, TEXT_BYTES, VERDICT_BYTES};
 use crate::pricing::{read_prices, report, OURS};
-use crate::program::{Program, Statement};
+use crate::program::{Program, Statement, MOST_LINES};
 use crate::steps::Steps;
 use std::ops::RangeInclusive;
 
 /// The columns of a statement's number and of its text.
-const NUMBER_COLUMNS: usize = 3;
+const NUMBER_COLUMNS: usize = 4;
 const STATEMENT_COLUMNS: usize = 32;
 /// The columns before the marks of a row.
 const MARGIN: usize = NUMBER_COLUMNS + 2 + STATEMENT_COLUMNS + 2;
@@ -39,12 +39,20 @@ fn line_of(program: &[u8], number: u8) -> usize {
     lines.iter().enumerate().position(wrong).expect("a refused line") + 1
 }
 
+/// A number below a million, with a comma behind its thousands.
+fn grouped(number: usize) -> String {
+    match number {
+        0..=999 => number.to_string(),
+        _ => format!("{},{:03}", number / 1_000, number % 1_000),
+    }
+}
+
 /// The words of a refusal, on a line of their own.
 pub fn words(number: u8, program: &[u8]) -> String {
     let line = || line_of(program, number);
     let words = match number {
         2 => format!("line {} isn't spelled as a statement, or lacks its byte 10", line()),
-        3 => "under 2 or over 256 lines".into(),
+        3 => format!("under 2 or over {} lines", grouped(MOST_LINES)),
         4 => {
             format!("line {}: read or write missing from its place or standing elsewhere", line())
         }
@@ -53,7 +61,7 @@ pub fn words(number: u8, program: &[u8]) -> String {
         7 => "misspelled".into(),
         8 => "over 64 parts".into(),
         9 => "some line misspelled, or the last without its byte 10".into(),
-        10 => "over 256 lines".into(),
+        10 => format!("over {} lines", grouped(MOST_MARKS)),
         19 => "some line isn't a price from 1 to 65,535, or the last lacks its byte 10".into(),
         20 => "other than eleven lines".into(),
         22 => "a misspelled or repeated variable".into(),
@@ -134,16 +142,18 @@ pub fn force(program: &[u8], driver: &[u8], condition: &[u8]) -> String {
             None => "      ",
         };
         let number = match told.number[at] {
-            Some(number) => format!("{number:3}"),
-            None => "  -".to_string(),
+            Some(number) => format!("{number:NUMBER_COLUMNS$}"),
+            None => format!("{:>NUMBER_COLUMNS$}", "-"),
         };
         let arm = match told.arm[at] {
             Some(Arm::Goto) => "  goto",
             Some(Arm::Else) => "  else",
             None => "",
         };
-        let statement = statement.to_string();
-        text += &format!("{:3}  {statement:32}  {player}  {number}{arm}\n", at + 1);
+        let (n, statement) = (at + 1, statement.to_string());
+        text += &format!(
+            "{n:NUMBER_COLUMNS$}  {statement:STATEMENT_COLUMNS$}  {player}  {number}{arm}\n"
+        );
     }
     let forced = told.number.iter().flatten().count();
     let (parts, satisfied, first) = (told.parts, told.satisfied, told.first);
@@ -173,7 +183,7 @@ fn read_start(text: &[u8]) -> Result<Start, String> {
     let mut numbers = Vec::new();
     for (at, line) in text.split_inclusive(|&byte| byte == b'\n').enumerate() {
         if at == START_LINES {
-            return Err(refused("over 34 lines".into()));
+            return Err(refused(format!("over {START_LINES} lines")));
         }
         let range = if at == 1 { BUDGETS } else { INTEGERS };
         let (low, high) = (range.start(), range.end());

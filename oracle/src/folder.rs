@@ -2,8 +2,9 @@
 
 use crate::check::LARGEST_FILE;
 use crate::generate::{self, Random, WrongDriver};
-use crate::marks;
-use crate::program::Program;
+use crate::machine::VALUES;
+use crate::marks::{self, MOST_MARKS};
+use crate::program::{Program, MOST_LINES};
 use crate::review::REVIEW_LINES;
 
 /// A line again and again, until there are so many bytes.
@@ -15,8 +16,9 @@ fn long(line: &str, bytes: usize) -> Vec<u8> {
 pub fn checked(random: &mut Random) -> [Option<Vec<u8>>; 2] {
     let size = generate::size(random);
     let program = generate::program(random, size);
-    let count = match random.below(20) {
-        0 => random.between(250, 258),
+    let count = match random.below(60) {
+        0 => random.between(MOST_MARKS - 2, MOST_MARKS + 2),
+        1 => random.between(250, 258),
         _ => random.below(size + 4).min(60),
     };
     let (mut given, mut list) =
@@ -43,7 +45,7 @@ pub fn given(random: &mut Random) -> (Program, Vec<u8>) {
     let text = match random.below(24) {
         0 | 1 => generate::damage(random, &whole),
         2 => generate::statement_soup(random),
-        3 => b"read i0\n".repeat(random.pick(&[0, 1, 257])),
+        3 => b"read i0\n".repeat(random.pick(&[0, 1, MOST_LINES + 1])),
         4 => [&whole[..], b"skip\n"].concat(),
         5 => b"read i0\nskip\nif i0 goto 2 else 5\nwrite i0\n".to_vec(),
         _ => whole,
@@ -141,7 +143,7 @@ pub fn start(random: &mut Random) -> Vec<u8> {
         _ => random.below(300),
     };
     let mut text = format!("{}\n{budget}\n", generate::word(random) as i32);
-    for _ in 0..random.pick(&[0, 0, 1, 5, 31, 32, 33]) {
+    for _ in 0..random.pick(&[0, 0, 1, 5, 32, VALUES - 1, VALUES, VALUES + 1]) {
         text += &format!("{}\n", generate::word(random) as i32);
     }
     match random.below(10) {

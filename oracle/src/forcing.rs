@@ -1,7 +1,7 @@
 //! What a driver can force: at an `if` on a variable of his list he picks the arm, at every other the unit does, without
 //! regard to values. Numbers and arms are found by sweeps over all statements.
 
-use crate::condition::{tabulate, TABLE_WORDS};
+use crate::condition::{tabulate, words_of, TABLE_WORDS};
 use crate::program::{Program, Statement, VARIABLES};
 use crate::steps::Steps;
 
@@ -129,7 +129,7 @@ pub fn force(
     let given = Program::read(program)?;
     let his = names(driver).ok_or(22)?;
     let (parts, satisfied, first) = tabulate(program, condition, table)?;
-    let whole = &table[4 * (parts as usize - 1)..];
+    let whole = words_of(table, parts as usize - 1);
     let holds: Vec<bool> =
         (0..given.statements().len()).map(|at| whole[at / 64] >> (at % 64) & 1 == 1).collect();
     let number = numbers(&given, &his, &holds);

@@ -1,7 +1,7 @@
 //! Random cases, the same for the same seed.
 
 use crate::condition::{Condition, LONGEST_TEXT, MOST_PARTS};
-use crate::machine::{Values, LARGEST_BUDGET};
+use crate::machine::{Values, LARGEST_BUDGET, VALUES};
 use crate::marks::{Judge, Kind, Mark};
 use crate::pricing::{self, Prices, KINDS, OURS};
 use crate::program::{
@@ -69,7 +69,7 @@ pub fn word(random: &mut Random) -> u32 {
 }
 
 pub fn values(random: &mut Random) -> Values {
-    let mut values = [0; 32];
+    let mut values = [0; VALUES];
     values.iter_mut().for_each(|value| *value = word(random));
     values
 }
@@ -86,13 +86,20 @@ pub fn budget(random: &mut Random) -> u32 {
     }
 }
 
-/// A number of statements, mostly small, in 2 of 100 cases a hundred and more.
+/// The most statements of earlier releases: up to so many have room in a row of 4 words.
+pub const FORMER_LINES: usize = 256;
+
+/// A number of statements, mostly small, in 2 of 100 cases a hundred and more: often close to either side of 256, and now and then the
+/// most.
 pub fn size(random: &mut Random) -> usize {
-    match random.below(100) {
+    match random.below(1_000) {
         0 => MOST_LINES,
-        1 => random.between(100, MOST_LINES),
-        2..=20 => random.between(16, 40),
-        21..=30 => random.between(2, 4),
+        1 => random.between(MOST_LINES - 2, MOST_LINES),
+        2 | 3 => random.between(FORMER_LINES + 1, MOST_LINES),
+        4..=9 => random.between(FORMER_LINES - 2, FORMER_LINES + 3),
+        10..=19 => random.between(100, FORMER_LINES),
+        20..=209 => random.between(16, 40),
+        210..=309 => random.between(2, 4),
         _ => random.between(4, 16),
     }
 }
@@ -112,6 +119,8 @@ impl Style {
             0..=3 => (0..8).collect(),
             // Those that the unit keeps, and the last of the others.
             4..=6 => (FIRST_KEPT - 4..FIRST_KEPT + KEPT as u8).collect(),
+            // The last, none of which it keeps.
+            7 => (VARIABLES - KEPT as u8..VARIABLES).collect(),
             _ => (0..VARIABLES).collect(),
         };
         random.shuffle(&mut variables);
@@ -362,7 +371,7 @@ fn expression(random: &mut Random) -> Expression {
     }
 }
 
-/// A program of 2 to 256 statements with loops, copies, divisions, sums that are computed twice, dead assignments and
+/// A program of 2 to `MOST_LINES` statements with loops, copies, divisions, sums that are computed twice, dead assignments and
 /// unreachable statements.
 pub fn program(random: &mut Random, size: usize) -> Program {
     let style = Style::new(random);
@@ -459,24 +468,28 @@ fn one_of_pair(random: &mut Random, size: usize) -> Program {
 }
 
 /// The statements of a road and of a creeper program: mostly small ones, else such that the joined program has
-/// around 256.
+/// around `MOST_LINES`, or around 256.
 fn pair_sizes(random: &mut Random) -> [usize; 2] {
-    match random.below(20) {
+    const HALF: usize = MOST_LINES / 2;
+    let mut around = |most: usize| {
+        let (first, joined) = (random.between(2, most), random.between(most - 4, most + 4));
+        [first, (joined + 1).saturating_sub(first).clamp(2, most)]
+    };
+    let (at_most, at_former) = (around(MOST_LINES), around(FORMER_LINES));
+    match random.below(80) {
         0 => random.pick(&[
-            [128, 129],
-            [129, 128],
-            [129, 129],
-            [256, 2],
-            [2, 256],
-            [255, 2],
-            [2, 255],
-            [256, 256],
+            [HALF, HALF + 1],
+            [HALF + 1, HALF],
+            [HALF + 1, HALF + 1],
+            [MOST_LINES, 2],
+            [2, MOST_LINES],
+            [MOST_LINES - 1, 2],
+            [2, MOST_LINES - 1],
+            [MOST_LINES, MOST_LINES],
         ]),
-        1..=3 => {
-            let (first, joined) = (random.between(2, 256), random.between(252, 260));
-            [first, (joined + 1).saturating_sub(first).clamp(2, 256)]
-        }
-        4 => [size(random), size(random)],
+        1 | 2 => at_most,
+        3..=6 => at_former,
+        7..=10 => [size(random), size(random)],
         _ => [size(random).min(40), size(random).min(40)],
     }
 }
@@ -529,7 +542,7 @@ fn number_near(random: &mut Random, program: &Program) -> u32 {
     match random.below(20) {
         0 => 0,
         1 => count + 1,
-        2 => random.pick(&[257, 300, 65_536 + 2, LARGEST]),
+        2 => random.pick(&[MOST_LINES as u32 + 1, 2_000, 65_536 + 2, LARGEST]),
         _ => 1 + random.below(count as usize) as u32,
     }
 }
@@ -616,7 +629,7 @@ pub fn condition_of_length(random: &mut Random, program: &Program, length: usize
         let room = length - text.len();
         text = match room {
             60.. => {
-                let x = random.between(10, 31);
+                let x = random.between(10, usize::from(VARIABLES) - 1);
                 let c = Operand::Constant(random.pick(&[LARGEST, LEAST]));
                 pair(random, &text, &format!("stmt(i{x} := {c} * {c})"))
             }
@@ -911,7 +924,8 @@ pub fn marks(random: &mut Random, program: &Program, count: usize) -> Vec<Mark> 
                 program.statement(number).and_then(|_| fitting(random, program, number).pop())
             }
             89..=94 => {
-                let lacking = [0, program.count() + 1, program.count() + 256, LARGEST];
+                let near = [program.count() + 1, program.count() + FORMER_LINES as u32];
+                let lacking = [0, near[0], near[1], MOST_LINES as u32 + 1, LARGEST];
                 let number = random.pick(&lacking);
                 Some(any_mark(random, program, number))
             }
@@ -1202,9 +1216,11 @@ fn damage_lines(random: &mut Random, kind: Damage, lines: &mut Vec<Vec<u8>>) {
         Damage::SwapLines => lines.swap(one, other),
         Damage::DoubleLine => lines.insert(one, lines[other].clone()),
         Damage::DropLine => drop(lines.remove(one)),
-        // The edge of 256 lines is often met. A text of many long lines would only take time.
-        Damage::ManyLines if lines[one].len() < 2_000 => {
-            let wanted = random.pick(&[255, 256, 257, 258, 300]);
+        // The edge of a program's and a list's lines is often met. A text of many long lines would only take time.
+        Damage::ManyLines if lines[one].len() < 500 => {
+            let most = MOST_LINES;
+            let wanted =
+                random.pick(&[FORMER_LINES, FORMER_LINES + 1, most - 1, most, most + 1, most + 2]);
             let missing = wanted.max(lines.len()) - lines.len();
             let copies = vec![lines[one].clone(); missing];
             lines.splice(one..one, copies);
@@ -1270,14 +1286,14 @@ fn soup(random: &mut Random, pieces: &[&str], most: usize) -> String {
 }
 
 #[rustfmt::skip]
-const STATEMENT_PIECES: [&str; 28] = [
+const STATEMENT_PIECES: [&str; 29] = [
     "skip", "read", "write", "if", "goto", "else", " ", " ", " ", ":=", ":", "=", "i", "i0", "i1",
-    "i31", "i32", "0", "2", "2147483647", "2147483648", "+", "-", "*", "/", "<", "-2", "-0",
+    "i32", "i63", "i64", "0", "2", "2147483647", "2147483648", "+", "-", "*", "/", "<", "-2", "-0",
 ];
 
 #[rustfmt::skip]
-const EXPRESSION_PIECES: [&str; 23] = [
-    "i0", "i31", "i32", "0", "7", "2147483647", "2147483648", " ", " + ", " - ", " * ", " / ", " < ", " = ", "-",
+const EXPRESSION_PIECES: [&str; 24] = [
+    "i0", "i32", "i63", "i64", "0", "7", "2147483647", "2147483648", " ", " + ", " - ", " * ", " / ", " < ", " = ", "-",
     "/", " / 0", "-7", "-40", "-0", "-2147483648", "-2147483649", " - -",
 ];
 
@@ -1292,8 +1308,8 @@ pub fn statement_soup(random: &mut Random) -> Vec<u8> {
 }
 
 #[rustfmt::skip]
-const CONDITION_PIECES: [&str; 43] = [
-    "true", "false", "entry", "exit", "node(", "stmt(", "def(", "use(", "trans(", "i0", "i31", "1",
+const CONDITION_PIECES: [&str; 44] = [
+    "true", "false", "entry", "exit", "node(", "stmt(", "def(", "use(", "trans(", "i0", "i63", "i64", "1",
     "skip", "i0 := 1", ")", ")", ")", "!", "(", " & ", " | ", "EX ", "AF ", "EG ", "AY ", "ER ",
     "AM ", "E[", "A[", " U ", " W ", " S ", " B ", "]", "]", " ", "true", "-1", "-0", "i0 := -1", "-",
     "i0 := 1 / i0", "/",
@@ -1335,8 +1351,8 @@ pub fn nested_condition(random: &mut Random) -> Vec<u8> {
 }
 
 #[rustfmt::skip]
-const MARK_PIECES: [&str; 29] = [
-    "1", "2", "0", "257", ":", " ", "mark", "(", "rm", "rpl", "cse", ",", ", ", "i0", "i1", "i32", "7",
+const MARK_PIECES: [&str; 30] = [
+    "1", "2", "0", "1025", ":", " ", "mark", "(", "rm", "rpl", "cse", ",", ", ", "i0", "i1", "i63", "i64", "7",
     " + ", "+", ")", "2147483648", "-7", "-0", "-2147483648", "-2147483649", " - ", "-", " / ", "/",
 ];
 
@@ -1449,9 +1465,9 @@ pub enum WrongDriver {
     Twice,
     /// `i00`, `i07`.
     LeadingZero,
-    /// `i32` and larger numbers.
+    /// `i64` and larger numbers.
     TooLarge,
-    /// A number that fits 32 only when it wraps.
+    /// A number that is a variable's only when it wraps.
     Wrapping,
     /// `I0`, `j0`, `0`.
     Letter,
@@ -1487,7 +1503,7 @@ impl WrongDriver {
 /// The text of a list, spelled in a wrong way. No such text is a list.
 pub fn wrong_driver(random: &mut Random, wrong: WrongDriver, his: &[u8]) -> Vec<u8> {
     let mut names: Vec<String> = his.iter().map(|x| format!("i{x}")).collect();
-    for x in [3, 17, 30] {
+    for x in [3, 17, VARIABLES - 1] {
         if names.len() < 2 && !his.contains(&x) {
             names.push(format!("i{x}"));
         }
@@ -1513,10 +1529,11 @@ pub fn wrong_driver(random: &mut Random, wrong: WrongDriver, his: &[u8]) -> Vec<
         }
         WrongDriver::LeadingZero => names[at].insert(1, '0'),
         WrongDriver::TooLarge => {
-            names[at] = format!("i{}", random.pick(&[32, 33, 63, 99, 100, 255]))
+            names[at] = format!("i{}", random.pick(&[64, 65, 99, 100, 128, 255]))
         }
         WrongDriver::Wrapping => {
-            let wide = random.pick(&[256_u64, 1 << 16, 1 << 32]) + random.below(32) as u64;
+            let low = random.below(usize::from(VARIABLES)) as u64;
+            let wide = random.pick(&[256, 1 << 16, 1 << 32]) + low;
             names[at] = format!("i{wide}");
         }
         WrongDriver::Letter => {
@@ -1853,7 +1870,7 @@ pub fn damage_place(random: &mut Random, kind: PlaceDamage, stages: &mut [u8], a
             put_length(stages, random.pick(&[most - 1, most, most + 1, most + HEAD_BYTES as u16]));
         }
         PlaceDamage::LengthFar => {
-            put_length(stages, random.pick(&[0xff00, 0xffff, 0x8000, 0x4000]))
+            put_length(stages, random.pick(&[0xff00, 0xffff, 0x8900, 0xc000]))
         }
         PlaceDamage::LengthNear => {
             put_length(stages, random.pick(&[length.wrapping_add(1), length.wrapping_sub(1)]));

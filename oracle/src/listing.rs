@@ -2,11 +2,12 @@
 //!
 //! A list is made and brought up to date bit by bit. What a round of marks changes is found by the lines of both texts.
 
+use crate::condition::PART_WORDS;
 use crate::marks::{self, TEXT_BYTES, VERDICT_BYTES};
-use crate::program::{Program, Statement, MOST_LINES, VARIABLES};
+use crate::program::{Program, Statement, VARIABLES};
 
-/// The smallest list that may be lent, in words: two sets of 4 for each variable.
-pub const LIST_WORDS: usize = 256;
+/// The smallest list that may be lent, in words: two sets for each variable.
+pub const LIST_WORDS: usize = 2 * PART_WORDS * VARIABLES as usize;
 
 /// How many ones each set of a list has.
 #[derive(Clone, Copy, Debug, PartialEq, Eq)]
@@ -24,11 +25,11 @@ pub enum Set {
 
 /// The word and the bit of statement index `at` in a set.
 fn place(x: u8, set: Set, at: usize) -> (usize, usize) {
-    let first = match set {
-        Set::Defining => 8 * usize::from(x),
-        Set::Using => 8 * usize::from(x) + 4,
+    let sets = match set {
+        Set::Defining => 2 * usize::from(x),
+        Set::Using => 2 * usize::from(x) + 1,
     };
-    (first + at / 64, at % 64)
+    (PART_WORDS * sets + at / 64, at % 64)
 }
 
 /// Whether a list has statement index `at`, counted from 0, in a set.
@@ -37,7 +38,7 @@ pub fn has(list: &[u64], x: u8, set: Set, at: usize) -> bool {
     list[word] >> bit & 1 == 1
 }
 
-/// Writes a statement's bit of each of the 64 sets.
+/// Writes a statement's bit of each set.
 fn write_bits(list: &mut [u64], at: usize, statement: &Statement) {
     for x in 0..VARIABLES {
         for (set, is_in) in [(Set::Defining, statement.defines(x)), (Set::Using, statement.uses(x))]
@@ -51,7 +52,8 @@ fn write_bits(list: &mut [u64], at: usize, statement: &Statement) {
 /// The ones of each set, whether they are a statement's or not.
 fn counts(list: &[u64]) -> Counts {
     let ones = |x: usize, set: Set| {
-        (0..MOST_LINES).filter(|&at| has(list, x as u8, set, at)).count() as u32
+        let (first, _) = place(x as u8, set, 0);
+        list[first..first + PART_WORDS].iter().map(|word| word.count_ones()).sum()
     };
     Counts {
         defined: std::array::from_fn(|x| ones(x, Set::Defining)),

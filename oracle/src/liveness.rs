@@ -9,20 +9,20 @@ use crate::steps::Steps;
 /// The live variables before each statement of a program, bit x of a set being variable x.
 #[derive(Clone, Debug)]
 pub struct Liveness {
-    sets: Vec<u32>,
+    sets: Vec<u64>,
 }
 
 /// The variables of which a test is true.
-fn set_of(test: impl Fn(u8) -> bool) -> u32 {
+fn set_of(test: impl Fn(u8) -> bool) -> u64 {
     (0..VARIABLES).filter(|&x| test(x)).fold(0, |set, x| set | 1 << x)
 }
 
 impl Liveness {
     pub fn new(program: &Program) -> Liveness {
         let statements = program.statements();
-        let used: Vec<u32> =
+        let used: Vec<u64> =
             statements.iter().map(|statement| set_of(|x| statement.uses(x))).collect();
-        let defined: Vec<u32> =
+        let defined: Vec<u64> =
             statements.iter().map(|statement| set_of(|x| statement.defines(x))).collect();
         let steps = Steps::new(program);
         let mut sets = used;

@@ -1,12 +1,14 @@
 //! Runs by steps.
 
 use crate::pricing::{price, Prices};
-use crate::program::{Expression, Operand, Operator, Program, Statement, FIRST_KEPT, KEPT};
+use crate::program::{
+    Expression, Operand, Operator, Program, Statement, FIRST_KEPT, KEPT, VARIABLES,
+};
 
 /// The number of variables.
-pub const VALUES: usize = 32;
+pub const VALUES: usize = VARIABLES as usize;
 
-/// The values of `i0` to `i31`.
+/// The values of all variables, `i0` first.
 pub type Values = [u32; VALUES];
 
 /// The values of `i24` to `i31`.

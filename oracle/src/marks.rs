@@ -5,15 +5,17 @@ use std::fmt;
 use std::ops::Range;
 
 use crate::condition::{Checker, Condition, GainedUse};
-use crate::program::{expression, number, variable, Expression, Operand, Program, Statement};
+use crate::program::{
+    expression, number, variable, Expression, Operand, Program, Statement, LINE_BYTES, MOST_LINES,
+};
 use crate::steps::Steps;
 
 /// The largest number of lines of a list.
-pub const MOST_MARKS: usize = 256;
+pub const MOST_MARKS: usize = 1_024;
 
 /// The smallest buffers that may be lent, in bytes.
-pub const VERDICT_BYTES: usize = 256;
-pub const TEXT_BYTES: usize = 8_704;
+pub const VERDICT_BYTES: usize = MOST_MARKS;
+pub const TEXT_BYTES: usize = MOST_LINES * LINE_BYTES;
 
 #[derive(Clone, Copy, Debug, PartialEq, Eq)]
 pub enum Kind {

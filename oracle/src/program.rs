@@ -11,8 +11,8 @@ pub const LARGEST: u32 = 2_147_483_647;
 /// The bits of the least constant, -2147483648.
 pub const LEAST: u32 = i32::MIN as u32;
 
-/// The number of variables, `i0` to `i31`.
-pub const VARIABLES: u8 = 32;
+/// The number of variables, `i0` to `i63`.
+pub const VARIABLES: u8 = 64;
 
 /// The first of the variables that the unit keeps from one pass to the next, and how many there are: `i24` to
 /// `i31`.
@@ -20,7 +20,10 @@ pub const FIRST_KEPT: u8 = 24;
 pub const KEPT: usize = 8;
 
 /// The largest number of lines of a program.
-pub const MOST_LINES: usize = 256;
+pub const MOST_LINES: usize = 1_024;
+
+/// The bytes in which a statement's line has room, its byte 10 included.
+pub const LINE_BYTES: usize = 34;
 
 /// Whether the unit keeps a variable from one pass to the next.
 pub fn is_kept(x: u8) -> bool {

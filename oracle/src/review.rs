@@ -3,18 +3,18 @@
 
 use std::collections::HashMap;
 
-use crate::condition::{Checker, Condition, LONGEST_TEXT};
+use crate::condition::{words_of, Checker, Condition, LONGEST_TEXT, PART_WORDS};
 use crate::program::Program;
 use crate::steps::Steps;
-
-/// The smallest table that may be lent, in words.
-pub const REVIEW_WORDS: usize = 512;
 
 /// The largest number of lines.
 pub const REVIEW_LINES: usize = 32;
 
 /// The largest number of tables.
 pub const MOST_TABLES: usize = 128;
+
+/// The smallest table that may be lent, in words.
+pub const REVIEW_WORDS: usize = MOST_TABLES * PART_WORDS;
 
 /// What a review answers beside the tables. Line j stands at j, counted from 0; entries past the lines are 0.
 #[derive(Clone, Copy, Debug, PartialEq, Eq)]
@@ -88,7 +88,7 @@ pub fn review(program: &[u8], text: &[u8], table: &mut [u64]) -> Result<Reviewed
         for part in 0..condition.parts().len() {
             // The first part of each table comes when all before are filled.
             if tables[&condition.text_of(part)] == filled {
-                let words = &mut table[4 * filled..4 * filled + 4];
+                let words = words_of(table, filled);
                 words.fill(0);
                 for at in (0..program.statements().len()).filter(|&at| checker.holds(part, at)) {
                     words[at / 64] |= 1 << (at % 64);

@@ -4,7 +4,7 @@ use crate::marks::TEXT_BYTES;
 use crate::program::Program;
 
 /// The bytes that there must be for stages.
-pub const STAGES_BYTES: usize = 70_000;
+pub const STAGES_BYTES: usize = 280_000;
 
 /// The places among them.
 pub const PLACES: usize = 8;

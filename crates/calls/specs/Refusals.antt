@@ -8,7 +8,7 @@ use Rattle.program.specs.Program.{Taken}
 use Rattle.program.specs.Reading as program
 use Rattle.program.specs.declared.Refusal as program-refusal
 
--- "1: table under 256 words, verdicts under 256 bytes or new text under 8,704 bytes.", with document 02's figure
+-- "1: table under 256 words, verdicts under 256 bytes or new text under 8,704 bytes.", by document 02 1,024 words, 1,024 and 34,816 bytes
 abbrev pub room-number : ℕ
 room-number = 1
 

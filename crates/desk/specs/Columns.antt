@@ -7,7 +7,7 @@ use Rattle.language.specs.Spelling.{digits}
 
 -- the columns of a statement's number, and those of its text, in which the longest statement of a program has room
 abbrev pub number-columns : ℕ
-number-columns = 3
+number-columns = 4
 
 abbrev pub statement-columns : ℕ
 statement-columns = 32

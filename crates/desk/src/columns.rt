@@ -10,7 +10,7 @@ ghost use Rattle.desk.specs.Columns.{spaces as blanks, wide, padded};
 use language::Statement;
 
 // The columns of a statement's number, and of its text.
-pub const NUMBER_COLUMNS: usize = 3;
+pub const NUMBER_COLUMNS: usize = 4;
 
 pub const STATEMENT_COLUMNS: usize = 32;
 

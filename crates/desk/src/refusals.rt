@@ -29,7 +29,7 @@ pub fn words(out: &mut [u8], at: usize, n: u8, line: u32) -> usize
             statement_writer::word(
                 out,
                 at,
-                b"the host program: table under 256 words, verdicts under 256 bytes or new text under 8,704 bytes",
+                b"the host program: table under 1,024 words, verdicts under 1,024 bytes or new text under 34,816 bytes",
             )
         }
         15 => statement_writer::word(out, at, b"the host program: budget over 1,000,000"),
@@ -46,7 +46,7 @@ pub fn words(out: &mut [u8], at: usize, n: u8, line: u32) -> usize
             statement_writer::word(
                 out,
                 at,
-                b"the author of the shift program: under 2 or over 256 lines",
+                b"the author of the shift program: under 2 or over 1,024 lines",
             )
         }
         4 => {
@@ -81,7 +81,7 @@ pub fn words(out: &mut [u8], at: usize, n: u8, line: u32) -> usize
                 b"the optimiser: some line misspelled, or the last without its byte 10",
             )
         }
-        10 => statement_writer::word(out, at, b"the optimiser: over 256 lines"),
+        10 => statement_writer::word(out, at, b"the optimiser: over 1,024 lines"),
         16 => statement_writer::word(
             out,
             at,
@@ -101,7 +101,7 @@ pub fn words(out: &mut [u8], at: usize, n: u8, line: u32) -> usize
         21 => statement_writer::word(
             out,
             at,
-            b"the author of the shift program: the joined program has over 256 statements",
+            b"the author of the shift program: the joined program has over 1,024 statements",
         ),
         22 => statement_writer::word(
             out,

@@ -13,7 +13,7 @@ use Rattle.stages.specs.Choice.{Unknown}
 use Rattle.go_back.specs.declared.ReturnAnswer.{ReturnAnswer}
 use Rattle.go_back.specs.declared.ReturnAnswer.the-variants.{Refused, Returned}
 
--- "70,000 bytes that the caller lends, else refusal 1"; the text that is returned is lent as a new text is
+-- "70,000 bytes that the caller lends, else refusal 1", 280,000 by Wish 13; the text that is returned is lent as a new text is
 abbrev pub text-bytes : ℕ
 text-bytes = text-room
 

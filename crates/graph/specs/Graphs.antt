@@ -8,9 +8,9 @@ use lib.Dec.{eqb}
 use Rattle.ctl.specs.Paths.{Graph}
 use Rattle.graph.specs.Lists.{step, Lists, Linked}
 
--- the most places of a graph, the code's PLACES: "N is their count, 2 to 256"
+-- the most places of a graph, the code's PLACES: "N is their count", 2 to 1,024 (document 02, Wish 13)
 abbrev pub places : ℕ
-places = 256
+places = 1024
 
 -- their edges, the code's EDGES: "both arms of an `if`", and backward one more, since "a statement with no predecessor steps back to
 -- itself"

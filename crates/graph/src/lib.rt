@@ -12,7 +12,7 @@ ghost use Rattle.graph.specs.Lists.{step, Linked, Blank};
 ghost use Rattle.graph.specs.Graphs.{places, ListsAt, Room, Added};
 
 // The most places of a graph, and their edges.
-pub const PLACES: usize = 256;
+pub const PLACES: usize = 1024;
 
 pub const EDGES: usize = 3 * PLACES;
 

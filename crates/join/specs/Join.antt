@@ -14,7 +14,7 @@ use Rattle.join.specs.Theorem.{JoinedTexts}
 use Rattle.join.specs.declared.JoinAnswer.{JoinAnswer}
 use Rattle.join.specs.declared.JoinAnswer.the-variants as answer
 
--- "new text under 8,704 bytes"
+-- "new text under 8,704 bytes", 34,816 by Wish 13
 abbrev pub text-bytes : ℕ
 text-bytes = text-room
 
@@ -23,7 +23,7 @@ pub data Refusal : Type 0 where
   creeper : program-refusal.Refusal → Refusal
   long : Refusal
 
--- "21 when N+M-1 is above 256, after both texts have been taken, the road text first"
+-- "21 when N+M-1 is above 256 [1,024 by Wish 13], after both texts have been taken, the road text first"
 abbrev pub Refused : List ℕ → List ℕ → Refusal → Type 0
 Refused t u (creeper r) = program.Refused u r
 Refused t u long = (P : List Statement) × (Q : List Statement) × Taken t P × Taken u Q × (most < length P + length Q - 1)

@@ -16,7 +16,7 @@ use Rattle.calls.specs.Refusals.{CallRefused}
 use Rattle.judge.specs.declared.JudgeAnswer.{JudgeAnswer}
 use Rattle.judge.specs.declared.JudgeAnswer.the-variants.{Refused, Finished}
 
--- "1: .. verdicts under 256 bytes or new text under 8,704 bytes", with document 02's figure: as many marks and lines as there can be
+-- "1: .. verdicts under 256 bytes or new text under 8,704 bytes", by document 02 1,024 and 34,816: as many marks and lines as there can be
 abbrev pub verdict-bytes : ℕ
 verdict-bytes = marks.most
 

@@ -5,7 +5,7 @@ use Prim.Native.Nat.{ℕ, _+_}
 abbrev pub number-digits : ℕ
 number-digits = 10
 
--- a variable's number: `31`
+-- a variable's number: `63`
 abbrev pub variable-digits : ℕ
 variable-digits = 2
 
@@ -13,7 +13,7 @@ variable-digits = 2
 abbrev pub target-digits : ℕ
 target-digits = 6
 
--- `i31`, `-2147483648`, `-2147483648 + -2147483648`, `i31 := -2147483648 + -2147483648`
+-- `i63`, `-2147483648`, `-2147483648 + -2147483648`, `i63 := -2147483648 + -2147483648`
 abbrev pub variable-room : ℕ
 variable-room = 1 + variable-digits
 

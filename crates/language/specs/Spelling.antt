@@ -16,9 +16,9 @@ use Rattle.language.specs.declared.Expression.the-variants.{Single, Bina
 use Rattle.language.specs.declared.Statement.{Statement}
 use Rattle.language.specs.declared.Statement.the-variants.{Read, Write, Assign, Branch, Skip}
 
--- "X is a variable `i0` to `i31`"
+-- "X is a variable `i0` to `i31`" of document 01, "variables up to `i63`" of document 02
 abbrev pub variables : ℕ
-variables = 32
+variables = 64
 
 -- "statement numbers are decimal, 0 to 2147483647"
 abbrev pub largest : ℕ

@@ -1,7 +1,7 @@
 // The statement language: its types. No functions stand here.
 
-// Variables are i0 to i31.
-pub const VARIABLES: u32 = 32;
+// Variables are i0 to i63.
+pub const VARIABLES: u32 = 64;
 // Variables i24 to i31 are kept from one pass to the next.
 pub const FIRST_KEPT: usize = 24;
 

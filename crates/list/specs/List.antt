@@ -13,7 +13,7 @@ use Rattle.listing.specs.declared.ListAnswer.the-variants.{Refused, Listed}
 use Rattle.listing.specs.declared.ListAnswer.{ListAnswer}
 use Rattle.calls.specs.Refusals.{room-number}
 
--- "of 256 (fewer: refusal 1)", then 2 to 5: the number of the first that applies
+-- "of 256 (fewer: refusal 1)", 2,048 by Wish 13, then 2 to 5: the number of the first that applies
 abbrev pub ListRefused : List ℕ → List ℕ → ℕ → Type 0
 ListRefused t list n =
     ((length list < list-words) × (n ≡ room-number))

@@ -19,7 +19,7 @@ definedRow l v = rowOf row-words l (2 * v)
 abbrev pub usedRow : List ℕ → ℕ → List ℕ
 usedRow l v = rowOf row-words l (2 * v + 1)
 
--- "of 256 (fewer: refusal 1)": two sets for each variable, the code's LIST_WORDS
+-- "of 256 (fewer: refusal 1)", 2,048 by Wish 13: two sets for each variable, the code's LIST_WORDS
 abbrev pub list-words : ℕ
 list-words = row-words * (2 * variables)
 
@@ -36,7 +36,7 @@ pub record SetUpdated (P Q : List Statement) (Has : Statement → Type 0) (old n
   pub changed : (s : ℕ) → (at Q s ≡ at P s → ⊥) → (member new s ≡ true) ↔ Has (at Q s)
   pub kept : (s : ℕ) → at Q s ≡ at P s → member new s ≡ member old s
 
--- in all of them; the words from 256 on are kept
+-- in all of them; the words behind a list are kept
 pub record Updated (P Q : List Statement) (old new : List ℕ) : Type 0 where
   pub same : length new ≡ length old
   pub defined : (v : ℕ) → v < variables → SetUpdated P Q (λ i. Defines i v) (definedRow old v) (definedRow new v)

@@ -11,7 +11,7 @@ use Rattle.bits.specs.Row.{member, rowOf}
 use Rattle.atoms.specs.Facts.{fact-rows, placed}
 use Rattle.listing.specs.Listing.{list-words, ones, ListOf}
 
--- the words from 256 on are kept
+-- the words behind a list are kept
 pub record Beyond (old new : List ℕ) : Type 0 where
   pub same : length new ≡ length old
   pub past : (m : ℕ) → list-words ≤ m → getD new m 0 ≡ getD old m 0

@@ -48,7 +48,7 @@ Side R (ended v) (ended w) = v ≡ w
 abbrev pub Together : State → State → Type 0
 Together a b = Side (λ s vs ws. Unit) a b
 
--- "the two runs answer the same value and the same steps, or 'spent' at the same statement; the 32 values told with 'spent' may differ"; document 02: "Two runs
+-- "the two runs answer the same value and the same steps, or 'spent' at the same statement; the 32 values [64 now] told with 'spent' may differ"; document 02: "Two runs
 -- compared must fault together, at the same statement". Ticks aren't compared: a rewritten statement may cost something else
 abbrev pub Alike : Answer → Answer → Type 0
 Alike (Ended v k t) (Ended w l u) = (v ≡ w) × (k ≡ l)

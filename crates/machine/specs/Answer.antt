@@ -31,7 +31,7 @@ pub record Ends (P : List Statement) (vs : List ℕ) (input k : ℕ) (v : Final)
   pub over : after P vs input k ≡ ended v
 
 -- "answers the value, signed, and the steps taken if it ends within them; otherwise it answers 'spent', with the statement and 32
--- values after that many steps". ws are the values beside the answer: those, or else the starting ones. ks are the kept ones beside it:
+-- values after that many steps", 64 by document 02. ws are the values beside the answer: those, or else the starting ones. ks are the kept ones beside it:
 -- those at the end where the run ended, else those of the start. Document 02: "'fault', the statement and the steps, that step counted"; "A run's answer gains the
 -- ticks of the statements that it performed": t, under the table of prices ps
 abbrev pub Answers : List ℕ → List Statement → List ℕ → ℕ → ℕ → Answer → List ℕ → List ℕ → Type 0

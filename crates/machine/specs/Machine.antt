@@ -53,7 +53,7 @@ abbrev pub stepFrom : List Statement → ℕ → State → State
 stepFrom P input (before s vs) = perform (at P s) input s vs
 stepFrom P input (ended v) = ended v
 
--- "A run starts before statement 1 with 32 given values and one input value." The state after k steps:
+-- "A run starts before statement 1 with 32 given values and one input value", "64 values" by document 02. The state after k steps:
 unfoldable pub after : List Statement → List ℕ → ℕ → ℕ → State
 after P vs input zero = before 0 vs
 after P vs input (suc k) = stepFrom P input (after P vs input k)

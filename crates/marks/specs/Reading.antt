@@ -20,11 +20,11 @@ abbrev pub MarkLineRead : List ℕ → ℕ → MarkRead → Type 0
 MarkLineRead s at (markRead.Found m k) = lines.LineOf spellMark ValidMark s at m k
 MarkLineRead s at markRead.Misspelled = lines.NoLine spellMark ValidMark (drop at s)
 
--- "Zero to 256 lines"
+-- "Zero to 256 lines" of document 01, "marks 1,024 lines" of document 02
 abbrev pub most : ℕ
-most = 256
+most = 1024
 
--- "9: some line misspelled, or the last without its byte 10. 10: over 256 lines."
+-- "9: some line misspelled, or the last without its byte 10. 10: over 256 lines.", 1,024 by document 02
 abbrev pub number : Refusal → ℕ
 number Misspelled = 9
 number LineCount = 10

@@ -7,7 +7,7 @@ use language::Operand;
 pub mod read;
 
 // A list has at most this many marks.
-pub const MOST: usize = 256;
+pub const MOST: usize = 1024;
 
 // The statement's number, the variable, and the expression or the operand.
 pub enum Mark {

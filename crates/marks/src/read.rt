@@ -123,7 +123,7 @@ pub fn line(s: &[u8], at: usize) -> MarkRead
     mark(s, at)
 }
 
-// The number of marks that the text lists, or the first refusal that applies: every line is read, also beyond 256.
+// The number of marks that the text lists, or the first refusal that applies: every line is read, also beyond the most.
 pub fn check(s: &[u8]) -> Checked
     ensures { λ r. ⌜ ListRead (now (s .entry)) r ⌝ }
 {

@@ -4,7 +4,7 @@ ghost use lib.ListN.{length};
 ghost use Prim.Native.Nat.{_≤_, _+_};
 ghost use Rattle.statement_writer.specs.Writing.{Put};
 ghost use Rattle.view.specs.View.{view-room};
-ghost use Rattle.page.specs.Page.{escapeByte, escape as escaped, Pages};
+ghost use Rattle.page.specs.Page.{escapeByte, escape as escaped, Pages, page-room};
 use view::VIEW_ROOM;
 use view::Viewed;
 
@@ -40,6 +40,13 @@ fn plain_buffer() -> [u8; VIEW_ROOM]
     ensures { λ r. ⌜ length r ≡ view-room ⌝ }
 {
     [0; VIEW_ROOM]
+}
+
+// Room for every page.
+pub fn buffer() -> [u8; PAGE_ROOM]
+    ensures { λ r. ⌜ length r ≡ page-room ⌝ }
+{
+    [0; PAGE_ROOM]
 }
 
 // Puts what the viewer prints, escaped, at the front of the lent bytes.

@@ -31,12 +31,12 @@ priceText ps P Q = priceLines (length P) (prices ps P) (prices ps Q) ++ totalLin
 
 -- the digits of a statement's number, and of a price, ours or another of at most 65,535
 abbrev pub place-digits : ℕ
-place-digits = 3
+place-digits = 4
 
 abbrev pub price-digits : ℕ
 price-digits = 5
 
--- room for a line as long as `256 65535 65535`; for the lines of the totals, numbers of 32 bits; and for all of it
+-- room for a line as long as `1024 65535 65535`; for the lines of the totals, numbers of 32 bits; and for all of it
 abbrev pub price-room : ℕ
 price-room = place-digits + (1 + (price-digits + (1 + (price-digits + 1))))
 

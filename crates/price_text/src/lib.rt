@@ -12,7 +12,7 @@ use price_list::PriceList;
 use program::MOST;
 
 // The digits of a statement's number, and of a price.
-const PLACE_DIGITS: usize = 3;
+const PLACE_DIGITS: usize = 4;
 
 const PRICE_DIGITS: usize = 5;
 // A line of prices has room in this many bytes, the lines of the totals in this many, and all of it in this many.

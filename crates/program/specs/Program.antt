@@ -19,17 +19,17 @@ AllValid P = lines.AllValid Valid P
 abbrev pub Spells : List ℕ → List Statement → Type 0
 Spells t P = lines.Spells spell Valid t P
 
--- "N is their count, 2 to 256"
+-- "N is their count, 2 to 256" of document 01, "1,024 statements" of document 02
 abbrev pub fewest : ℕ
 fewest = 2
 
 abbrev pub most : ℕ
-most = 256
+most = 1024
 
 abbrev pub Counted : List Statement → Type 0
 Counted P = (fewest ≤ length P) × (length P ≤ most)
 
--- a line has room in this many bytes with its byte 10, and so the text of every program in this many: "the buffer for new text must have 8,704 bytes" (document 02)
+-- a line has room in this many bytes with its byte 10, and so the text of every program in this many: "new text 34,816 bytes" (document 02)
 abbrev pub line-room : ℕ
 line-room = 34
 

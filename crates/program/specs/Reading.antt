@@ -13,7 +13,7 @@ use Rattle.program.specs.declared.Refusal.the-variants.{Misspelled, Line
 use Rattle.program.specs.declared.Answer.{Answer}
 use Rattle.program.specs.declared.Answer.the-variants as answer
 
--- "2: some line isn't spelled as above, or the last lacks its byte 10. 3: under 2 or over 256 lines. 4: `read` or `write` missing from
+-- "2: some line isn't spelled as above, or the last lacks its byte 10. 3: under 2 or over 256 lines [1,024 by document 02]. 4: `read` or `write` missing from
 -- its place or standing elsewhere. 5: a target outside 2 to N."
 abbrev pub number : Refusal → ℕ
 number Misspelled = 2
@@ -38,7 +38,7 @@ statementIn e = e .statement
 abbrev pub statements : Program → List Statement
 statements p = map statementIn (take (p .count) (p .entries))
 
--- the value is whole: its array has room for 256 statements, and the count lies within
+-- the value is whole: its array has room for `most` statements, and the count lies within
 pub record Held (p : Program) : Type 0 where
   pub room : length (p .entries) ≡ most
   pub few : p .count ≤ most
@@ -48,7 +48,7 @@ abbrev pub ProgramRead : List ℕ → Answer → Program → Type 0
 ProgramRead t answer.Taken p = Taken t (statements p) × Held p
 ProgramRead t (answer.Refused r) p = Refused t r × (p .count ≡ 0)
 
--- the text t is that of n valid statements, of which the first 256 stand in es
+-- the text t is that of n valid statements, of which the first `most` stand in es
 pub record Kept (t : List ℕ) (n : ℕ) (es : List Entry) : Type 0 where
   pub P : List Statement
   pub spells : Spells t P

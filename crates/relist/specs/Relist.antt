@@ -13,7 +13,7 @@ use Rattle.marks.specs.declared.Mark.{Mark}
 use Rattle.rewriting.specs.Verdicts.{Verdicts, Rewritten}
 use Rattle.calls.specs.Refusals.{CallRefused}
 
--- "of 256 (fewer: refusal 1)", then 2 to 5, then 9 and 10: the number of the first that applies
+-- "of 256 (fewer: refusal 1)", 2,048 by Wish 13, then 2 to 5, then 9 and 10: the number of the first that applies
 abbrev pub RelistRefused : List ℕ → List ℕ → List ℕ → ℕ → Type 0
 RelistRefused t u list n = CallRefused (length list < list-words) (list-words ≤ length list) t (marks.Refused u) marks.number n
 

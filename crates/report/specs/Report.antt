@@ -86,12 +86,12 @@ Output t u w = PrintsRefusal t u w ⊎ PrintsReport t u w
 
 -- the digits of the number of marks, and of a verdict or a refusal
 abbrev pub count-digits : ℕ
-count-digits = 3
+count-digits = 4
 
 abbrev pub verdict-digits : ℕ
 verdict-digits = 2
 
--- room for a line as long as `marks 256 accepted 256`, and for one as long as `2147483647 14`
+-- room for a line as long as `marks 1024 accepted 1024`, and for one as long as `2147483647 14`
 abbrev pub counts-room : ℕ
 counts-room = 6 + (count-digits + (10 + (count-digits + 1)))
 

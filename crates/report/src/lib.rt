@@ -17,7 +17,7 @@ use marks::read::MarkRead;
 use price_text::PRICE_TEXT_ROOM;
 
 // The digits of the number of marks, and of a verdict.
-const COUNT_DIGITS: usize = 3;
+const COUNT_DIGITS: usize = 4;
 
 const VERDICT_DIGITS: usize = 2;
 // The line of the counts and that of a verdict have room in this many bytes, and every output in this many.

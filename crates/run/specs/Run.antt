@@ -36,7 +36,7 @@ pub record RunFinished (ps t vs : List ℕ) (input budget : ℕ) (a : Answer) (w
   pub taken : Taken t P
   pub answers : Answers (inForce ps) P vs input budget a ws ks
 
--- the answer, the 32 values and the kept ones beside it, which are the starting ones where the call is refused
+-- the answer, the values and the kept ones beside it, which are the starting ones where the call is refused
 abbrev pub RunAnswers : List ℕ → List ℕ → List ℕ → ℕ → ℕ → RunAnswer → List ℕ → List ℕ → Type 0
 RunAnswers ps t vs input budget (Refused n) ws ks = RunRefused t budget n × (ws ≡ vs) × (ks ≡ keptOf vs)
 RunAnswers ps t vs input budget (Finished a) ws ks = RunFinished ps t vs input budget a ws ks

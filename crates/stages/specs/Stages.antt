@@ -7,12 +7,12 @@ use Rattle.language.specs.declared.Statement.{Statement}
 use Rattle.program.specs.Program.{Taken}
 use Rattle.stage_names.specs.Names.{name-bytes, ValidName, filled}
 
--- "Up to 8 stages .. in 70,000 bytes that the caller lends"
+-- "Up to 8 stages .. in 70,000 bytes that the caller lends", 280,000 by Wish 13
 abbrev pub places : ℕ
 places = 8
 
 abbrev pub stage-bytes : ℕ
-stage-bytes = 70000
+stage-bytes = 280000
 
 -- "Each of the eight places is an eighth of these bytes"
 abbrev pub place-room : ℕ

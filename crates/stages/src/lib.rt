@@ -12,7 +12,7 @@ use stage_names::NAME_BYTES;
 // Eight places, each an eighth of these bytes.
 pub const PLACES: usize = 8;
 
-pub const STAGE_BYTES: usize = 70000;
+pub const STAGE_BYTES: usize = 280000;
 
 pub const PLACE_ROOM: usize = STAGE_BYTES / PLACES;
 

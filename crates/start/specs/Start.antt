@@ -1,4 +1,4 @@
--- What a start is: the input, the budget and up to 32 starting values, one a line, each ended by byte 10.
+-- What a start is: the input, the budget and up to 64 starting values, one a line, each ended by byte 10.
 use mathlib.Core.Path.{_≡_}
 use mathlib.Core.List.{List, [], _∷_, _++_}
 use Prim.Native.Nat.{ℕ, suc, _+_, _^_, _≤_, _<_}

@@ -1,4 +1,4 @@
-// A start: the input, the budget and up to 32 starting values, one a line, read from any bytes.
+// A start: the input, the budget and up to 64 starting values, one a line, read from any bytes.
 ghost use mathlib.Core.Path.{_≡_};
 ghost use Prim.Native.Nat.{ℕ, _≤_, _<_, _+_};
 ghost use lib.ListN.{length, getD, drop, replicate};

@@ -17,7 +17,7 @@ lineRange n = pick (eqb n 2) (bytes " isn't a whole number from 0 to 2147483647"
 unfoldable pub startWords : Answer → List ℕ
 startWords Taken = []
 startWords Few = bytes "under 2 lines"
-startWords Many = bytes "over 34 lines"
+startWords Many = bytes "over 66 lines"
 startWords (Line n) = bytes "line " ++ (digits n ++ lineRange n)
 
 unfoldable pub startText : Answer → List ℕ

@@ -28,7 +28,7 @@ fn words(out: &mut [u8], at: usize, a: Answer) -> usize
     match a {
         Answer::Taken => at,
         Answer::Few => statement_writer::word(out, at, b"under 2 lines"),
-        Answer::Many => statement_writer::word(out, at, b"over 34 lines"),
+        Answer::Many => statement_writer::word(out, at, b"over 66 lines"),
         Answer::Line(n) => {
             let k1 = statement_writer::word(out, at, b"line ");
             let k2 = statement_writer::number(out, k1, n);

@@ -18,7 +18,7 @@ use Rattle.calls.specs.Refusals.{CallRefused}
 use Rattle.tabulate.specs.declared.TabulateAnswer.{TabulateAnswer}
 use Rattle.tabulate.specs.declared.TabulateAnswer.the-variants.{Refused, Filled}
 
--- "1: table under 256 words": as many parts as a condition can have
+-- "1: table under 256 words", by document 02 1,024: as many parts as a condition can have
 abbrev pub table-words : ℕ
 table-words = condition.most-parts * part-words
 

@@ -101,7 +101,7 @@ not-reusing P earlier (Rm n y e) v b is h f x s r = r
 not-reusing P earlier (Rpl n y a) v b is h f x s r = r
 not-reusing P earlier (Cse n t e) v b is h f x s r = f (is ∙ accepted-zero (usesOf P) P earlier (Cse n t e) v (r .2) h)
 
--- no line is found misspelled in a list that is taken, and each is one of at most 256
+-- no line is found misspelled in a list that is taken, and each is one of at most `marks.most`
 pub never-misspelled : {t : List ℕ} {ms : List Mark} {j at : ℕ} → Begins t ms j at → at < length t → {r : MarkRead} → r ≡ markRead.Misspelled → MarkLineRead t at r → ⊥
 never-misspelled b h is l = line-found b is l (text-line b h)
 

@@ -195,8 +195,8 @@ pub fn rewrite(marks: &[u8], p: Program, verdicts: &[u8]) -> Rewriting
     }
     Rewriting {
         program: Program {
-            entries: entries,
             count: count,
+            entries: entries,
         },
         accepted: accepted,
     }

@@ -11,7 +11,6 @@ use files::RESULT;
 use files::UNREAD;
 use files::UNWRITTEN;
 use libc::STDERR_FILENO;
-use page::PAGE_ROOM;
 use tokens::WordRead;
 use view::VIEW_ROOM;
 use view::Viewed;
@@ -50,7 +49,7 @@ fn print_around(text: &[u8], status: u8) -> u8 {
 
 fn print_page(program: &[u8], condition: &[u8]) -> u8 {
     let end = without_end(condition);
-    let mut out = [0u8; PAGE_ROOM];
+    let mut out = page::buffer();
     match page::page(program, &condition[..end], &mut out) {
         Viewed::Written(n) => print_around(&out[..n], RESULT),
         Viewed::Refused(n) => print_around(&out[..n], REFUSAL),

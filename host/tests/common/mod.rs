@@ -1,7 +1,7 @@
 //! What the tests share. Each test file uses a part of it.
 #![allow(dead_code)]
 
-use rewrites::{Outcome, Prices, Refusal};
+use rewrites::{Outcome, Prices, Refusal, STATEMENTS, VARIABLES};
 use std::path::{Path, PathBuf};
 use std::process::{Command, Output};
 use std::{env, fs};
@@ -37,14 +37,14 @@ pub fn lines(n: usize) -> Vec<String> {
 }
 
 /// The values before a run: all different, none small.
-pub fn given() -> [u32; 32] {
+pub fn given() -> [u32; VARIABLES] {
     std::array::from_fn(|x| 1000 + x as u32)
 }
 
 /// A run by our prices.
 pub fn run(
     program: &[u8],
-    values: &[u32; 32],
+    values: &[u32; VARIABLES],
     input: u32,
     budget: u32,
 ) -> Result<Outcome, Refusal> {
@@ -59,7 +59,7 @@ pub fn refused_programs() -> Vec<(Vec<u8>, u8)> {
         (b"\n".to_vec(), 2),
         (Vec::new(), 3),
         (text(&["read i0"]), 3),
-        (text(&lines(257)), 3),
+        (text(&lines(STATEMENTS + 1)), 3),
         (text(&["read i0", "skip"]), 4),
         (text(&["read i0", "if i0 goto 1 else 2", "write i0"]), 5),
     ]

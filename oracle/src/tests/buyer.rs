@@ -3,10 +3,11 @@
 use super::{lines, skips, P};
 use crate::check::check;
 use crate::generate::{self, Random, WrongPrice};
-use crate::machine::{run, run_program, Outcome, Run, State};
+use crate::machine::{run, run_program, Outcome, Run, State, VALUES};
 use crate::marks::{self, Judge};
 use crate::pricing::{in_force, kind, prices_of, report, table_text};
 use crate::pricing::{Prices, Report, KINDS, OURS, RANGE};
+use crate::program::MOST_LINES;
 use crate::tuned;
 
 /// The prices 1 to 11.
@@ -87,7 +88,7 @@ fn other_numbers_of_lines_are_refused() {
 fn told(program: &str, list: &str, prices: &Prices) -> Report {
     let (program, list) = (program.as_bytes(), list.as_bytes());
     let told = report(program, list, prices).expect("program and list are taken");
-    let (mut before, mut after) = ([0; 256], [0; 256]);
+    let (mut before, mut after) = ([0; MOST_LINES], [0; MOST_LINES]);
     let answer = tuned::report(program, list, prices, &mut before, &mut after);
     let count = told.before.len();
     assert_eq!(answer, Ok((count as u32, told.given, told.rewritten, told.saved)));
@@ -97,8 +98,8 @@ fn told(program: &str, list: &str, prices: &Prices) -> Report {
 
 /// The ticks of a run by a table, by the plain and by the tuned call.
 fn ticks(program: &str, input: u32, budget: u32, prices: &Prices) -> u64 {
-    let plain = run(program.as_bytes(), [0; 32], input, budget, prices);
-    assert_eq!(tuned::run(program.as_bytes(), &[0; 32], input, budget, prices), plain);
+    let plain = run(program.as_bytes(), [0; VALUES], input, budget, prices);
+    assert_eq!(tuned::run(program.as_bytes(), &[0; VALUES], input, budget, prices), plain);
     plain.expect("the program is taken").ticks()
 }
 
@@ -121,9 +122,9 @@ fn the_largest_prices() {
     let endless = lines("read i0 / i1 := i1 * i0 / if i2 goto 2 else 2 / write i1");
     assert_eq!(ticks(&endless, 3, 1_000_000, &most), 65_535_000_000);
     assert_eq!(ticks(&endless, 3, 65_537, &most), 65_535 * 65_537);
-    // 256 statements: the totals fit 32 bits.
-    let told = told(&skips(256), "", &most);
-    assert_eq!((told.given, told.rewritten, told.saved), (16_776_960, 16_776_960, 0));
+    // 1,024 statements: the totals fit 32 bits.
+    let told = told(&skips(1_024), "", &most);
+    assert_eq!((told.given, told.rewritten, told.saved), (67_107_840, 67_107_840, 0));
 }
 
 #[test]
@@ -135,11 +136,11 @@ fn a_dropped_copy_may_cost_more() {
     assert_eq!((dropped.before, dropped.after), (vec![1, 1, 1], vec![1, 65_535, 1]));
     assert_eq!((dropped.given, dropped.rewritten, dropped.saved), (3, 65_537, -65_534));
     // The most that a program can lose.
-    let given = format!("read i0\n{}write i0\n", "i1 := i0\n".repeat(254));
-    let list: String = (2..256).map(|n| format!("{n}: mark(rm, i1, i0)\n")).collect();
+    let given = format!("read i0\n{}write i0\n", "i1 := i0\n".repeat(1_022));
+    let list: String = (2..1_024).map(|n| format!("{n}: mark(rm, i1, i0)\n")).collect();
     let dropped = told(&given, &list, &prices);
-    assert_eq!((dropped.given, dropped.rewritten), (256, 254 * 65_535 + 2));
-    assert_eq!(dropped.saved, -254 * 65_534);
+    assert_eq!((dropped.given, dropped.rewritten), (1_024, 1_022 * 65_535 + 2));
+    assert_eq!(dropped.saved, -1_022 * 65_534);
 }
 
 /// An entry outside the range counts as ours, singly, and at each use.

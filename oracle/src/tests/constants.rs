@@ -2,26 +2,26 @@
 
 use super::{judged, lines, whole, words, ZEROS};
 use crate::check::check;
-use crate::condition::{self, Condition};
+use crate::condition::{self, Condition, TABLE_WORDS};
 use crate::desk;
 use crate::generate::{self, Random, WrongSign};
-use crate::machine::{self, Outcome};
-use crate::marks::{self, Kind, Mark};
+use crate::machine::{self, Outcome, VALUES};
+use crate::marks::{self, Kind, Mark, TEXT_BYTES, VERDICT_BYTES};
 use crate::pricing::OURS;
 use crate::program::{Expression, Operand, Operator, Program, Statement};
 use crate::tuned;
 
 /// The refusal of a program by the plain and the tuned reader, 0 where it is taken.
 fn program_refusal(text: &str) -> u8 {
-    let plain = machine::run(text.as_bytes(), [0; 32], 0, 0, &OURS).err().unwrap_or(0);
-    let tuned = tuned::run(text.as_bytes(), &[0; 32], 0, 0, &OURS).err().unwrap_or(0);
+    let plain = machine::run(text.as_bytes(), [0; VALUES], 0, 0, &OURS).err().unwrap_or(0);
+    let tuned = tuned::run(text.as_bytes(), &[0; VALUES], 0, 0, &OURS).err().unwrap_or(0);
     assert_eq!(plain, tuned, "{text}");
     plain
 }
 
 /// The same of a condition.
 fn condition_refusal(text: &str) -> u8 {
-    let (mut one, mut other) = ([0; 256], [0; 256]);
+    let (mut one, mut other) = ([0; TABLE_WORDS], [0; TABLE_WORDS]);
     let program = b"read i0\nwrite i0\n";
     let plain = condition::tabulate(program, text.as_bytes(), &mut one).err().unwrap_or(0);
     let tuned = tuned::tabulate(program, text.as_bytes(), &mut other).err().unwrap_or(0);
@@ -32,7 +32,12 @@ fn condition_refusal(text: &str) -> u8 {
 /// The same of a list of marks.
 pub fn list_refusal(text: &str) -> u8 {
     let mut answers = [marks::judge, tuned::judge, tuned::judge_by_labels].map(|judge| {
-        let answer = judge(b"read i0\nwrite i0\n", text.as_bytes(), &mut [0; 256], &mut [0; 8_704]);
+        let answer = judge(
+            b"read i0\nwrite i0\n",
+            text.as_bytes(),
+            &mut [0; VERDICT_BYTES],
+            &mut [0; TEXT_BYTES],
+        );
         answer.err().unwrap_or(0)
     });
     answers.sort_unstable();
@@ -182,8 +187,8 @@ fn statement_numbers_take_no_sign() {
 
 fn ends(program: &str, input: u32) -> (i32, u32) {
     let text = lines(program);
-    let plain = machine::run(text.as_bytes(), [0; 32], input, 100, &OURS);
-    assert_eq!(tuned::run(text.as_bytes(), &[0; 32], input, 100, &OURS), plain);
+    let plain = machine::run(text.as_bytes(), [0; VALUES], input, 100, &OURS);
+    assert_eq!(tuned::run(text.as_bytes(), &[0; VALUES], input, 100, &OURS), plain);
     match plain {
         Ok(Outcome::Ended { value, steps, kept: ZEROS, .. }) => (value, steps),
         other => panic!("{other:?}"),
@@ -248,43 +253,43 @@ fn verdicts() {
 
 #[test]
 fn longest_program_and_report() {
-    let longest = "i31 := -2147483648 + -2147483648";
+    let longest = "i63 := -2147483648 + -2147483648";
     assert_eq!(longest.len(), 32);
-    let text = format!("read i31\n{}write i31\n", format!("{longest}\n").repeat(254));
-    assert_eq!(text.len(), 8_401);
+    let text = format!("read i63\n{}write i63\n", format!("{longest}\n").repeat(1_022));
+    assert_eq!(text.len(), 33_745);
     assert_eq!(judged(&text, ""), (vec![], text.clone()));
     // A program that becomes as long.
     let shorter =
-        format!("read i31\ni30 := -2147483648\n{}write i31\n", "i31 := i30 + i30\n".repeat(253));
-    let list: String = (3..256).map(|n| format!("{n}: mark(rpl, i30, -2147483648)\n")).collect();
+        format!("read i63\ni62 := -2147483648\n{}write i63\n", "i63 := i62 + i62\n".repeat(1_021));
+    let list: String = (3..1_024).map(|n| format!("{n}: mark(rpl, i62, -2147483648)\n")).collect();
     let (verdicts, new) = judged(&shorter, &list);
-    assert_eq!(verdicts, [0; 253]);
-    assert_eq!(new, shorter.replace("i30 + i30", "-2147483648 + -2147483648"));
-    assert_eq!(new.len(), 9 + 19 + 253 * 33 + 10);
+    assert_eq!(verdicts, [0; 1_021]);
+    assert_eq!(new, shorter.replace("i62 + i62", "-2147483648 + -2147483648"));
+    assert_eq!(new.len(), 9 + 19 + 1_021 * 33 + 10);
     // The longest report.
-    let list = "2147483647: mark(rpl, i31, -2147483648)\n".repeat(256);
+    let list = "2147483647: mark(rpl, i63, -2147483648)\n".repeat(1_024);
     let report = check(text.as_bytes(), list.as_bytes());
-    let first = "marks 256 accepted 0\n";
-    let middle: String = (2..256).map(|n| format!("{n} 3 3\n")).collect();
-    let prices = format!("1 4 4\n{middle}256 4 4\n770\n770\n0\n");
-    let pieces = [first, &"2147483647 11\n".repeat(256), &text, &prices];
+    let first = "marks 1024 accepted 0\n";
+    let middle: String = (2..1_024).map(|n| format!("{n} 3 3\n")).collect();
+    let prices = format!("1 4 4\n{middle}1024 4 4\n3074\n3074\n0\n");
+    let pieces = [first, &"2147483647 11\n".repeat(1_024), &text, &prices];
     assert_eq!(report, pieces.concat().into_bytes());
-    let most = "marks 256 accepted 256\n".len() + 256 * "2147483647 11\n".len() + 8_704;
-    assert_eq!(most, 12_311);
+    let most = "marks 1024 accepted 1024\n".len() + 1_024 * "2147483647 11\n".len() + 34_816;
+    assert_eq!(most, 49_177);
     assert!(report.len() - prices.len() <= most);
 }
 
 #[test]
-fn new_text_needs_8704_bytes() {
+fn new_text_needs_34816_bytes() {
     let program = b"read i0\nwrite i0\n";
     for judge in [marks::judge, tuned::judge, tuned::judge_by_labels] {
-        let (mut verdicts, mut text) = ([7; 256], vec![7; 9_000]);
-        for room in [0, 1, 17, 7_893, 8_191, 8_192, 8_193, 8_401, 8_703] {
+        let (mut verdicts, mut text) = ([7; VERDICT_BYTES], vec![7; 35_000]);
+        for room in [0, 1, 17, 8_192, 8_703, 8_704, 8_705, 33_745, 34_815] {
             assert_eq!(judge(program, b"", &mut verdicts, &mut text[..room]), Err(1), "{room}");
             assert_eq!(judge(b"", b"x", &mut verdicts, &mut text[..room]), Err(1), "{room}");
         }
-        assert_eq!((&verdicts[..], &text[..]), (&[7; 256][..], &[7; 9_000][..]));
-        for room in [8_704, 8_705, 9_000] {
+        assert_eq!((&verdicts[..], &text[..]), (&[7; VERDICT_BYTES][..], &[7; 35_000][..]));
+        for room in [34_816, 34_817, 35_000] {
             let answer = judge(program, b"", &mut verdicts, &mut text[..room]);
             assert_eq!(answer, Ok((0, 0, 17)), "{room}");
         }
@@ -295,31 +300,31 @@ fn new_text_needs_8704_bytes() {
 #[test]
 fn columns_of_the_desk() {
     let text = "read i0\ni10 := -2147483648 + -2147483648\nwrite i10\n";
-    let blanks = " ".repeat(41);
+    let blanks = " ".repeat(42);
     assert_eq!(
         desk::view(text.as_bytes(), b"true"),
         format!(
             " 1  true\n\
              {blanks} \n\
              {blanks}1\n\
-             \x20 1  read i0                             *\n\
-             \x20 2  i10 := -2147483648 + -2147483648    *\n\
-             \x20 3  write i10                           *\n\
+             \x20  1  read i0                             *\n\
+             \x20  2  i10 := -2147483648 + -2147483648    *\n\
+             \x20  3  write i10                           *\n\
              parts 1 satisfied 3 first 1\n"
         )
     );
     assert_eq!(
         desk::run(text.as_bytes(), b"-5\n9\n", true),
-        "      1    1  read i0                           i0 = -5\n\
-         \x20     2    2  i10 := -2147483648 + -2147483648\n\
-         \x20     3    3  write i10                       \n\
+        "      1     1  read i0                           i0 = -5\n\
+         \x20     2     2  i10 := -2147483648 + -2147483648\n\
+         \x20     3     3  write i10                       \n\
          ended 0 steps 3 ticks 11 kept 0 0 0 0 0 0 0 0\n"
     );
     assert_eq!(
         desk::compare(text.as_bytes(), b"2: mark(rm, i10, -2147483648)\n", b"-5\n2\n"),
         "marks 1 accepted 0\n\
-         \x20     1    1  read i0                           read i0                         \n\
-         \x20     2    2  i10 := -2147483648 + -2147483648  i10 := -2147483648 + -2147483648\n\
+         \x20     1     1  read i0                           read i0                         \n\
+         \x20     2     2  i10 := -2147483648 + -2147483648  i10 := -2147483648 + -2147483648\n\
          given spent at 3 ticks 7\nrewritten spent at 3 ticks 7\nstatements, outcome and live variables agree\n"
     );
 }
@@ -343,7 +348,7 @@ fn bits_and_their_spelling() {
         let program = Program::read(text.as_bytes()).expect("it is taken");
         assert_eq!(program.statements()[1], Statement::Assign(0, constant(bits)));
         assert_eq!(
-            tuned::run(text.as_bytes(), &[0; 32], 0, 3, &OURS),
+            tuned::run(text.as_bytes(), &[0; VALUES], 0, 3, &OURS),
             Ok(Outcome::Ended { value: bits as i32, steps: 3, kept: ZEROS, ticks: 10 })
         );
     }
@@ -408,7 +413,12 @@ fn damaged_signs_are_misspelled() {
             let mut text = program.text();
             generate::wrong_sign(random, sign, &mut text);
             assert_eq!(Program::read(&text), Err(2), "{}", text.escape_ascii());
-            assert_eq!(tuned::run(&text, &[0; 32], 0, 0, &OURS), Err(2), "{}", text.escape_ascii());
+            assert_eq!(
+                tuned::run(&text, &[0; VALUES], 0, 0, &OURS),
+                Err(2),
+                "{}",
+                text.escape_ascii()
+            );
             let parts = random.between(1, 20);
             let mut text = generate::condition(random, &program, parts);
             generate::wrong_sign(random, sign, &mut text);

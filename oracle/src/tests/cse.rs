@@ -4,7 +4,7 @@ use super::constants::list_refusal;
 use super::{all_judged, naive};
 use crate::condition::Condition;
 use crate::generate::{self, Random, WrongReuse};
-use crate::machine::first_difference;
+use crate::machine::{first_difference, VALUES};
 use crate::marks::{self, gained_uses, Judge, Kind, Mark, MOST_MARKS};
 use crate::program::{Expression, Program};
 
@@ -20,7 +20,7 @@ fn assert_alike(given: &str, new: &str) {
     let random = &mut Random::new(60);
     for case in 0..60_u32 {
         let values = match case {
-            0 => [0; 32],
+            0 => [0; VALUES],
             1 => std::array::from_fn(|x| 1000 + x as u32),
             _ => generate::values(random),
         };
@@ -60,7 +60,7 @@ fn a_right_side_of_one_or_two_operands_is_spelled() {
         "-40",
         "i0 + 1",
         "1 + i0",
-        "i31 - i31",
+        "i63 - i63",
         "5 * 6",
         "i0 / 0",
         "-1 < -1",
@@ -83,7 +83,8 @@ fn a_right_side_of_one_or_two_operands_is_spelled() {
         "i0  + 1",
         "i0 + 1 ",
         " i0 + 1",
-        "i32 + 1",
+        "i64 + 1",
+        "i063 + 1",
         "i0 + 01",
         "i0 + -0",
         "i0 + 2147483648",
@@ -103,7 +104,7 @@ fn a_right_side_of_one_or_two_operands_is_spelled() {
         "3: mark( cse, i1, i0 + 1)",
         "3: mark(cse, i1,i0 + 1)",
         "3: mark(cse, 1, i0 + 1)",
-        "3: mark(cse, i32, i0 + 1)",
+        "3: mark(cse, i64, i0 + 1)",
         "3: mark(cse, i1)",
         "3: mark(cse)",
         "3: mark(cse i1, i0 + 1)",
@@ -118,7 +119,7 @@ fn a_right_side_of_one_or_two_operands_is_spelled() {
         assert_eq!(list_refusal(&format!("{wrong}\n")), 9, "{wrong}");
     }
     // The longest line of a list.
-    let longest = "2147483647: mark(cse, i31, -2147483648 + -2147483648)\n";
+    let longest = "2147483647: mark(cse, i63, -2147483648 + -2147483648)\n";
     assert_eq!(longest.len(), 54);
     assert_eq!(list_refusal(&longest.repeat(MOST_MARKS)), 0);
     assert_eq!(list_refusal(&longest.repeat(MOST_MARKS + 1)), 10);
@@ -405,22 +406,23 @@ fn lists_of_all_three_kinds() {
 
 /// The most `cse` lines: all of one variable, and each of another sum.
 #[test]
-fn lists_of_256_sums() {
-    let mut program = vec!["i2 := i0 + 1"; 255];
+fn lists_of_1024_sums() {
+    let mut program = vec!["i2 := i0 + 1"; 1_023];
     program[0] = "i1 := i0 + 1";
-    program[254] = "write i2";
-    let mut list: String = (3..256).map(|n| format!("{n}: mark(cse, i1, i0 + 1)\n")).collect();
+    program[1_022] = "write i2";
+    let mut list: String = (3..1_024).map(|n| format!("{n}: mark(cse, i1, i0 + 1)\n")).collect();
     list += "2: mark(rm, i1, i0 + 1)\n";
     let (verdicts, new) = all_judged(&text(&program), &list);
-    assert_eq!((verdicts.len(), verdicts[253]), (254, 14));
-    assert!(verdicts[..253].iter().all(|&verdict| verdict == 0));
+    assert_eq!((verdicts.len(), verdicts[1_021]), (1_022, 14));
+    assert!(verdicts[..1_021].iter().all(|&verdict| verdict == 0));
     assert_alike(&text(&program), &new);
 
-    let sums: Vec<String> = (2..256).map(|n| format!("i{} := i0 + {}", n % 31, n / 2)).collect();
+    let sums: Vec<String> = (2..1_024).map(|n| format!("i{} := i0 + {}", n % 63, n / 2)).collect();
     let mut program: Vec<&str> = sums.iter().map(String::as_str).collect();
     program.push("write i0");
-    let list: String =
-        (2..256).map(|n| format!("{n}: mark(cse, i{}, i0 + {})\n", (n - 1) % 31, n / 2)).collect();
+    let list: String = (2..1_024)
+        .map(|n| format!("{n}: mark(cse, i{}, i0 + {})\n", (n - 1) % 63, n / 2))
+        .collect();
     let (verdicts, new) = all_judged(&text(&program), &list);
     assert!(verdicts.iter().filter(|&&verdict| verdict == 0).count() > 100);
     assert_alike(&text(&program), &new);

@@ -6,7 +6,9 @@ use crate::check::check;
 use crate::condition::Checker;
 use crate::desk;
 use crate::generate::{self, Random};
-use crate::machine::{first_difference, run_program, same_place, Outcome, Run, State, Values};
+use crate::machine::{
+    first_difference, run_program, same_place, Outcome, Run, State, Values, VALUES,
+};
 use crate::marks::{self, Judge, Kind, Mark};
 use crate::pricing::OURS;
 use crate::program::{Expression, Operand, Operator, Program, Statement, LARGEST, LEAST};
@@ -25,7 +27,7 @@ fn fault(statement: u32, steps: u32, ticks: u64) -> Outcome {
 fn a_slash_stands_where_the_other_operators_do() {
     for right in [
         "i0 / i1",
-        "i31 / i31",
+        "i63 / i63",
         "1 / 2",
         "i0 / 0",
         "0 / i0",
@@ -66,7 +68,7 @@ fn other_slashes_are_misspelled() {
         "i0 /- 1",
         "i0 / --1",
         "i0 / -i1",
-        "i0 / i32",
+        "i0 / i64",
         "i0 / 01",
         "i0 / 2147483648",
         "i0 / -2147483649",
@@ -88,7 +90,7 @@ fn other_slashes_are_misspelled() {
 
 /// What a division of two numbers ends a run with, each operand a constant or a variable.
 fn quotient(a: i32, b: i32) -> Outcome {
-    let mut values = [0; 32];
+    let mut values = [0; VALUES];
     (values[1], values[2]) = (a as u32, b as u32);
     let (one, other) = (a.to_string(), b.to_string());
     let mut outcomes = Vec::new();
@@ -178,15 +180,15 @@ fn steps_are_counted_up_to_the_fault() {
     // Two rounds of three steps end with i0 = 0.
     let program =
         text(&["read i0", "i1 := 10 / i0", "i0 := i0 - 1", "if i1 goto 2 else 2", "write i1"]);
-    assert_eq!(ran(&program, [0; 32], 2, 100), fault(2, 8, 88));
-    assert_eq!(ran(&program, [0; 32], 2, 8), fault(2, 8, 88));
-    assert!(matches!(ran(&program, [0; 32], 2, 7), Outcome::Spent { statement: 2, .. }));
+    assert_eq!(ran(&program, [0; VALUES], 2, 100), fault(2, 8, 88));
+    assert_eq!(ran(&program, [0; VALUES], 2, 8), fault(2, 8, 88));
+    assert!(matches!(ran(&program, [0; VALUES], 2, 7), Outcome::Spent { statement: 2, .. }));
     // What no step reaches doesn't fault.
     let past =
         text(&["read i0", "if i0 goto 4 else 3", "i1 := 1 / 0", "i2 := i1 / i1", "write i0"]);
-    assert_eq!(ran(&past, [0; 32], 0, 100), fault(3, 3, 31));
-    assert_eq!(ran(&past, [0; 32], 1, 100), fault(4, 3, 31));
-    let mut values = [0; 32];
+    assert_eq!(ran(&past, [0; VALUES], 0, 100), fault(3, 3, 31));
+    assert_eq!(ran(&past, [0; VALUES], 1, 100), fault(4, 3, 31));
+    let mut values = [0; VALUES];
     values[1] = 9;
     assert!(matches!(ran(&past, values, 1, 100), Outcome::Ended { value: 1, steps: 4, .. }));
 }
@@ -195,9 +197,9 @@ fn steps_are_counted_up_to_the_fault() {
 fn a_run_stays_at_its_fault() {
     let program = text(&["read i0", "i1 := i2 / i3", "write i1"]);
     let program = Program::read(program.as_bytes()).expect("a program");
-    let mut run = Run::start(&program, [7; 32], 0);
+    let mut run = Run::start(&program, [7; VALUES], 0);
     assert!(matches!(*run.state(), State::Before { statement: 1, .. }));
-    let mut values = [7; 32];
+    let mut values = [7; VALUES];
     values[3] = 0;
     let mut faulting = Run::start(&program, values, 0);
     faulting.step();
@@ -282,8 +284,8 @@ fn replacing_in_a_division_is_as_in_any_expression() {
     let (verdicts, new) = all_judged(&program, "3: mark(rpl, i1, 0)\n2: mark(rm, i1, 0)\n");
     assert_eq!((verdicts, &new), (vec![0, 14], &program.replace("i0 / i1", "i0 / 0")));
     for budget in [3, 4, 100] {
-        assert_eq!(ran(&program, [0; 32], 5, budget), fault(3, 3, 30));
-        assert_eq!(ran(&new, [0; 32], 5, budget), fault(3, 3, 30));
+        assert_eq!(ran(&program, [0; VALUES], 5, budget), fault(3, 3, 30));
+        assert_eq!(ran(&new, [0; VALUES], 5, budget), fault(3, 3, 30));
     }
     // `rpl` never gets 18.
     let program = text(&["read i0", "i1 := i3", "i2 := i1 / i1", "write i2"]);
@@ -325,8 +327,8 @@ fn desk_lines_tell_of_faults() {
     assert_eq!(run("3\n9\n", false), "ended 3 steps 3 ticks 32 kept 0 0 0 0 0 0 0 0\n");
     assert_eq!(
         run("0\n9\n7\n7\n", true),
-        "      1    1  read i0                           i0 = 0\n\
-         \x20     2    2  i1 := 10 / i0                   \n\
+        "      1     1  read i0                           i0 = 0\n\
+         \x20     2     2  i1 := 10 / i0                   \n\
          fault at 2 steps 2 ticks 28\n"
     );
     let given = text(&["read i0", "i3 := 9", "i1 := 0", "i2 := i0 / i1", "write i2"]);
@@ -334,10 +336,10 @@ fn desk_lines_tell_of_faults() {
     assert_eq!(
         desk::compare(given.as_bytes(), list, b"5\n100\n"),
         "marks 2 accepted 2\n\
-         \x20     1    1  read i0                           read i0                         \n\
-         \x20     2    2  i3 := 9                           skip                              i3 9 0\n\
-         \x20     3    3  i1 := 0                           i1 := 0                           i3 9 0\n\
-         \x20     4    4  i2 := i0 / i1                     i2 := i0 / 0                      i3 9 0\n\
+         \x20     1     1  read i0                           read i0                         \n\
+         \x20     2     2  i3 := 9                           skip                              i3 9 0\n\
+         \x20     3     3  i1 := 0                           i1 := 0                           i3 9 0\n\
+         \x20     4     4  i2 := i0 / i1                     i2 := i0 / 0                      i3 9 0\n\
          given fault at 4 steps 4 ticks 32\nrewritten fault at 4 steps 4 ticks 31\nstatements, outcome and live variables agree\n"
     );
     assert!(desk::compare(given.as_bytes(), list, b"5\n3\n").ends_with(

@@ -2,9 +2,9 @@
 
 use super::{condition_refusal, judged, lines, refusal, skips, whole, words, P, P_PRICES, ZEROS};
 use crate::check::check;
-use crate::condition::tabulate;
-use crate::machine::{run, Outcome};
-use crate::marks::judge;
+use crate::condition::{tabulate, TABLE_WORDS};
+use crate::machine::{run, Outcome, VALUES};
+use crate::marks::{judge, TEXT_BYTES, VERDICT_BYTES};
 use crate::pricing::OURS;
 
 const MARKS: &str =
@@ -25,7 +25,7 @@ fn tables_of_p() {
 
 #[test]
 fn answers_of_tables_of_p() {
-    let mut table = [0; 256];
+    let mut table = [0; TABLE_WORDS];
     let mut answer = |text: &str| tabulate(P.as_bytes(), text.as_bytes(), &mut table);
     assert_eq!(answer("E[!def(i2) U use(i2)]"), Ok((4, 4, 4)));
     assert_eq!(answer("A[true U exit]"), Ok((3, 1, 8)));
@@ -38,10 +38,10 @@ fn answers_of_tables_of_p() {
 fn runs_of_p() {
     let p = P.as_bytes();
     let ended = |value, steps, ticks| Ok(Outcome::Ended { value, steps, kept: ZEROS, ticks });
-    assert_eq!(run(p, [0; 32], 0, 1_000_000, &OURS), ended(7, 6, 18));
-    assert_eq!(run(p, [0; 32], 2, 1_000_000, &OURS), ended(9, 12, 36));
-    assert_eq!(run(p, [0; 32], 2, 12, &OURS), ended(9, 12, 36));
-    match run(p, [0; 32], 2, 11, &OURS) {
+    assert_eq!(run(p, [0; VALUES], 0, 1_000_000, &OURS), ended(7, 6, 18));
+    assert_eq!(run(p, [0; VALUES], 2, 1_000_000, &OURS), ended(9, 12, 36));
+    assert_eq!(run(p, [0; VALUES], 2, 12, &OURS), ended(9, 12, 36));
+    match run(p, [0; VALUES], 2, 11, &OURS) {
         Ok(Outcome::Spent { statement, values, ticks }) => {
             assert_eq!((statement, ticks), (8, 32));
             assert_eq!(values[..5], [0, 2, 7, 9, 0]);
@@ -56,7 +56,7 @@ fn check_of_p() {
                     i3 := i1 + 7\nif i0 goto 6 else 8\ni0 := i0 - 1\nif i0 goto 4 else 8\nwrite i3\n\
                     1 4 4\n2 2 2\n3 2 2\n4 3 3\n5 3 3\n6 3 3\n7 3 3\n8 4 4\n24\n24\n0\n";
     assert_eq!(check(P.as_bytes(), MARKS.as_bytes()), expected.as_bytes());
-    let (mut verdicts, mut text) = ([0; 256], [0; 8_704]);
+    let (mut verdicts, mut text) = ([0; VERDICT_BYTES], [0; TEXT_BYTES]);
     let answer = judge(P.as_bytes(), MARKS.as_bytes(), &mut verdicts, &mut text);
     assert_eq!(answer, Ok((5, 1, P.len() as u32 - 1)));
 }
@@ -64,7 +64,9 @@ fn check_of_p() {
 #[test]
 fn edges() {
     assert_eq!(refusal(&skips(256)), 0);
-    assert_eq!(refusal(&skips(257)), 3);
+    assert_eq!(refusal(&skips(257)), 0);
+    assert_eq!(refusal(&skips(1_024)), 0);
+    assert_eq!(refusal(&skips(1_025)), 3);
     assert_eq!(refusal("read i0\ni0 := 2147483647\nwrite i0\n"), 0);
     assert_eq!(refusal("read i0\ni0 := 2147483648\nwrite i0\n"), 2);
     assert_eq!(condition_refusal(&format!("{}true", "!".repeat(63))), 0);
@@ -77,7 +79,7 @@ fn edges() {
 #[test]
 fn arithmetic() {
     let value = |right: &str, i1: u32, i2: u32| {
-        let mut values = [0; 32];
+        let mut values = [0; VALUES];
         values[1] = i1;
         values[2] = i2;
         let text = format!("read i0\ni0 := {right}\nwrite i0\n");
@@ -105,9 +107,9 @@ fn arithmetic() {
 
 #[test]
 fn refusals_by_order() {
-    let mut table = [7; 255];
+    let mut table = [7; 1_023];
     assert_eq!(tabulate(b"", b"", &mut table), Err(1));
-    let mut table = [7; 300];
+    let mut table = [7; 1_100];
     assert_eq!(tabulate(b"x", b"x", &mut table), Err(2));
     assert_eq!(tabulate(b"", &[b'!'; 2_000], &mut table), Err(3));
     assert_eq!(tabulate(b"skip\nskip\n", b"", &mut table), Err(4));
@@ -118,31 +120,32 @@ fn refusals_by_order() {
         tabulate(P.as_bytes(), format!("{}exit", "!".repeat(64)).as_bytes(), &mut table),
         Err(8)
     );
-    assert_eq!(table, [7; 300]);
+    assert_eq!(table, [7; 1_100]);
 
-    let (mut verdicts, mut text) = ([7; 256], [7; 8_704]);
-    assert_eq!(judge(b"", b"x", &mut verdicts[..255], &mut text), Err(1));
-    assert_eq!(judge(b"", b"x", &mut verdicts, &mut text[..8_703]), Err(1));
+    let (mut verdicts, mut text) = ([7; VERDICT_BYTES], [7; TEXT_BYTES]);
+    assert_eq!(judge(b"", b"x", &mut verdicts[..1_023], &mut text), Err(1));
+    assert_eq!(judge(b"", b"x", &mut verdicts, &mut text[..34_815]), Err(1));
     assert_eq!(judge(b"", b"x", &mut verdicts, &mut text), Err(3));
     assert_eq!(judge(P.as_bytes(), b"x", &mut verdicts, &mut text), Err(9));
-    let many = "0: mark(rm, i0, 1)\n".repeat(257);
+    let many = "0: mark(rm, i0, 1)\n".repeat(1_025);
     assert_eq!(judge(P.as_bytes(), many.as_bytes(), &mut verdicts, &mut text), Err(10));
-    assert_eq!((verdicts, text), ([7; 256], [7; 8_704]));
+    assert_eq!((verdicts, text), ([7; VERDICT_BYTES], [7; TEXT_BYTES]));
 
-    assert_eq!(run(b"", [0; 32], 0, 1_000_001, &OURS), Err(15));
-    assert_eq!(run(b"", [0; 32], 0, 1_000_000, &OURS), Err(3));
+    assert_eq!(run(b"", [0; VALUES], 0, 1_000_001, &OURS), Err(15));
+    assert_eq!(run(b"", [0; VALUES], 0, 1_000_000, &OURS), Err(3));
     assert_eq!(check(b"", b"x"), b"refused 3\n");
     assert_eq!(check(P.as_bytes(), b"x"), b"refused 9\n");
 }
 
 #[test]
 fn buffers_are_kept_beyond_what_is_filled() {
-    let mut table = [u64::MAX; 300];
+    let mut table = [u64::MAX; 1_100];
     assert_eq!(tabulate(P.as_bytes(), b"EX exit", &mut table), Ok((2, 3, 5)));
-    assert_eq!(table[..8], [128, 0, 0, 0, 208, 0, 0, 0]);
-    assert!(table[8..].iter().all(|&word| word == u64::MAX));
+    assert_eq!((table[0], table[16]), (128, 208));
+    assert!(table[1..16].iter().chain(&table[17..32]).all(|&word| word == 0));
+    assert!(table[32..].iter().all(|&word| word == u64::MAX));
 
-    let (mut verdicts, mut text) = ([77; 300], [77; 9_000]);
+    let (mut verdicts, mut text) = ([77; 1_100], [77; 35_000]);
     let (_, _, bytes) =
         judge(P.as_bytes(), MARKS.as_bytes(), &mut verdicts, &mut text).expect("taken");
     assert_eq!(verdicts[..5], [0, 14, 12, 13, 11]);
@@ -151,24 +154,51 @@ fn buffers_are_kept_beyond_what_is_filled() {
 }
 
 #[test]
-fn bits_of_all_four_words() {
-    let mut table = [0; 256];
-    let text = skips(256);
-    assert_eq!(tabulate(text.as_bytes(), b"(node(65) | node(192))", &mut table), Ok((3, 2, 65)));
-    assert_eq!(table[..12], [0, 1, 0, 0, 0, 0, 1 << 63, 0, 0, 1, 1 << 63, 0]);
-    assert_eq!(tabulate(text.as_bytes(), b"exit", &mut table), Ok((1, 1, 256)));
-    assert_eq!(table[..4], [0, 0, 0, 1 << 63]);
+fn bits_of_all_sixteen_words() {
+    let mut table = [7; TABLE_WORDS];
+    let text = skips(1_024);
+    for n in [1, 64, 65, 192, 256, 257, 1_023, 1_024] {
+        let condition = format!("node({n})");
+        let answer = tabulate(text.as_bytes(), condition.as_bytes(), &mut table);
+        assert_eq!(answer, Ok((1, 1, n as u32)));
+        for (k, &word) in table[..16].iter().enumerate() {
+            assert_eq!(word, if k == (n - 1) / 64 { 1 << ((n - 1) % 64) } else { 0 }, "{n}");
+        }
+    }
+    assert_eq!(tabulate(text.as_bytes(), b"exit", &mut table), Ok((1, 1, 1_024)));
+    assert_eq!((table[14], table[15]), (0, 1 << 63));
     assert_eq!(tabulate(text.as_bytes(), b"!true", &mut table), Ok((2, 0, 0)));
-    assert_eq!(table[..8], [u64::MAX, u64::MAX, u64::MAX, u64::MAX, 0, 0, 0, 0]);
+    assert_eq!((&table[..16], &table[16..32]), (&[u64::MAX; 16][..], &[0; 16][..]));
+    // Bits beyond N are 0 after `!`, also where N is a multiple of 64.
+    for (count, words, rest) in
+        [(2, 0, 3), (63, 0, u64::MAX >> 1), (65, 1, 1), (257, 4, 1), (1_023, 15, u64::MAX >> 1)]
+    {
+        let answer = tabulate(skips(count).as_bytes(), b"!false", &mut table);
+        assert_eq!(answer, Ok((2, count as u32, 1)));
+        for (k, &word) in table[16..32].iter().enumerate() {
+            let wanted = match k {
+                _ if k < words => u64::MAX,
+                _ if k == words => rest,
+                _ => 0,
+            };
+            assert_eq!(word, wanted, "word {k} of {count}");
+        }
+    }
+    for count in [64, 256, 960] {
+        let answer = tabulate(skips(count).as_bytes(), b"!false", &mut table);
+        assert_eq!(answer, Ok((2, count as u32, 1)));
+        let (front, rest) = table[16..32].split_at(count / 64);
+        assert!(front.iter().all(|&word| word == u64::MAX) && rest.iter().all(|&word| word == 0));
+    }
 }
 
 /// Each spelling of a statement, a condition and a mark.
 #[test]
 fn spellings_that_are_taken() {
-    for right in ["i31", "0", "i1 + 2", "3 - i4", "5 * 6", "i7 < i8", "9 = i10", "11 / i12"] {
+    for right in ["i63", "0", "i1 + 2", "3 - i4", "5 * 6", "i7 < i8", "9 = i10", "11 / i12"] {
         assert_eq!(refusal(&format!("read i0\ni31 := {right}\nwrite i0\n")), 0, "{right}");
         assert_eq!(condition_refusal(&format!("trans({right})")), 0, "{right}");
-        assert_eq!(condition_refusal(&format!("stmt(i31 := {right})")), 0, "{right}");
+        assert_eq!(condition_refusal(&format!("stmt(i63 := {right})")), 0, "{right}");
         assert_eq!(judged(P, &format!("3: mark(rm, i2, {right})\n")).0, [13], "{right}");
     }
     for sign in
@@ -178,7 +208,7 @@ fn spellings_that_are_taken() {
     }
     for letter in ["U", "W", "S", "B"] {
         assert_eq!(condition_refusal(&format!("E[false {letter} node(0)]")), 0, "{letter}");
-        assert_eq!(condition_refusal(&format!("A[def(i0) {letter} use(i31)]")), 0, "{letter}");
+        assert_eq!(condition_refusal(&format!("A[def(i0) {letter} use(i63)]")), 0, "{letter}");
     }
     for statement in ["read i1", "write i2", "skip", "if i3 goto 0 else 2147483647"] {
         assert_eq!(condition_refusal(&format!("stmt({statement})")), 0, "{statement}");

@@ -1,10 +1,10 @@
 //! What a driver can force: the cases of the change request, and numbers and arms against all positional strategies.
 
 use super::{lines, skips, P};
-use crate::condition::tabulate;
+use crate::condition::{tabulate, TABLE_WORDS};
 use crate::forcing::{arms, force, names, numbers, player, Arm, Forced, Player, UNFORCED};
 use crate::generate::{self, Random, WrongDriver};
-use crate::program::{Program, Statement, MOST_LINES};
+use crate::program::{Program, Statement, MOST_LINES, VARIABLES};
 use crate::steps::Steps;
 use crate::tuned;
 
@@ -12,7 +12,8 @@ use crate::tuned;
 fn forced(program: &str, driver: &str, condition: &str) -> Forced {
     let (program, driver, condition) =
         (program.as_bytes(), driver.as_bytes(), condition.as_bytes());
-    let (mut table, mut other, mut alone) = ([9; 260], [9; 260], [9; 260]);
+    let (mut table, mut other, mut alone) =
+        ([9; TABLE_WORDS + 4], [9; TABLE_WORDS + 4], [9; TABLE_WORDS + 4]);
     let told = force(program, driver, condition, &mut table).expect("all is taken");
     let (mut number, mut arm) = ([7; MOST_LINES], [9; MOST_LINES]);
     let tuned = tuned::force(program, driver, condition, &mut other, &mut number, &mut arm);
@@ -71,10 +72,10 @@ fn games_on_p() {
         assert_eq!(told(P, driver, condition), wanted, "{driver}, {condition}");
     }
     // The order of the names, and names that nothing tests, make no difference.
-    for driver in ["i0", "i0 i1", "i1 i0", "i31 i0 i9", "i5 i6 i7 i0"] {
+    for driver in ["i0", "i0 i1", "i1 i0", "i63 i0 i9", "i5 i6 i7 i0"] {
         assert_eq!(told(P, driver, "exit"), told(P, "i0", "exit"), "{driver}");
     }
-    assert_eq!(told(P, "i1 i2 i31", "exit"), told(P, "", "exit"));
+    assert_eq!(told(P, "i1 i2 i63", "exit"), told(P, "", "exit"));
 }
 
 #[test]
@@ -90,8 +91,8 @@ fn games_on_l() {
 
 #[test]
 fn chains_and_edges() {
-    let (numbers, arms) = told(&skips(256), "", "exit");
-    let wanted: Vec<String> = (0..256).rev().map(|k: u32| k.to_string()).collect();
+    let (numbers, arms) = told(&skips(1_024), "", "exit");
+    let wanted: Vec<String> = (0..1_024).rev().map(|k: u32| k.to_string()).collect();
     assert_eq!((numbers, arms), (wanted.join(" "), vec![]));
     // Equal targets: `goto`, whoever's `if` it is.
     let equal = lines("read i0 / if i0 goto 3 else 3 / skip / write i0");
@@ -142,16 +143,20 @@ fn arms_of_different_numbers() {
 fn lists_of_names() {
     assert_eq!(names(b""), Some(vec![]));
     assert_eq!(names(b"i0"), Some(vec![0]));
-    assert_eq!(names(b"i31 i0 i10"), Some(vec![31, 0, 10]));
-    let all: Vec<String> = (0..32).map(|x| format!("i{x}")).collect();
-    assert_eq!(names(all.join(" ").as_bytes()), Some((0..32).collect()));
+    assert_eq!(names(b"i63 i0 i10"), Some(vec![63, 0, 10]));
+    let all: Vec<String> = (0..64).map(|x| format!("i{x}")).collect();
+    assert_eq!(names(all.join(" ").as_bytes()), Some((0..64).collect()));
     for wrong in [
         " ",
         "i0 ",
         " i0",
         "i0  i1",
         "i0 i0",
-        "i32",
+        "i64",
+        "i063",
+        "i70",
+        "i99",
+        "i100",
         "i00",
         "i0\n",
         "\n",
@@ -176,19 +181,19 @@ fn lists_of_names() {
         "x",
     ] {
         assert_eq!(names(wrong.as_bytes()), None, "{wrong:?}");
-        assert_eq!(refusal(P, wrong, "exit", 256), 22, "{wrong:?}");
+        assert_eq!(refusal(P, wrong, "exit", TABLE_WORDS), 22, "{wrong:?}");
         // Before the condition is read, and after the program and the table.
-        assert_eq!(refusal(P, wrong, "rubbish", 256), 22, "{wrong:?}");
-        assert_eq!(refusal(P, wrong, &"!".repeat(1_025), 256), 22, "{wrong:?}");
-        assert_eq!(refusal("rubbish", wrong, "rubbish", 256), 2, "{wrong:?}");
-        assert_eq!(refusal("", wrong, "exit", 256), 3, "{wrong:?}");
-        assert_eq!(refusal("", wrong, "exit", 255), 1, "{wrong:?}");
+        assert_eq!(refusal(P, wrong, "rubbish", TABLE_WORDS), 22, "{wrong:?}");
+        assert_eq!(refusal(P, wrong, &"!".repeat(1_025), TABLE_WORDS), 22, "{wrong:?}");
+        assert_eq!(refusal("rubbish", wrong, "rubbish", TABLE_WORDS), 2, "{wrong:?}");
+        assert_eq!(refusal("", wrong, "exit", TABLE_WORDS), 3, "{wrong:?}");
+        assert_eq!(refusal("", wrong, "exit", TABLE_WORDS - 1), 1, "{wrong:?}");
     }
-    assert_eq!(refusal(P, "i0", "rubbish", 256), 7);
-    assert_eq!(refusal(P, "i0", &"!".repeat(1_025), 256), 6);
-    assert_eq!(refusal(P, "", &format!("{}true", "!".repeat(64)), 256), 8);
-    assert_eq!(refusal(P, "", "exit", 255), 1);
-    assert_eq!(refusal(P, "", "exit", 256), 0);
+    assert_eq!(refusal(P, "i0", "rubbish", TABLE_WORDS), 7);
+    assert_eq!(refusal(P, "i0", &"!".repeat(1_025), TABLE_WORDS), 6);
+    assert_eq!(refusal(P, "", &format!("{}true", "!".repeat(64)), TABLE_WORDS), 8);
+    assert_eq!(refusal(P, "", "exit", TABLE_WORDS - 1), 1);
+    assert_eq!(refusal(P, "", "exit", TABLE_WORDS), 0);
 }
 
 /// Where each statement may go, with an arm picked at some.
@@ -386,11 +391,11 @@ fn random_plays_keep_to_what_is_told() {
     let random = &mut Random::new(101);
     let (mut won, mut lost) = (0, 0);
     for _ in 0..400 {
-        let size = random.between(20, 256);
+        let size = random.between(20, 300);
         let program = generate::game(random, size);
         let his = generate::driver(random, &program);
         let goal = generate::goal(random, &program);
-        let mut table = [0; 256];
+        let mut table = [0; TABLE_WORDS];
         let text = program.text();
         let driver = generate::driver_text(&his);
         let told = match force(&text, &driver, &goal, &mut table) {
@@ -435,7 +440,7 @@ fn random_plays_keep_to_what_is_told() {
 #[test]
 fn generated_lists_of_names() {
     let random = &mut Random::new(103);
-    let mut sizes = [0; 33];
+    let mut sizes = [0; VARIABLES as usize + 1];
     for _ in 0..5_000 {
         let size = generate::size(random);
         let program = generate::game(random, size);
@@ -447,5 +452,5 @@ fn generated_lists_of_names() {
             assert_eq!(names(&text), None, "{wrong:?} {}", text.escape_ascii());
         }
     }
-    assert!([0, 1, 2, 3, 32].iter().all(|&size| sizes[size] > 50), "{sizes:?}");
+    assert!([0, 1, 2, 3, VARIABLES as usize].iter().all(|&size| sizes[size] > 50), "{sizes:?}");
 }

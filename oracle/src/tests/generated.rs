@@ -3,25 +3,28 @@
 use super::cse::is_dead_by_fixpoints;
 use super::naive;
 use crate::check::{check, LARGEST_FILE};
-use crate::condition::{tabulate, Atom, Checker, Condition, Demand, Direction, Part, Quantifier};
+use crate::condition::{
+    tabulate, Atom, Checker, Condition, Demand, Direction, Part, Quantifier, PART_WORDS,
+    TABLE_WORDS,
+};
 use crate::generate::{self, Random};
 use crate::machine::{first_difference, kept_of, run, run_program, Outcome, Run, State};
-use crate::marks::{self, judge, Judge, Kind};
+use crate::marks::{self, judge, Judge, Kind, TEXT_BYTES, VERDICT_BYTES};
 use crate::pricing::{report, OURS};
-use crate::program::{Expression, Operand, Operator, Program, Statement};
+use crate::program::{Expression, Operand, Operator, Program, Statement, MOST_LINES, VARIABLES};
 use crate::steps::Steps;
 
 /// The sets of a condition's parts as the call leaves them in a table of all ones.
 fn table_sets(program: &Program, text: &[u8]) -> Vec<Vec<bool>> {
-    let mut table = [u64::MAX; 260];
+    let mut table = [u64::MAX; TABLE_WORDS + 4];
     let answer = tabulate(&program.text(), text, &mut table);
     let (parts, satisfied, first) = answer.expect("program and condition are taken");
-    let filled = 4 * parts as usize;
+    let filled = PART_WORDS * parts as usize;
     assert!(table[filled..].iter().all(|&word| word == u64::MAX));
     let count = program.statements().len();
-    let bit = |part: usize, at: usize| table[4 * part + at / 64] >> (at % 64) & 1 == 1;
+    let bit = |part: usize, at: usize| table[PART_WORDS * part + at / 64] >> (at % 64) & 1 == 1;
     for part in 0..parts as usize {
-        assert!((count..256).all(|at| !bit(part, at)), "bits beyond N");
+        assert!((count..MOST_LINES).all(|at| !bit(part, at)), "bits beyond N");
     }
     let sets: Vec<Vec<bool>> =
         (0..parts as usize).map(|part| (0..count).map(|at| bit(part, at)).collect()).collect();
@@ -180,9 +183,9 @@ fn atoms_agree_with_the_text() {
                 "skip" => (&[], &[]),
                 _ => (&words[..1], &words[2..]),
             };
-            for x in 0..32 {
+            for x in 0..VARIABLES {
                 let name = format!("i{x}");
-                let is_kept_here = words[0] == "write" && x >= 24;
+                let is_kept_here = words[0] == "write" && (24..32).contains(&x);
                 assert_eq!(
                     Atom::Def(x).holds(&program, at),
                     defined.contains(&name.as_str()),
@@ -250,7 +253,7 @@ fn given_and_rewritten_program_agree_step_by_step() {
         let given = generate::program(random, size);
         let count = random.between(0, size.min(60));
         let list = generate::marks(random, &given, count);
-        let (mut verdicts, mut text) = ([99; 256], [99; 8_704]);
+        let (mut verdicts, mut text) = ([99; VERDICT_BYTES], [99; TEXT_BYTES]);
         let answer = judge(&given.text(), &marks::text(&list), &mut verdicts, &mut text);
         let (_, accepted, bytes) = answer.expect("program and list are taken");
         assert!(verdicts[count..].iter().all(|&byte| byte == 99));
@@ -489,16 +492,16 @@ fn refused_calls_keep_what_is_lent() {
         let text = generate::damage(random, &program.text());
         let parts = random.between(1, 70);
         let condition = generate::condition(random, &program, parts);
-        let mut table = [5; 256];
+        let mut table = [5; TABLE_WORDS];
         if tabulate(&text, &condition, &mut table).is_err() {
-            assert_eq!(table, [5; 256]);
+            assert_eq!(table, [5; TABLE_WORDS]);
         }
         let list = marks::text(&generate::marks(random, &program, 3));
         let list = if random.chance(50) { list } else { generate::damage(random, &list) };
-        let (mut verdicts, mut new_text) = ([5; 256], [5; 8_704]);
+        let (mut verdicts, mut new_text) = ([5; VERDICT_BYTES], [5; TEXT_BYTES]);
         match judge(&text, &list, &mut verdicts, &mut new_text) {
             Err(number) => {
-                assert_eq!((verdicts, new_text), ([5; 256], [5; 8_704]));
+                assert_eq!((verdicts, new_text), ([5; VERDICT_BYTES], [5; TEXT_BYTES]));
                 let long = text.len().max(list.len()) > LARGEST_FILE;
                 let line = if long { String::new() } else { format!("refused {number}\n") };
                 assert_eq!(check(&text, &list), line.as_bytes());
@@ -551,7 +554,7 @@ fn generated_programs_hold_what_tests_need() {
     let random = &mut Random::new(10);
     let (mut unreachable, mut loops, mut copies, mut constants, mut equal_arms) = (0, 0, 0, 0, 0);
     for _ in 0..500 {
-        let size = random.between(2, 256);
+        let size = random.between(2, MOST_LINES);
         let program = generate::program(random, size);
         assert_eq!(program.statements().len(), size);
         let mut reached = vec![false; size];

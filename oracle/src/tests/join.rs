@@ -3,14 +3,15 @@
 use super::{lines, ran, skips, P, ZEROS};
 use crate::generate::{self, Random};
 use crate::join::{join, joined, run_in_turn, InTurn};
-use crate::machine::{run_program, Outcome, Run, Values};
+use crate::machine::{run_program, Outcome, Run, Values, VALUES};
+use crate::marks::TEXT_BYTES;
 use crate::pricing::OURS;
-use crate::program::{Program, Statement};
+use crate::program::{Program, Statement, MOST_LINES};
 use crate::tuned;
 
 /// The answer and the joined text, by the plain and by the tuned call.
 fn all_joined(road: &str, creeper: &str) -> Result<(u32, String), u8> {
-    let (mut text, mut other) = ([99; 8_704], [99; 8_704]);
+    let (mut text, mut other) = ([99; TEXT_BYTES], [99; TEXT_BYTES]);
     let answer = join(road.as_bytes(), creeper.as_bytes(), &mut text);
     assert_eq!(tuned::join(road.as_bytes(), creeper.as_bytes(), &mut other), answer);
     assert_eq!(text, other);
@@ -64,15 +65,15 @@ fn two_become_one() {
         "read i0 / i1 := i0 + 1 / i2 := i1 / if i2 goto 5 else 6 / i1 := i1 * i2 / write i1";
     assert_eq!(text, lines(wanted));
     // Each by itself: 5 after 3 steps; 5 times 5 after 4, with i1 as the first left it.
-    assert_eq!(ran(&lines(ROAD), [0; 32], 4, 100), ended(5, 3, 11));
-    let mut left = [0; 32];
+    assert_eq!(ran(&lines(ROAD), [0; VALUES], 4, 100), ended(5, 3, 11));
+    let mut left = [0; VALUES];
     left[0] = 4;
     left[1] = 5;
     assert_eq!(ran(&lines(CREEPER), left, 5, 100), ended(25, 4, 20));
-    assert_eq!(ran(&text, [0; 32], 4, 100), ended(25, 6, 11 + 20 - SEAM));
-    assert_eq!(ran(&text, [0; 32], u32::MAX, 100), ended(0, 5, 16));
+    assert_eq!(ran(&text, [0; VALUES], 4, 100), ended(25, 6, 11 + 20 - SEAM));
+    assert_eq!(ran(&text, [0; VALUES], u32::MAX, 100), ended(0, 5, 16));
     for input in [0, 1, 4, u32::MAX] {
-        assert_in_turn(&program(&lines(ROAD)), &program(&lines(CREEPER)), [7; 32], input, 20);
+        assert_in_turn(&program(&lines(ROAD)), &program(&lines(CREEPER)), [7; VALUES], input, 20);
     }
 }
 
@@ -84,21 +85,21 @@ fn p_with_itself() {
     assert_eq!(found[7], "i0 := i3");
     assert_eq!((found[11], found[13]), ("if i0 goto 13 else 15", "if i0 goto 11 else 15"));
     assert_eq!((found[4], found[6]), ("if i0 goto 6 else 8", "if i0 goto 4 else 8"));
-    assert_eq!(ran(&text, [0; 32], 0, 1_000), ended(14, 37, 18 + 96 - SEAM));
-    assert_eq!(ran(&text, [0; 32], 2, 1_000), ended(16, 51, 36 + 120 - SEAM));
+    assert_eq!(ran(&text, [0; VALUES], 0, 1_000), ended(14, 37, 18 + 96 - SEAM));
+    assert_eq!(ran(&text, [0; VALUES], 2, 1_000), ended(16, 51, 36 + 120 - SEAM));
     // By themselves: 7 after 6 steps, then 14 after 32; 9 after 12, then 16 after 40.
     assert_eq!(
-        (ran(P, [0; 32], 0, 99), ran(P, [0; 32], 2, 99)),
+        (ran(P, [0; VALUES], 0, 99), ran(P, [0; VALUES], 2, 99)),
         (ended(7, 6, 18), ended(9, 12, 36))
     );
-    let left = |input, steps: u32| match ran(P, [0; 32], input, steps - 1) {
+    let left = |input, steps: u32| match ran(P, [0; VALUES], input, steps - 1) {
         Outcome::Spent { values, .. } => values,
         other => panic!("{other:?}"),
     };
     assert_eq!(ran(P, left(0, 6), 7, 99), ended(14, 32, 96));
     assert_eq!(ran(P, left(2, 12), 9, 99), ended(16, 40, 120));
     for input in 0..6 {
-        assert_in_turn(&program(P), &program(P), [3; 32], input, 200);
+        assert_in_turn(&program(P), &program(P), [3; VALUES], input, 200);
     }
 }
 
@@ -110,12 +111,12 @@ fn the_seam_stores_what_is_written() {
     let wanted = "read i0 / if i0 goto 4 else 3 / i1 := 9 / i2 := i1 / write i2";
     assert_eq!(text, lines(wanted));
     let keeps_fives = |value, steps, ticks| Outcome::Ended { value, steps, kept: [5; 8], ticks };
-    assert_eq!(ran(&text, [5; 32], 1, 9), keeps_fives(5, 4, 13));
-    assert_eq!(ran(&text, [5; 32], 0, 9), keeps_fives(9, 5, 15));
+    assert_eq!(ran(&text, [5; VALUES], 1, 9), keeps_fives(5, 4, 13));
+    assert_eq!(ran(&text, [5; VALUES], 0, 9), keeps_fives(9, 5, 15));
     // The same variable: its value is stored into itself.
     let text = text_of("read i3\nwrite i3\n", "read i3\ni3 := i3 + 1\nwrite i3\n");
     assert_eq!(text, "read i3\ni3 := i3\ni3 := i3 + 1\nwrite i3\n");
-    assert_eq!(ran(&text, [0; 32], 6, 9), ended(7, 4, 13));
+    assert_eq!(ran(&text, [0; VALUES], 6, 9), ended(7, 4, 13));
     // The other way round it would be another program.
     let text = text_of("read i3\nwrite i4\n", "read i5\nwrite i5\n");
     assert_eq!(text, "read i3\ni5 := i4\nwrite i5\n");
@@ -126,7 +127,7 @@ fn the_seam_stores_what_is_written() {
     let text = text_of(&lines(ROAD), "read i0\ni0 := i0 - 1\nif i0 goto 2 else 4\nwrite i0\n");
     let tail = "i0 := i1\ni0 := i0 - 1\nif i0 goto 4 else 6\nwrite i0\n";
     assert_eq!(text, format!("read i0\ni1 := i0 + 1\n{tail}"));
-    assert_eq!(ran(&text, [0; 32], 1, 99), ended(0, 8, 25));
+    assert_eq!(ran(&text, [0; VALUES], 1, 99), ended(0, 8, 25));
 }
 
 /// What the road keeps is what the creeper starts with; what the whole keeps is what the creeper left.
@@ -135,7 +136,7 @@ fn kept_values_go_on() {
     let road = program(&lines("read i0 / i24 := i24 + i0 / write i0"));
     let creeper = program(&lines("read i1 / i25 := i24 * 2 / write i1"));
     let whole = joined(&road, &creeper).expect("they are joined");
-    let mut values = [0; 32];
+    let mut values = [0; VALUES];
     values[24] = 1;
     let kept = [5, 10, 0, 0, 0, 0, 0, 0];
     let outcome = Outcome::Ended { value: 4, steps: 5, kept, ticks: 22 };
@@ -147,7 +148,7 @@ fn kept_values_go_on() {
 fn endless_programs() {
     let endless = "read i0\nif i1 goto 2 else 2\nwrite i0\n";
     let ends = "read i0\nwrite i0\n";
-    let spent = |text: &str| match ran(text, [0; 32], 5, 1_000_000) {
+    let spent = |text: &str| match ran(text, [0; VALUES], 5, 1_000_000) {
         Outcome::Spent { statement, .. } => statement,
         other => panic!("{other:?}"),
     };
@@ -157,7 +158,7 @@ fn endless_programs() {
     // A creeper's fault isn't met where the road never ends.
     assert_eq!(spent(&text_of(endless, "read i0\ni0 := 1 / 0\nwrite i0\n")), 2);
     for (road, creeper) in [(endless, ends), (ends, endless), (endless, endless)] {
-        assert_in_turn(&program(road), &program(creeper), [0; 32], 5, 300);
+        assert_in_turn(&program(road), &program(creeper), [0; VALUES], 5, 300);
     }
 }
 
@@ -167,26 +168,27 @@ fn faults() {
     let ends = "read i0\nwrite i0\n";
     let fault = |statement, steps, ticks| Outcome::Fault { statement, steps, ticks };
     // In the first at the same number; in the second at its new one, N - 1 further, after the sum less 1.
-    assert_eq!(ran(&text_of(divides, ends), [0; 32], 0, 99), fault(3, 3, 29));
-    assert_eq!(ran(&text_of(ends, divides), [0; 32], 0, 99), fault(4, 4, 31));
-    assert_eq!(ran(divides, [0; 32], 0, 99), fault(3, 3, 29));
+    assert_eq!(ran(&text_of(divides, ends), [0; VALUES], 0, 99), fault(3, 3, 29));
+    assert_eq!(ran(&text_of(ends, divides), [0; VALUES], 0, 99), fault(4, 4, 31));
+    assert_eq!(ran(divides, [0; VALUES], 0, 99), fault(3, 3, 29));
     // 7 / 9 is 0, by which the second divides: 4 and 3 steps less 1.
     let text = text_of(divides, divides);
-    assert_eq!(ran(&text, [0; 32], 9, 99), fault(6, 6, 56));
-    assert_eq!(ran(&text, [0; 32], 0, 99), fault(3, 3, 29));
-    assert_eq!(ran(&text, [0; 32], 3, 99), ended(3, 7, 60));
+    assert_eq!(ran(&text, [0; VALUES], 9, 99), fault(6, 6, 56));
+    assert_eq!(ran(&text, [0; VALUES], 0, 99), fault(3, 3, 29));
+    assert_eq!(ran(&text, [0; VALUES], 3, 99), ended(3, 7, 60));
     for input in [0, 3, 9, 1] {
-        assert_in_turn(&program(divides), &program(divides), [0; 32], input, 20);
+        assert_in_turn(&program(divides), &program(divides), [0; VALUES], input, 20);
     }
 }
 
 #[test]
-fn up_to_256_statements() {
-    assert_eq!(text_of(&skips(128), &skips(129)).lines().count(), 256);
-    assert_eq!(text_of(&skips(129), &skips(128)).lines().count(), 256);
-    assert_eq!(text_of(&skips(2), &skips(255)).lines().count(), 256);
-    assert_eq!(text_of(&skips(255), &skips(2)).lines().count(), 256);
-    for (n, m) in [(129, 129), (256, 2), (2, 256), (256, 256), (255, 3), (3, 255)] {
+fn up_to_1024_statements() {
+    for (n, m) in [(512, 513), (513, 512), (2, 1_023), (1_023, 2)] {
+        assert_eq!(text_of(&skips(n), &skips(m)).lines().count(), 1_024);
+    }
+    // Those that an earlier release refused.
+    assert_eq!(text_of(&skips(129), &skips(129)).lines().count(), 257);
+    for (n, m) in [(513, 513), (1_024, 2), (2, 1_024), (1_024, 1_024), (1_023, 3), (3, 1_023)] {
         assert_eq!(refusal(&skips(n), &skips(m)), 21, "{n} {m}");
     }
 }
@@ -208,13 +210,13 @@ fn refusals_in_order() {
             assert_eq!(refusal(text, other), number);
         }
         // A creeper that isn't taken, with too many statements.
-        assert_eq!(refusal(&skips(256), text), number);
-        assert_eq!(refusal(text, &skips(256)), number);
+        assert_eq!(refusal(&skips(MOST_LINES), text), number);
+        assert_eq!(refusal(text, &skips(MOST_LINES)), number);
     }
-    assert_eq!(refusal(&skips(256), &(skips(256) + "x")), 2);
-    assert_eq!(refusal(&skips(257), &skips(256)), 3);
+    assert_eq!(refusal(&skips(MOST_LINES), &(skips(MOST_LINES) + "x")), 2);
+    assert_eq!(refusal(&skips(MOST_LINES + 1), &skips(MOST_LINES)), 3);
     // 1 comes before all.
-    for room in [0, 8_192, 8_703] {
+    for room in [0, 8_704, TEXT_BYTES - 1] {
         for (road, creeper) in [(good, good), (wrong, good), (good, wrong)] {
             let mut text = vec![7; room];
             assert_eq!(join(road.as_bytes(), creeper.as_bytes(), &mut text), Err(1));
@@ -223,9 +225,9 @@ fn refusals_in_order() {
         }
     }
     // A refused call keeps the text.
-    let mut text = [7; 8_704];
-    assert_eq!(join(skips(256).as_bytes(), good.as_bytes(), &mut text), Err(21));
-    assert_eq!(tuned::join(skips(256).as_bytes(), good.as_bytes(), &mut text), Err(21));
+    let mut text = [7; TEXT_BYTES];
+    assert_eq!(join(skips(MOST_LINES).as_bytes(), good.as_bytes(), &mut text), Err(21));
+    assert_eq!(tuned::join(skips(MOST_LINES).as_bytes(), good.as_bytes(), &mut text), Err(21));
     assert!(text.iter().all(|&byte| byte == 7));
 }
 
@@ -254,8 +256,9 @@ fn by_lines(road: &str, creeper: &str) -> String {
 struct Met {
     joined: usize,
     refused: usize,
-    of_256: usize,
-    of_257: usize,
+    of_most: usize,
+    of_more: usize,
+    above_256: usize,
     same_variable: usize,
     onto_seam: usize,
     both_ended: usize,
@@ -274,18 +277,19 @@ fn random_pairs_run_in_turn() {
         let (n, m) = (road.count(), creeper.count());
         let texts = [road.to_string(), creeper.to_string()];
         let answer = all_joined(&texts[0], &texts[1]);
-        met.of_257 += usize::from(n + m - 1 == 257);
+        met.of_more += usize::from(n + m - 1 == MOST_LINES as u32 + 1);
         let (statements, text) = match answer {
             Ok(answer) => answer,
             Err(number) => {
-                assert_eq!((number, n + m - 1 > 256), (21, true));
+                assert_eq!((number, n + m - 1 > MOST_LINES as u32), (21, true));
                 met.refused += 1;
                 continue;
             }
         };
         assert_eq!((statements, &text), (n + m - 1, &by_lines(&texts[0], &texts[1])));
         met.joined += 1;
-        met.of_256 += usize::from(statements == 256);
+        met.of_most += usize::from(statements == MOST_LINES as u32);
+        met.above_256 += usize::from(statements > 256);
         let seam = (road.statements()[n as usize - 1], creeper.statements()[0]);
         met.same_variable +=
             usize::from(matches!(seam, (Statement::Write(x), Statement::Read(y)) if x == y));
@@ -330,7 +334,8 @@ fn random_pairs_run_in_turn() {
         }
     }
     println!("{met:?}");
-    assert!(met.joined > 4_000 && met.refused > 300 && met.of_256 > 50 && met.of_257 > 50);
+    assert!(met.joined > 4_000 && met.refused > 50 && met.of_most > 10 && met.of_more > 10);
+    assert!(met.above_256 > 100);
     assert!(met.same_variable > 800 && met.onto_seam > 1_000 && met.both_ended > 3_000);
     assert!(met.road_endless > 1_000 && met.creeper_endless > 500);
     assert!(met.road_fault > 500 && met.creeper_fault > 300);
@@ -349,7 +354,15 @@ fn tuned_joins_are_the_plain_ones() {
                 _ => {}
             }
         }
-        let room = random.pick(&[8_704, 8_704, 8_704, 8_704, 9_000, 8_703, 8_192]);
+        let room = random.pick(&[
+            TEXT_BYTES,
+            TEXT_BYTES,
+            TEXT_BYTES,
+            TEXT_BYTES,
+            TEXT_BYTES + 296,
+            TEXT_BYTES - 1,
+            8_704,
+        ]);
         let (mut one, mut other) = (vec![7; room], vec![7; room]);
         let answer = join(&texts[0], &texts[1], &mut one);
         assert_eq!(tuned::join(&texts[0], &texts[1], &mut other), answer);

@@ -4,7 +4,7 @@ use super::{all_judged, lines, ran, table, P, ZEROS};
 use crate::check::check;
 use crate::desk;
 use crate::generate::{self, Random};
-use crate::machine::{first_difference, run_program, Outcome, Values};
+use crate::machine::{first_difference, run_program, Outcome, Values, VALUES};
 use crate::marks::{self, Judge, Kind, Mark};
 use crate::pricing::OURS;
 use crate::program::{is_kept, Program};
@@ -21,7 +21,7 @@ fn use_of_each_of_the_eight_holds_at_write() {
     assert_eq!(table(&program, "use(i23)"), [0]);
     assert_eq!(table(&program, "E[!def(i24) U use(i24)]"), [2, 13, 8, 12]);
     assert_eq!(table(&program, "E[!def(i23) U use(i23)]"), [0, 15, 0, 0]);
-    for x in 0..32 {
+    for x in 0..64 {
         let wanted = match x {
             0 => 4,
             1 | 24..=31 => 8,
@@ -52,7 +52,7 @@ fn other_atoms_and_statements_are_as_before() {
 fn what_is_kept_is_not_dropped_before_the_end() {
     let program = lines("read i0 / i24 := 5 / i1 := i0 / write i1");
     assert_eq!(all_judged(&program, "2: mark(rm, i24, 5)\n"), (vec![14], program.clone()));
-    for x in (2..32).map(|x: u8| format!("i{x}")) {
+    for x in (2..64).map(|x: u8| format!("i{x}")) {
         let program = program.replace("i24", &x);
         let (verdict, made) = match &x[1..] {
             "24" | "25" | "26" | "27" | "28" | "29" | "30" | "31" => (14, program.clone()),
@@ -83,7 +83,7 @@ fn replacing_at_write_goes_by_the_text() {
     let kept_only = lines("read i0 / i25 := i0 / write i24");
     assert_eq!(table(&kept_only, "use(i25)"), [4]);
     assert_eq!(all_judged(&kept_only, "3: mark(rpl, i25, i0)\n").0, [13]);
-    for x in (0..32).filter(|&x| x != 24) {
+    for x in (0..64).filter(|&x| x != 24) {
         let list = format!("3: mark(rpl, i{x}, i0)\n");
         assert_eq!(all_judged(&kept_only, &list).0, [13], "i{x}");
     }
@@ -93,7 +93,7 @@ fn replacing_at_write_goes_by_the_text() {
 #[test]
 fn runs_end_with_what_is_kept() {
     let program = lines("read i0 / i24 := 5 / i31 := i0 - 1 / write i0");
-    let mut values = [0; 32];
+    let mut values = [0; VALUES];
     values[25] = 7;
     let kept = [5, 7, 0, 0, 0, 0, 0, u32::MAX];
     let ended = Outcome::Ended { value: 0, steps: 4, kept, ticks: 13 };
@@ -101,7 +101,7 @@ fn runs_end_with_what_is_kept() {
     assert_eq!(ran(&program, values, 0, 1_000_000), ended);
     assert!(matches!(ran(&program, values, 0, 3), Outcome::Spent { statement: 4, .. }));
     assert!(matches!(
-        ran(&lines("read i24 / write i24"), [0; 32], 9, 1),
+        ran(&lines("read i24 / write i24"), [0; VALUES], 9, 1),
         Outcome::Spent { statement: 2, .. }
     ));
     let bare = lines("read i0 / write i0");
@@ -124,7 +124,7 @@ fn both_arms_of_an_if_set_what_is_kept() {
     let arms = "read i0 / i24 := 9 / if i0 goto 6 else 4 / i24 := i1 / if i0 goto 7 else 7 / \
                 i24 := i2 / write i24";
     let program = lines(arms);
-    let mut values = [0; 32];
+    let mut values = [0; VALUES];
     (values[1], values[2]) = (5, 6);
     let ended = |value, steps, ticks| {
         let mut kept = ZEROS;
@@ -158,14 +158,16 @@ fn runs_are_compared_in_what_is_kept() {
     let list = marks::read(b"2: mark(rm, i24, 5)\n").expect("a list");
     assert!(Judge::new(&given).is_refused_for_kept_alone(&list[0]));
     let wrong = marks::rewritten(&given, &list, &[0]);
-    assert_eq!(first_difference(&given, &wrong, [0; 32], 3, 100), Some(4));
-    let (one, other) =
-        (run_program(&given, [0; 32], 3, 9, &OURS), run_program(&wrong, [0; 32], 3, 9, &OURS));
+    assert_eq!(first_difference(&given, &wrong, [0; VALUES], 3, 100), Some(4));
+    let (one, other) = (
+        run_program(&given, [0; VALUES], 3, 9, &OURS),
+        run_program(&wrong, [0; VALUES], 3, 9, &OURS),
+    );
     let kept = [5, 0, 0, 0, 0, 0, 0, 0];
     assert_eq!(one, Outcome::Ended { value: 3, steps: 4, kept, ticks: 12 });
     assert_eq!(other, Outcome::Ended { value: 3, steps: 4, kept: ZEROS, ticks: 11 });
     // From a start that has it already they don't differ.
-    let mut values = [0; 32];
+    let mut values = [0; VALUES];
     values[24] = 5;
     assert_eq!(first_difference(&given, &wrong, values, 3, 100), None);
 }
@@ -184,9 +186,9 @@ fn desk_lines_tell_what_is_kept() {
     )));
     start = start.replace("100", "3");
     let spent = desk::run(program.as_bytes(), start.as_bytes(), false);
-    assert!(spent.starts_with("spent at 4 ticks 9\ni0 = 0\n") && spent.ends_with("i31 = -1\n"));
-    assert!(!spent.contains("kept"));
-    let longest = "-2147483648\n2\n".to_string() + &"-2147483648\n".repeat(32);
+    assert!(spent.starts_with("spent at 4 ticks 9\ni0 = 0\n") && spent.contains("i31 = -1\n"));
+    assert!(spent.ends_with("i63 = 0\n") && !spent.contains("kept"));
+    let longest = "-2147483648\n2\n".to_string() + &"-2147483648\n".repeat(64);
     assert_eq!(
         desk::run(b"read i0\nwrite i0\n", longest.as_bytes(), false),
         format!("ended -2147483648 steps 2 ticks 8 kept{}\n", " -2147483648".repeat(8))

@@ -1,11 +1,11 @@
 //! Lists of readers and writers: document 02's Wish 12, and random lists against lists made afresh.
 
 use super::{lines, P};
-use crate::condition::tabulate;
+use crate::condition::{tabulate, TABLE_WORDS};
 use crate::generate::{self, Random};
 use crate::listing::{has, list, relist, Counts, Set, LIST_WORDS};
-use crate::marks::{self, judge};
-use crate::program::{Program, VARIABLES};
+use crate::marks::{self, judge, TEXT_BYTES, VERDICT_BYTES};
+use crate::program::{Program, MOST_LINES, VARIABLES};
 use crate::tuned;
 
 /// The document's marks.
@@ -55,11 +55,11 @@ fn rewritten(program: &str, marks: &str) -> String {
 fn the_list_of_p() {
     let (words, counts) = listed(P);
     let mut expected =
-        vec![(0, 33), (4, 114), (8, 2), (12, 8), (16, 4), (20, 8), (24, 8), (28, 128)];
-    expected.extend((24..32).map(|v| (8 * v + 4, 128)));
-    assert_eq!(expected[8], (196, 128));
+        vec![(0, 33), (16, 114), (32, 2), (48, 8), (64, 4), (80, 8), (96, 8), (112, 128)];
+    expected.extend((24..32).map(|v| (32 * v + 16, 128)));
+    assert_eq!(expected[8], (784, 128));
     assert_eq!(changed(&filled(0), &words), expected);
-    for x in 0..32 {
+    for x in 0..64 {
         let expected = match x {
             0 => (2, 4),
             1..=3 => (1, 1),
@@ -74,27 +74,27 @@ fn the_list_of_p() {
 fn the_documents_marks() {
     let (given, before) = listed(P);
     let (words, counts) = relisted(P, MARKS, &given);
-    assert_eq!(changed(&given, &words), [(20, 0)]);
+    assert_eq!(changed(&given, &words), [(80, 0)]);
     let mut expected = before;
     expected.used[2] = 0;
     assert_eq!(counts, expected);
     assert_eq!(words, listed(&rewritten(P, MARKS)).0);
 
     let (words, counts) = relisted(P, MARKS, &filled(0));
-    assert_eq!(changed(&filled(0), &words), [(12, 8), (24, 8)]);
+    assert_eq!(changed(&filled(0), &words), [(48, 8), (96, 8)]);
     assert_eq!((of(&counts, 1), of(&counts, 3)), ((0, 1), (1, 0)));
     assert_eq!(counts.defined.iter().chain(&counts.used).sum::<u32>(), 2);
 
     let (words, counts) = relisted(P, MARKS, &filled(u64::MAX));
     for (k, &word) in words.iter().enumerate() {
-        let is_kept = k % 4 != 0 || k == 12 || k == 24;
+        let is_kept = k % 16 != 0 || k == 48 || k == 96;
         assert_eq!(word, if is_kept { u64::MAX } else { !8 }, "word {k}");
     }
-    for x in 0..32 {
+    for x in 0..64 {
         let expected = match x {
-            1 => (255, 256),
-            3 => (256, 255),
-            _ => (255, 255),
+            1 => (1_023, 1_024),
+            3 => (1_024, 1_023),
+            _ => (1_023, 1_023),
         };
         assert_eq!(of(&counts, x), expected, "i{x}");
     }
@@ -103,23 +103,24 @@ fn the_documents_marks() {
 #[test]
 fn small_and_large_programs() {
     let (words, counts) = listed("read i0\nwrite i0\n");
-    let mut expected = vec![(0, 1), (4, 2)];
-    expected.extend((24..32).map(|v| (8 * v + 4, 2)));
+    let mut expected = vec![(0, 1), (16, 2)];
+    expected.extend((24..32).map(|v| (32 * v + 16, 2)));
     assert_eq!(changed(&filled(0), &words), expected);
     assert_eq!(of(&counts, 0), (1, 1));
 
-    let program = format!("read i0\n{}write i31\n", "i0 := i0 + i0\n".repeat(254));
+    let program = format!("read i0\n{}write i63\n", "i0 := i0 + i0\n".repeat(1_022));
     let (words, counts) = listed(&program);
-    assert_eq!(words[..4], [u64::MAX, u64::MAX, u64::MAX, u64::MAX >> 1]);
-    assert_eq!(words[4..8], [!1, u64::MAX, u64::MAX, u64::MAX >> 1]);
-    assert_eq!(words[255], 1 << 63);
-    assert_eq!((of(&counts, 0), of(&counts, 31)), ((255, 254), (0, 1)));
+    assert_eq!((&words[..15], words[15]), (&[u64::MAX; 15][..], u64::MAX >> 1));
+    assert_eq!((words[16], &words[17..31], words[31]), (!1, &[u64::MAX; 14][..], u64::MAX >> 1));
+    assert_eq!((words[2_046], words[2_047]), (0, 1 << 63));
+    assert_eq!((of(&counts, 0), of(&counts, 63)), ((1_023, 1_022), (0, 1)));
+    assert_eq!((of(&counts, 31), of(&counts, 32)), ((0, 1), (0, 0)));
 }
 
 #[test]
 fn a_variable_on_both_sides() {
     let (words, counts) = listed("read i1\ni0 := i0 + i0\nwrite i1\n");
-    assert_eq!((words[0], words[4]), (2, 2));
+    assert_eq!((words[0], words[16]), (2, 2));
     assert_eq!(of(&counts, 0), (1, 1));
 }
 
@@ -131,16 +132,16 @@ fn replaced_at_write() {
     assert_eq!(rewritten(program, marks), "read i0\ni24 := i0\nwrite i0\n");
     let (given, _) = listed(program);
     let (words, counts) = relisted(program, marks, &given);
-    assert_eq!(changed(&given, &words), [(4, 6)]);
+    assert_eq!(changed(&given, &words), [(16, 6)]);
     assert_eq!((of(&counts, 0), of(&counts, 24)), ((1, 2), (1, 1)));
     // One that isn't kept loses its use, and the kept ones are set where they were missing.
     let program = "read i0\ni9 := i0\nwrite i9\n";
     let marks = "3: mark(rpl, i9, i0)\n";
     let (given, _) = listed(program);
-    assert_eq!(changed(&given, &relisted(program, marks, &given).0), [(4, 6), (76, 0)]);
+    assert_eq!(changed(&given, &relisted(program, marks, &given).0), [(16, 6), (304, 0)]);
     let (words, _) = relisted(program, marks, &filled(0));
-    let mut expected = vec![(4, 4)];
-    expected.extend((24..32).map(|v| (8 * v + 4, 4)));
+    let mut expected = vec![(16, 4)];
+    expected.extend((24..32).map(|v| (32 * v + 16, 4)));
     assert_eq!(changed(&filled(0), &words), expected);
 }
 
@@ -160,7 +161,7 @@ fn unchanged_statements_are_kept() {
 #[test]
 fn refusals_in_their_order() {
     let p = P.as_bytes();
-    for room in [0, 1, 255] {
+    for room in [0, 1, 256, LIST_WORDS - 1] {
         let mut words = vec![7; room];
         for program in [p, b"rubbish", b""] {
             assert_eq!(list(program, &mut words), Err(1));
@@ -176,18 +177,18 @@ fn refusals_in_their_order() {
         assert_eq!(relist(program.as_bytes(), b"x", &mut words), Err(number));
     }
     assert_eq!(relist(p, b"x\n", &mut words), Err(9));
-    assert_eq!(relist(p, &b"4: mark(rm, i0, 1)\n".repeat(257), &mut words), Err(10));
+    assert_eq!(relist(p, &b"4: mark(rm, i0, 1)\n".repeat(1_025), &mut words), Err(10));
     assert_eq!(words, filled(7));
 }
 
 #[test]
 fn words_beyond_are_kept() {
-    let mut words = vec![7; 300];
+    let mut words = vec![7; LIST_WORDS + 44];
     let counts = list(P.as_bytes(), &mut words);
-    assert_eq!((&words[..256], counts.ok()), (&listed(P).0[..], Some(listed(P).1)));
-    assert_eq!(words[256..], [7; 44]);
+    assert_eq!((&words[..LIST_WORDS], counts.ok()), (&listed(P).0[..], Some(listed(P).1)));
+    assert_eq!(words[LIST_WORDS..], [7; 44]);
     relist(P.as_bytes(), MARKS.as_bytes(), &mut words).expect("the marks are taken");
-    assert_eq!((words[20], &words[256..]), (0, &[7; 44][..]));
+    assert_eq!((words[80], &words[LIST_WORDS..]), (0, &[7; 44][..]));
 }
 
 /// A set is the row of `def` or of `use` of its variable, and its count is what satisfies that condition.
@@ -201,13 +202,13 @@ fn sets_are_rows_of_conditions() {
         let counts = list(&program.text(), &mut words).expect("the program is taken");
         for x in 0..usize::from(VARIABLES) {
             for (first, count, atom) in
-                [(8 * x, counts.defined[x], "def"), (8 * x + 4, counts.used[x], "use")]
+                [(32 * x, counts.defined[x], "def"), (32 * x + 16, counts.used[x], "use")]
             {
-                let mut table = [0; 256];
+                let mut table = [0; TABLE_WORDS];
                 let condition = format!("{atom}(i{x})");
                 let answer = tabulate(&program.text(), condition.as_bytes(), &mut table);
                 let (_, satisfied, _) = answer.expect("the condition is taken");
-                assert_eq!((&words[first..first + 4], count), (&table[..4], satisfied));
+                assert_eq!((&words[first..first + 16], count), (&table[..16], satisfied));
             }
         }
     }
@@ -229,7 +230,7 @@ fn rounds_against_lists_made_afresh() {
             let marks = marks::text(&generate::marks(random, &program, count));
             let text = program.text();
             let counts = relist(&text, &marks, &mut words).expect("the marks are taken");
-            let (mut verdicts, mut new) = ([0; 256], [0; 8_704]);
+            let (mut verdicts, mut new) = ([0; VERDICT_BYTES], [0; TEXT_BYTES]);
             let answer = judge(&text, &marks, &mut verdicts, &mut new);
             let (_, _, bytes) = answer.expect("the marks are taken");
             let new = &new[..bytes as usize];
@@ -260,7 +261,7 @@ fn any_list_is_written_at_changed_statements_alone() {
         let (mut words, mut afresh) = (before.clone(), filled(0));
         relist(&program.text(), &marks::text(&marks), &mut words).expect("the marks are taken");
         list(&new.text(), &mut afresh).expect("new text is a program's");
-        for at in 0..256 {
+        for at in 0..MOST_LINES {
             let (given, made) = (program.statements().get(at), new.statements().get(at));
             let expected = if given == made { &before[..] } else { &afresh };
             written += usize::from(given != made);
@@ -292,7 +293,8 @@ fn tuned_lists_are_the_plain_ones() {
             5..=7 => marks = generate::damage(random, &marks),
             _ => {}
         }
-        let room = random.pick(&[256, 256, 256, 300, 255]);
+        let most = LIST_WORDS;
+        let room = random.pick(&[most, most, most, most + 44, most - 1]);
         let before: Vec<u64> = match random.below(3) {
             0 => vec![random.pick(&[0, u64::MAX]); room],
             _ => (0..room).map(|_| random.bits()).collect(),

@@ -9,7 +9,7 @@ const MARKS: &[u8] =
       9: mark(rm, i2, 7)\n";
 
 /// Numbers of lines at and beyond the most marks, some of them with the low bits of a line within.
-const BEYOND: [u32; 8] = [256, 257, 258, 512, 1 << 16, (1 << 16) + 1, 1 << 31, u32::MAX];
+const BEYOND: [u32; 8] = [1_024, 1_025, 1_026, 2_048, 1 << 16, (1 << 16) + 1, 1 << 31, u32::MAX];
 
 /// A text's lines as they are split at byte 10.
 fn split(text: &[u8]) -> Vec<&[u8]> {
@@ -21,14 +21,14 @@ fn lines_of_the_documents_marks() {
     for (line, bounds) in [0..20, 20..39, 39..60, 60..79, 79..98].into_iter().enumerate() {
         assert_eq!(mark_line(MARKS, line as u32), Ok(bounds));
     }
-    for line in [5, 6, 255].into_iter().chain(BEYOND) {
+    for line in [5, 6, 255, 256, 1_023].into_iter().chain(BEYOND) {
         assert_eq!(mark_line(MARKS, line), Ok(98..98), "{line}");
     }
 }
 
 #[test]
 fn the_empty_list_has_no_line() {
-    for line in [0, 1, 255].into_iter().chain(BEYOND) {
+    for line in [0, 1, 255, 256, 1_023].into_iter().chain(BEYOND) {
         assert_eq!(mark_line(b"", line), Ok(0..0), "{line}");
     }
 }
@@ -37,9 +37,9 @@ fn the_empty_list_has_no_line() {
 fn lists_of_the_most_marks() {
     for (line, bytes) in [
         ("0: mark(rm, i0, 0)\n", 19),
-        ("2147483647: mark(rm, i31, 2147483647 + 2147483647)\n", 51),
-        ("2147483647: mark(rm, i31, -2147483648 + -2147483648)\n", 53),
-        ("2147483647: mark(cse, i31, -2147483648 + -2147483648)\n", 54),
+        ("2147483647: mark(rm, i63, 2147483647 + 2147483647)\n", 51),
+        ("2147483647: mark(rm, i63, -2147483648 + -2147483648)\n", 53),
+        ("2147483647: mark(cse, i63, -2147483648 + -2147483648)\n", 54),
     ] {
         assert_eq!(line.len(), bytes);
         let list = line.repeat(MOST_MARKS).into_bytes();
@@ -50,7 +50,7 @@ fn lists_of_the_most_marks() {
             assert_eq!(mark_line(&list, at), Ok(list.len()..list.len()), "{at}");
         }
         let longer = line.repeat(MOST_MARKS + 1).into_bytes();
-        for at in [0, 1, 255].into_iter().chain(BEYOND) {
+        for at in [0, 1, 255, 256, 1_023].into_iter().chain(BEYOND) {
             assert_eq!(mark_line(&longer, at), Err(10), "{at}");
             assert_eq!(mark_line(&longer[..longer.len() - 1], at), Err(9), "{at}");
             assert_eq!(mark_line(&[&longer[..], b"x\n"].concat(), at), Err(9), "{at}");
@@ -87,7 +87,7 @@ fn random_lists_are_their_lines() {
         let size = random.between(2, 12);
         let program = generate::program(random, size);
         let count = match random.below(100) {
-            0 => random.between(256, 258),
+            0 => random.between(MOST_MARKS, MOST_MARKS + 2),
             _ => random.below(20),
         };
         let list = marks::text(&generate::marks(random, &program, count));

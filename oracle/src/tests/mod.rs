@@ -19,9 +19,9 @@ mod stages;
 mod traces;
 mod tuned;
 
-use crate::condition;
+use crate::condition::{self, PART_WORDS, TABLE_WORDS};
 use crate::machine::{run, Kept, Outcome, Values};
-use crate::marks;
+use crate::marks::{self, TEXT_BYTES, VERDICT_BYTES};
 use crate::pricing::OURS;
 use crate::program::{Program, KEPT};
 
@@ -55,10 +55,10 @@ fn condition_refusal(text: &str) -> u8 {
 
 /// Word 0 of each part of a condition over a program.
 fn words(program: &str, text: &str) -> Vec<u64> {
-    let mut table = [0; 256];
+    let mut table = [0; TABLE_WORDS];
     let answer = condition::tabulate(program.as_bytes(), text.as_bytes(), &mut table);
     let (parts, _, _) = answer.unwrap_or_else(|number| panic!("{text}: refused {number}"));
-    (0..parts as usize).map(|part| table[4 * part]).collect()
+    (0..parts as usize).map(|part| table[PART_WORDS * part]).collect()
 }
 
 /// Word 0 of a whole condition over a program.
@@ -68,7 +68,7 @@ fn whole(program: &str, text: &str) -> u64 {
 
 /// The verdicts of a list and the new text.
 fn judged(program: &str, list: &str) -> (Vec<u8>, String) {
-    let (mut verdicts, mut text) = ([99; 256], [99; 8_704]);
+    let (mut verdicts, mut text) = ([99; VERDICT_BYTES], [99; TEXT_BYTES]);
     let answer = marks::judge(program.as_bytes(), list.as_bytes(), &mut verdicts, &mut text);
     let (count, accepted, bytes) = answer.unwrap_or_else(|number| panic!("refused {number}"));
     let verdicts = verdicts[..count as usize].to_vec();
@@ -78,10 +78,10 @@ fn judged(program: &str, list: &str) -> (Vec<u8>, String) {
 
 /// Word 0 of each part of a condition, by the plain and by the tuned call.
 fn table(program: &str, condition: &str) -> Vec<u64> {
-    let mut filled = [0; 256];
+    let mut filled = [0; TABLE_WORDS];
     let answer = crate::tuned::tabulate(program.as_bytes(), condition.as_bytes(), &mut filled);
     let (parts, _, _) = answer.expect("program and condition are taken");
-    let tuned: Vec<u64> = (0..parts as usize).map(|part| filled[4 * part]).collect();
+    let tuned: Vec<u64> = (0..parts as usize).map(|part| filled[PART_WORDS * part]).collect();
     assert_eq!(words(program, condition), tuned, "{condition}");
     tuned
 }
@@ -90,7 +90,7 @@ fn table(program: &str, condition: &str) -> Vec<u64> {
 fn all_judged(program: &str, list: &str) -> (Vec<u8>, String) {
     let plain = judged(program, list);
     for judge in [crate::tuned::judge, crate::tuned::judge_by_labels] {
-        let (mut verdicts, mut text) = ([99; 256], [99; 8_704]);
+        let (mut verdicts, mut text) = ([99; VERDICT_BYTES], [99; TEXT_BYTES]);
         let answer = judge(program.as_bytes(), list.as_bytes(), &mut verdicts, &mut text);
         let (count, _, bytes) = answer.expect("program and list are taken");
         assert_eq!(verdicts[..count as usize], plain.0, "{list}");

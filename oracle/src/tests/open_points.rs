@@ -2,7 +2,8 @@
 
 use super::{condition_refusal, judged, lines, refusal, skips, whole, words, P, P_PRICES};
 use crate::check::{check, said};
-use crate::machine::{run, Outcome};
+use crate::condition::TABLE_WORDS;
+use crate::machine::{run, Outcome, VALUES};
 use crate::marks;
 use crate::pricing::OURS;
 use crate::program::Program;
@@ -20,10 +21,10 @@ fn ends_of_program_text() {
 
 #[test]
 fn spelling_is_checked_on_every_line() {
-    assert_eq!(refusal(&(skips(300) + "Skip\n")), 2);
-    assert_eq!(refusal(&(skips(300) + "skip")), 2);
-    assert_eq!(refusal(&skips(300)), 3);
-    assert_eq!(refusal(&skips(257)), 3);
+    assert_eq!(refusal(&(skips(1_100) + "Skip\n")), 2);
+    assert_eq!(refusal(&(skips(1_100) + "skip")), 2);
+    assert_eq!(refusal(&skips(1_100)), 3);
+    assert_eq!(refusal(&skips(1_025)), 3);
     assert_eq!(refusal(&skips(100_000)), 3);
     assert_eq!(refusal(&(skips(100_000) + "x\n")), 2);
 }
@@ -82,15 +83,18 @@ fn refusals_go_by_number_not_by_line() {
     assert_eq!(refusal(&lines("write i0 / read i0")), 4);
     assert_eq!(refusal(&lines("if i0 goto 9 else 9")), 3);
     assert_eq!(refusal(&lines("if i0 goto 9 else 9 / rubbish")), 2);
-    assert_eq!(refusal(&skips(257).replace("write", "read")), 3);
+    assert_eq!(refusal(&skips(1_025).replace("write", "read")), 3);
 }
 
 #[test]
 fn one_spelling_each() {
     for wrong in [
         "i00 := 1",
-        "i031 := 1",
-        "i32 := 1",
+        "i063 := 1",
+        "i64 := 1",
+        "i70 := 1",
+        "i99 := 1",
+        "i100 := 1",
         "i := 1",
         "I0 := 1",
         "i0 :=1",
@@ -159,7 +163,7 @@ fn order_of_condition_refusals() {
 #[test]
 fn numbers_that_match_nothing() {
     for text in
-        ["node(0)", "node(300)", "node(9)", "stmt(if i0 goto 300 else 0)", "node(2147483647)"]
+        ["node(0)", "node(2000)", "node(9)", "stmt(if i0 goto 2000 else 0)", "node(2147483647)"]
     {
         assert_eq!(words(P, text), [0], "{text}");
     }
@@ -213,7 +217,8 @@ fn no_superfluous_brackets_or_spaces() {
         "def( i0)",
         "def(i0 )",
         "def(i00)",
-        "def(i32)",
+        "def(i64)",
+        "def(i063)",
         "def()",
         "def",
         "use(1)",
@@ -308,9 +313,9 @@ fn until_and_weak_until() {
 #[test]
 fn bits_beyond_n_are_zero() {
     assert_eq!(words(P, "!false"), [0, 255]);
-    let mut table = [u64::MAX; 256];
+    let mut table = [u64::MAX; TABLE_WORDS];
     assert_eq!(crate::condition::tabulate(P.as_bytes(), b"!false", &mut table), Ok((2, 8, 1)));
-    assert_eq!(table[..8], [0, 0, 0, 0, 255, 0, 0, 0]);
+    assert_eq!((&table[..16], table[16], &table[17..32]), (&[0; 16][..], 255, &[0; 15][..]));
 }
 
 #[test]
@@ -319,10 +324,10 @@ fn lists_of_marks() {
     assert_eq!(marks::read(b"\n"), Err(9));
     assert_eq!(marks::read(b"1: mark(rm, i0, 1)"), Err(9));
     let line = "1: mark(rm, i0, 1)\n";
-    assert_eq!(marks::read(line.repeat(256).as_bytes()).map(|list| list.len()), Ok(256));
-    assert_eq!(marks::read(line.repeat(257).as_bytes()), Err(10));
-    assert_eq!(marks::read((line.repeat(257) + "x\n").as_bytes()), Err(9));
-    assert_eq!(marks::read((line.repeat(257) + "1: mark(rm, i0, 1)").as_bytes()), Err(9));
+    assert_eq!(marks::read(line.repeat(1_024).as_bytes()).map(|list| list.len()), Ok(1_024));
+    assert_eq!(marks::read(line.repeat(1_025).as_bytes()), Err(10));
+    assert_eq!(marks::read((line.repeat(1_025) + "x\n").as_bytes()), Err(9));
+    assert_eq!(marks::read((line.repeat(1_025) + "1: mark(rm, i0, 1)").as_bytes()), Err(9));
     for wrong in [
         "1: mark(rpl, i0, 1 + 2)",
         "1: mark(rpl, i0, i1 + 2)",
@@ -338,7 +343,8 @@ fn lists_of_marks() {
         "01: mark(rm, i0, 1)",
         "2147483648: mark(rm, i0, 1)",
         "1: mark(rm, 1, i0)",
-        "1: mark(rm, i32, 1)",
+        "1: mark(rm, i64, 1)",
+        "1: mark(rm, i063, 1)",
         "1: mark(rm, i0, )",
         "1: mark(rm, i0)",
         "1: mark(rm, i0, 1, 1)",
@@ -442,16 +448,16 @@ fn accepted_marks_are_made_together() {
 
 #[test]
 fn longest_texts() {
-    let longest = "i31 := 2147483647 + 2147483647\n";
+    let longest = "i63 := 2147483647 + 2147483647\n";
     assert_eq!(longest.len(), 31);
-    let text = format!("read i31\n{}write i31\n", longest.repeat(254));
-    assert_eq!(text.len(), 7_893);
+    let text = format!("read i63\n{}write i63\n", longest.repeat(1_022));
+    assert_eq!(text.len(), 31_701);
     assert_eq!(judged(&text, ""), (vec![], text));
 }
 
 #[test]
 fn budgets() {
-    let mut values = [0; 32];
+    let mut values = [0; VALUES];
     values[0] = 3;
     values[31] = u32::MAX;
     let p = P.as_bytes();
@@ -474,7 +480,7 @@ fn budgets() {
     assert_eq!(run(b"rubbish", values, 0, 0, &OURS), Err(2));
     // A run that could go on for ever.
     let endless = lines("read i0 / i1 := i1 + 1 / if i0 goto 2 else 4 / write i1");
-    match run(endless.as_bytes(), [0; 32], 1, 1_000_000, &OURS) {
+    match run(endless.as_bytes(), [0; VALUES], 1, 1_000_000, &OURS) {
         Ok(Outcome::Spent { statement: 3, values, ticks }) => {
             // The input's step, 500,000 sums and one `if` less.
             assert_eq!((values[1], ticks), (500_000, 4 + 3 * 999_999));
@@ -506,7 +512,7 @@ fn what_the_check_program_says() {
         said(None, None),
         "given is read as empty: No such file or directory\n\
          marks is read as empty: No such file or directory\n\
-         the author of the shift program: under 2 or over 256 lines\n"
+         the author of the shift program: under 2 or over 1,024 lines\n"
     );
     assert_eq!(said(Some(p), None), "marks is read as empty: No such file or directory\n");
     let long = skips(65_536);

@@ -4,7 +4,7 @@ use super::{lines, ran, P, P_PRICES};
 use crate::check::check;
 use crate::desk;
 use crate::generate::{self, Random};
-use crate::machine::{run_program, Outcome, Run, State};
+use crate::machine::{run_program, Outcome, Run, State, VALUES};
 use crate::marks::{self, Judge};
 use crate::pricing::{kind, price, prices_of, report, Report, KINDS, KIND_NAMES, OURS};
 use crate::program::{Program, Statement};
@@ -130,7 +130,7 @@ fn reports_are_refused_as_judging_is() {
     assert_eq!(report(b"read i0\nif i0 goto 1 else 2\nwrite i0\n", b"x", &OURS), Err(5));
     assert_eq!(report(p, b"x", &OURS), Err(9));
     assert_eq!(report(p, b"3: mark(rm, i2, 7)", &OURS), Err(9));
-    assert_eq!(report(p, &b"3: mark(rm, i2, 7)\n".repeat(257), &OURS), Err(10));
+    assert_eq!(report(p, &b"3: mark(rm, i2, 7)\n".repeat(1_025), &OURS), Err(10));
     // After a refused call nothing of the report is printed.
     assert_eq!(check(p, b"x"), b"refused 9\n");
     assert_eq!(check(b"", b""), b"refused 3\n");
@@ -138,35 +138,39 @@ fn reports_are_refused_as_judging_is() {
 
 #[test]
 fn the_largest_totals() {
-    let given = format!("read i0\n{}write i0\n", "i1 := 7 / 2\n".repeat(254));
-    let list: String = (2..256).map(|n| format!("{n}: mark(rm, i1, 7 / 2)\n")).collect();
-    assert_eq!(totals(&given, &list), (6_104, 262, 5_842));
-    assert_eq!(totals(&given, ""), (6_104, 6_104, 0));
+    let given = format!("read i0\n{}write i0\n", "i1 := 7 / 2\n".repeat(1_022));
+    let list: String = (2..1_024).map(|n| format!("{n}: mark(rm, i1, 7 / 2)\n")).collect();
+    assert_eq!(totals(&given, &list), (24_536, 1_030, 23_506));
+    assert_eq!(totals(&given, ""), (24_536, 24_536, 0));
     let told = told(&given, &list);
-    assert_eq!((told.before.len(), told.before[255], told.after[254]), (256, 4, 1));
+    assert_eq!((told.before.len(), told.before[1_023], told.after[1_022]), (1_024, 4, 1));
     assert!(told.text().starts_with("1 4 4\n2 24 1\n"));
-    assert!(told.text().ends_with("\n255 24 1\n256 4 4\n6104\n262\n5842\n"));
+    assert!(told.text().ends_with("\n1023 24 1\n1024 4 4\n24536\n1030\n23506\n"));
 }
 
 #[test]
 fn ticks_of_runs() {
-    let ticks = |input, budget| ran(P, [0; 32], input, budget).ticks();
+    let ticks = |input, budget| ran(P, [0; VALUES], input, budget).ticks();
     assert_eq!((ticks(0, 1_000_000), ticks(0, 6), ticks(0, 5)), (18, 18, 14));
     assert_eq!((ticks(2, 1_000_000), ticks(2, 12), ticks(2, 11)), (36, 36, 32));
     assert_eq!((ticks(2, 0), ticks(2, 1), ticks(2, 2)), (0, 4, 6));
     // A statement once for each time, and the last step counts.
     let products = lines("read i0 / i1 := i1 * i0 / if i2 goto 2 else 2 / write i1");
-    assert_eq!(ran(&products, [0; 32], 3, 1_000_000).ticks(), 4 + 500_000 * 9 + 499_999 * 3);
-    let wide = format!("read i0\n{}if i2 goto 2 else 2\nwrite i1\n", "i1 := i1 * i0\n".repeat(253));
-    // 3,937 rounds of 254 statements, and one product more.
-    assert_eq!(3_937 * 254 + 1, 999_999);
-    let wanted = 4 + 3_937 * (253 * 9 + 3) + 9;
-    assert_eq!(ran(&wide, [0; 32], 3, 1_000_000).ticks(), wanted);
+    assert_eq!(ran(&products, [0; VALUES], 3, 1_000_000).ticks(), 4 + 500_000 * 9 + 499_999 * 3);
+    let wide =
+        format!("read i0\n{}if i2 goto 2 else 2\nwrite i1\n", "i1 := i1 * i0\n".repeat(1_021));
+    // 978 rounds of 1,022 statements, and 483 products more.
+    assert_eq!(978 * 1_022 + 483, 999_999);
+    let wanted = 4 + 978 * (1_021 * 9 + 3) + 483 * 9;
+    assert_eq!(ran(&wide, [0; VALUES], 3, 1_000_000).ticks(), wanted);
     // A faulting statement counts.
     let divided = "read i0\ni1 := 10 / i0\nwrite i1\n";
-    assert_eq!(ran(divided, [0; 32], 0, 100), Outcome::Fault { statement: 2, steps: 2, ticks: 28 });
-    assert_eq!(ran(divided, [0; 32], 0, 1).ticks(), 4);
-    assert_eq!(ran(divided, [0; 32], 5, 3).ticks(), 32);
+    assert_eq!(
+        ran(divided, [0; VALUES], 0, 100),
+        Outcome::Fault { statement: 2, steps: 2, ticks: 28 }
+    );
+    assert_eq!(ran(divided, [0; VALUES], 0, 1).ticks(), 4);
+    assert_eq!(ran(divided, [0; VALUES], 5, 3).ticks(), 32);
 }
 
 #[test]

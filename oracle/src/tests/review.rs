@@ -1,23 +1,23 @@
 //! Reviews: document 02's Wish 3, and random reviews against single conditions.
 
 use super::P;
-use crate::condition::{tabulate, Condition, Part};
+use crate::condition::{tabulate, words_of, Condition, Part, PART_WORDS, TABLE_WORDS};
 use crate::generate::{self, Random};
-use crate::review::{conditions, review, tables, Reviewed, REVIEW_LINES};
+use crate::review::{conditions, review, tables, Reviewed, REVIEW_LINES, REVIEW_WORDS};
 use crate::tuned;
 
 /// What a review of P leaves in words 0 of its tables, and its answer.
 fn reviewed(text: &str) -> Result<(Vec<u64>, Reviewed), u8> {
-    let (mut table, mut other) = ([7; 512], [7; 512]);
+    let (mut table, mut other) = ([7; REVIEW_WORDS], [7; REVIEW_WORDS]);
     let answer = review(P.as_bytes(), text.as_bytes(), &mut table);
     assert_eq!(tuned::review(P.as_bytes(), text.as_bytes(), &mut other), answer, "{text}");
     assert_eq!(table, other, "{text}");
-    let filled = answer.map_or(0, |reviewed| 4 * reviewed.tables as usize);
+    let filled = answer.map_or(0, |reviewed| PART_WORDS * reviewed.tables as usize);
     assert!(table[filled..].iter().all(|&word| word == 7), "{text}");
-    let rows = table[..filled].chunks(4);
+    let rows = table[..filled].chunks(PART_WORDS);
     answer.map(|answer| {
         let words = rows.map(|row| {
-            assert_eq!(row[1..], [0; 3]);
+            assert_eq!(row[1..], [0; PART_WORDS - 1]);
             row[0]
         });
         (words.collect(), answer)
@@ -87,7 +87,8 @@ fn edges_of_a_review() {
     assert_eq!(refusal(&("x\n".to_string() + &"!".repeat(64) + "true\n")), 7);
     assert_eq!(refusal(&("!".repeat(64) + "true\nx\n")), 8);
     assert_eq!(refusal(&("!".repeat(64) + "true")), 7);
-    for (program, room, expected) in [("", 511, 1), ("", 512, 3), (P, 511, 1), (P, 512, 16)] {
+    for (program, room, expected) in [("", 2_047, 1), ("", 2_048, 3), (P, 2_047, 1), (P, 2_048, 16)]
+    {
         let lines = "true\n".repeat(33);
         let answer = review(program.as_bytes(), lines.as_bytes(), &mut vec![0; room]);
         assert_eq!(answer.err(), Some(expected));
@@ -103,7 +104,7 @@ fn lines_read_as_by_themselves() {
         let program = generate::program(random, size);
         let (lines, parts) = (random.between(1, 32), random.between(1, 12));
         let text = generate::review(random, &program, lines, parts);
-        let mut table = [0; 512];
+        let mut table = [0; REVIEW_WORDS];
         let answer = match review(&program.text(), &text, &mut table) {
             Ok(answer) => answer,
             Err(number) => {
@@ -112,11 +113,11 @@ fn lines_read_as_by_themselves() {
             }
         };
         for (j, line) in text.split(|&byte| byte == 10).take(lines).enumerate() {
-            let mut alone = [0; 256];
+            let mut alone = [0; TABLE_WORDS];
             let told = tabulate(&program.text(), line, &mut alone).expect("a line is taken");
             assert_eq!(told, (answer.parts[j], answer.satisfied[j], answer.first[j]));
-            let (k, last) = (4 * answer.table_of[j] as usize, 4 * told.0 as usize - 4);
-            assert_eq!(table[k..k + 4], alone[last..last + 4]);
+            let (k, last) = (answer.table_of[j] as usize, told.0 as usize - 1);
+            assert_eq!(words_of(&mut table, k), words_of(&mut alone, last));
         }
     }
 }
@@ -135,7 +136,7 @@ fn tuned_reviews_are_the_plain_ones() {
             1 => asked = generate::damage(random, &asked),
             _ => {}
         }
-        let room = random.pick(&[512, 512, 512, 513, 511]);
+        let room = random.pick(&[2_048, 2_048, 2_048, 2_049, 2_047]);
         let (mut one, mut other) = (vec![7; room], vec![7; room]);
         let answer = tuned::review(&text, &asked, &mut one);
         let shown = || format!("{} {}", text.escape_ascii(), asked.escape_ascii());

@@ -2,8 +2,8 @@
 
 use super::{lines, skips, P};
 use crate::generate::{self, PlaceDamage, Random, WrongName};
-use crate::machine::{self, first_difference};
-use crate::marks;
+use crate::machine::{self, first_difference, VALUES};
+use crate::marks::{self, TEXT_BYTES, VERDICT_BYTES};
 use crate::pricing::OURS;
 use crate::program::Program;
 use crate::stages::{
@@ -22,7 +22,7 @@ fn all_kept(stages: &mut [u8], name: &[u8], program: &[u8]) -> Result<u32, u8> {
 
 /// The text that `go_back` fills, by the plain and by the tuned call.
 fn returned(stages: &[u8], name: &[u8]) -> Result<Vec<u8>, u8> {
-    let (mut text, mut other) = ([99; 8_704], [99; 8_704]);
+    let (mut text, mut other) = ([99; TEXT_BYTES], [99; TEXT_BYTES]);
     let answer = go_back(stages, name, &mut text);
     assert_eq!(tuned::go_back(stages, name, &mut other), answer);
     assert_eq!(text, other);
@@ -56,8 +56,8 @@ fn full() -> Vec<u8> {
 
 #[test]
 fn figures() {
-    assert_eq!((PLACES, PLACE_BYTES, HEAD_BYTES), (8, 8_750, 10));
-    assert_eq!(PLACE_BYTES - HEAD_BYTES, 8_740);
+    assert_eq!((PLACES, PLACE_BYTES, HEAD_BYTES), (8, 35_000, 10));
+    assert_eq!(PLACE_BYTES - HEAD_BYTES, 34_990);
 }
 
 #[test]
@@ -79,9 +79,9 @@ fn lengths() {
     for at in 0..PLACES {
         let length = at * PLACE_BYTES + 8;
         let kept = [stages[length], stages[length + 1]];
-        // 0 255 is 65,280, far past the place; the last place has nothing behind it.
+        // 0 255 is 65,280, far past the place, and 0xae 0x88 is 34,990, all of it; the last place has nothing behind it.
         for wrong in
-            [[0, 255], [255, 255], [0x25, 0x22], [0x24, 0x22], [102, 0], [100, 0], [0, 101], [0, 0]]
+            [[0, 255], [255, 255], [0xaf, 0x88], [0xae, 0x88], [102, 0], [100, 0], [0, 101], [0, 0]]
         {
             stages[length..length + 2].copy_from_slice(&wrong);
             assert_eq!(returned(&stages, EIGHT[at].as_bytes()), Err(25), "{wrong:?}");
@@ -90,11 +90,11 @@ fn lengths() {
         stages[length..length + 2].copy_from_slice(&kept);
         assert_eq!(returned(&stages, EIGHT[at].as_bytes()), Ok(P.as_bytes().to_vec()));
     }
-    // The longest program, of 8,401 bytes: low byte first.
+    // The longest program, of 33,745 bytes: low byte first.
     let longest =
-        format!("read i31\n{}write i31\n", "i31 := -2147483648 + -2147483648\n".repeat(254));
+        format!("read i63\n{}write i63\n", "i63 := -2147483648 + -2147483648\n".repeat(1_022));
     assert_eq!(all_kept(&mut stages, b"eight", longest.as_bytes()), Ok(8));
-    assert_eq!(stages[7 * PLACE_BYTES + 8..][..2], [209, 32]);
+    assert_eq!(stages[7 * PLACE_BYTES + 8..][..2], [209, 131]);
     assert_eq!(returned(&stages, b"eight"), Ok(longest.into_bytes()));
 }
 
@@ -190,8 +190,8 @@ fn bytes_beyond_are_kept() {
     let mut stages = vec![7; STAGES_BYTES + 100];
     assert_eq!(all_kept(&mut stages, b"first", P.as_bytes()), Ok(1));
     assert_eq!(all_kept(&mut stages, b"second", P.as_bytes()), Ok(2));
-    // Eighths of 70,000, however many bytes are lent.
-    assert_eq!(stages[8_750..8_760], *b"second\0\0\x65\0");
+    // Eighths of 280,000, however many bytes are lent.
+    assert_eq!(stages[35_000..35_010], *b"second\0\0\x65\0");
     let shorter = skips(2);
     assert_eq!(all_kept(&mut stages, b"first", shorter.as_bytes()), Ok(1));
     let tail = 10 + shorter.len();
@@ -210,7 +210,7 @@ fn refusals_in_order() {
             assert_eq!(all_kept(&mut stages, name, text.as_bytes()), Err(number));
         }
     }
-    for room in [0, 8_192, 8_703] {
+    for room in [0, 8_704, TEXT_BYTES - 1] {
         for (name, number) in [(&b"one"[..], 1), (b"nine", 1), (b"", 1)] {
             let mut text = vec![7; room];
             assert_eq!(go_back(&stages, name, &mut text), Err(number));
@@ -218,7 +218,7 @@ fn refusals_in_order() {
             assert!(text.iter().all(|&byte| byte == 7));
         }
     }
-    for room in [0, 8_750, 65_536, 69_999] {
+    for room in [0, 35_000, 70_000, STAGES_BYTES - 1] {
         assert_eq!(all_kept(&mut stages[..room], b"one", P.as_bytes()), Err(1));
         assert_eq!(returned(&stages[..room], b"one"), Err(1));
     }
@@ -246,7 +246,7 @@ fn by_first_standing(stages: &[u8]) -> Vec<Option<Stage>> {
 fn random_stages() {
     let random = &mut Random::new(110);
     let (mut keeps, mut returns, mut counts) = ([0; 26], [0; 26], [0; 9]);
-    for _ in 0..6_000 {
+    for _ in 0..10_000 {
         let mut stages = generate::stages(random);
         for _ in 0..random.pick(&[0, 0, 1, 2, 5]) {
             let (kind, at) = (random.pick(&PlaceDamage::ALL), random.below(PLACES));
@@ -262,7 +262,7 @@ fn random_stages() {
             assert!(!is_name(&name), "{wrong:?} {}", name.escape_ascii());
         }
         let mut program = generate::kept_program(random).text();
-        if random.chance(15) {
+        if random.chance(25) {
             program = generate::damage(random, &program);
         }
         returns[usize::from(returned(&stages, &name).err().unwrap_or(0))] += 1;
@@ -301,7 +301,7 @@ fn rounds_from_a_stage() {
             let program = Program::read(&reached).expect("a reached program is taken");
             let count = random.below(12);
             let list = marks::text(&generate::marks(random, &program, count));
-            let (mut verdicts, mut text) = ([0; 256], [0; 8_704]);
+            let (mut verdicts, mut text) = ([0; VERDICT_BYTES], [0; TEXT_BYTES]);
             let (_, _, bytes) =
                 marks::judge(&reached, &list, &mut verdicts, &mut text).expect("it is judged");
             reached = text[..bytes as usize].to_vec();
@@ -313,8 +313,8 @@ fn rounds_from_a_stage() {
             let now = Program::read(&reached).expect("a reached program is taken");
             let (values, input) = (generate::values(random), generate::word(random));
             assert_eq!(first_difference(&given, &now, values, input, 300), None);
-            let [one, two] =
-                [&given, &now].map(|program| machine::run_program(program, values, input, 300, &OURS));
+            let [one, two] = [&given, &now]
+                .map(|program| machine::run_program(program, values, input, 300, &OURS));
             assert!(one.is_alike(&two), "{one:?} {two:?}");
         }
         changed += usize::from(reached != given.text());
@@ -333,5 +333,5 @@ fn live_variables_may_differ_after_two_rounds() {
     assert_eq!((verdicts, &twice[..]), (vec![0], "read i0\nskip\nskip\nwrite i0\n"));
     let [one, two] =
         [given, twice].map(|text| Program::read(text.as_bytes()).expect("it is taken"));
-    assert_eq!(first_difference(&one, &two, [5; 32], 3, 20), None);
+    assert_eq!(first_difference(&one, &two, [5; VALUES], 3, 20), None);
 }

@@ -5,7 +5,7 @@ use crate::condition::{Checker, Condition};
 use crate::desk;
 use crate::generate::{self, Random};
 use crate::liveness::{agrees, differing, first_disagreement, Liveness};
-use crate::machine::{Run, State, Values};
+use crate::machine::{Run, State, Values, VALUES};
 use crate::marks::{self, Judge, Kind, Mark};
 use crate::program::{is_kept, Program, Statement, VARIABLES};
 use crate::steps::Steps;
@@ -78,7 +78,7 @@ fn sets_are_as_the_condition_says() {
         let given = generate::program(random, size);
         let (live, steps) = (Liveness::new(&given), Steps::new(&given));
         let few = if size > 40 { random.pick(&[0, 8, 16, 24])..VARIABLES } else { 0..VARIABLES };
-        for x in few.take(if size > 40 { 8 } else { 32 }) {
+        for x in few.take(if size > 40 { 8 } else { 64 }) {
             let condition = condition(x);
             let mut checker = Checker::new(&given, &steps, &condition);
             for n in 1..=given.count() {
@@ -133,7 +133,7 @@ fn a_sum_and_a_dropped_product() {
     let list = "4: mark(cse, i1, i0 + 1) / 3: mark(rm, i5, i0 * 2)";
     let (one, other) = (program(given), made(given, list));
     assert_eq!(other, program("read i0 / i1 := i0 + 1 / skip / i2 := i1 / i5 := i2 / write i5"));
-    let (a, b) = (trace(&one, [0; 32], 4), trace(&other, [0; 32], 4));
+    let (a, b) = (trace(&one, [0; VALUES], 4), trace(&other, [0; VALUES], 4));
     let fives =
         |trace: &[(u32, Values)]| -> Vec<u32> { trace.iter().map(|step| step.1[5]).collect() };
     assert_eq!((fives(&a), fives(&b)), (vec![0, 0, 0, 8, 8, 5], vec![0, 0, 0, 0, 0, 5]));
@@ -146,7 +146,7 @@ fn a_sum_and_a_dropped_product() {
         let wanted: &[u8] = if matches!(one.0, 4 | 5) { &[5] } else { &[] };
         assert_eq!(differing(&one.1, &other.1), wanted);
     }
-    assert_eq!(first_disagreement(&one, &other, [0; 32], 4, 100), None);
+    assert_eq!(first_disagreement(&one, &other, [0; VALUES], 4, 100), None);
     let compared = desk::compare(lines(given).as_bytes(), lines(list).as_bytes(), b"4\n100\n");
     let zeros = " 0".repeat(8);
     let ended = |ticks| format!("ended 5 steps 6 ticks {ticks} kept{zeros}\n");
@@ -166,8 +166,8 @@ fn a_pair_that_faults() {
     let (verdicts, new) = all_judged(given, list);
     assert_eq!(verdicts, [0]);
     let [one, other] = [given, &new].map(|text| Program::read(text.as_bytes()).expect("a program"));
-    assert_eq!(first_disagreement(&one, &other, [7; 32], 5, 100), None);
-    let (a, b) = (trace(&one, [7; 32], 5), trace(&other, [7; 32], 5));
+    assert_eq!(first_disagreement(&one, &other, [7; VALUES], 5, 100), None);
+    let (a, b) = (trace(&one, [7; VALUES], 5), trace(&other, [7; VALUES], 5));
     let last = |trace: &[(u32, Values)]| *trace.last().expect("a step");
     assert_eq!((last(&a).0, last(&b).0), (4, 4));
     assert_eq!(differing(&last(&a).1, &last(&b).1), [3]);
@@ -187,14 +187,14 @@ fn a_kept_gear_set_on_one_arm() {
     assert_eq!(verdicts, [14]);
     // Made all the same, the arm that doesn't set it shows it at once, before `write`.
     let wrong = program(&given.replacen("i24 := i0 + 1", "skip", 1));
-    assert_eq!(first_disagreement(&program(given), &wrong, [7; 32], 1, 100), Some(2));
-    assert_eq!(first_disagreement(&program(given), &wrong, [7; 32], 0, 100), Some(2));
+    assert_eq!(first_disagreement(&program(given), &wrong, [7; VALUES], 1, 100), Some(2));
+    assert_eq!(first_disagreement(&program(given), &wrong, [7; VALUES], 0, 100), Some(2));
     // Set on both arms it is dead before them.
     let given = "read i0 / i24 := i0 + 1 / if i0 goto 4 else 6 / i24 := 3 / if i0 goto 7 else 7 / i24 := i0 / write i0";
     let (one, other) = (program(given), made(given, "2: mark(rm, i24, i0 + 1)"));
     for input in [0, 1, 9] {
-        assert_eq!(first_disagreement(&one, &other, [7; 32], input, 100), None);
-        let (a, b) = (trace(&one, [7; 32], input), trace(&other, [7; 32], input));
+        assert_eq!(first_disagreement(&one, &other, [7; VALUES], input, 100), None);
+        let (a, b) = (trace(&one, [7; VALUES], input), trace(&other, [7; VALUES], input));
         let differ: Vec<bool> = a.iter().zip(&b).map(|(a, b)| a.1 != b.1).collect();
         let wanted: &[bool] = match input {
             0 => &[false, false, true, true, false],
@@ -210,7 +210,7 @@ fn a_copy_before_a_loop() {
     let given = "read i0 / i1 := i2 / i6 := 1 / i3 := i3 + i1 / i6 := i3 * i1 / i0 := i0 - i1 / if i0 goto 4 else 8 / write i3";
     let list = "4: mark(rpl, i1, i2) / 5: mark(rm, i6, i3 * i1) / 3: mark(rm, i6, 1) / 6: mark(rpl, i1, i2)";
     let (one, other) = (program(given), made(given, list));
-    let mut values = [0; 32];
+    let mut values = [0; VALUES];
     values[2] = 2;
     assert_eq!(first_disagreement(&one, &other, values, 8, 1_000), None);
     let (a, b) = (trace(&one, values, 8), trace(&other, values, 8));
@@ -230,7 +230,7 @@ fn a_copy_before_a_loop() {
 fn other_readings_disagree() {
     let given = "read i0 / i5 := i0 / i5 := 7 / write i5";
     let (one, other) = (program(given), made(given, "2: mark(rm, i5, i0)"));
-    let (a, b) = (trace(&one, [0; 32], 4), trace(&other, [0; 32], 4));
+    let (a, b) = (trace(&one, [0; VALUES], 4), trace(&other, [0; VALUES], 4));
     assert_eq!(differing(&a[2].1, &b[2].1), [5]);
     let live = Liveness::new(&one);
     assert!(!live.is_live(3, 5) && live.is_live(4, 5));

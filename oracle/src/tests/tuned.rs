@@ -1,10 +1,10 @@
 //! The tuned calls against the plain ones.
 
-use crate::condition::tabulate;
+use crate::condition::{tabulate, TABLE_WORDS};
 use crate::forcing::{force, Arm, UNFORCED};
 use crate::generate::{self, Random, WrongDriver};
 use crate::machine::run;
-use crate::marks::{self, judge};
+use crate::marks::{self, judge, TEXT_BYTES, VERDICT_BYTES};
 use crate::pricing;
 use crate::program::{Program, MOST_LINES};
 use crate::tuned;
@@ -52,7 +52,8 @@ fn tuned_tables_are_the_plain_ones() {
         };
         let condition =
             if random.chance(15) { generate::damage(random, &condition) } else { condition };
-        let room = random.pick(&[256, 256, 256, 257, 255]);
+        let most = TABLE_WORDS;
+        let room = random.pick(&[most, most, most, most + 1, most - 1]);
         let (mut one, mut other) = (vec![7; room], vec![7; room]);
         assert_eq!(
             tuned::tabulate(&text, &condition, &mut one),
@@ -79,8 +80,10 @@ fn tuned_judgements_are_the_plain_ones() {
             1..=3 => generate::damage(random, &list),
             _ => list,
         };
-        let verdict_room = random.pick(&[256, 256, 256, 300, 255]);
-        let text_room = random.pick(&[8_704, 8_704, 8_704, 8_704, 8_703, 8_192]);
+        let most = VERDICT_BYTES;
+        let verdict_room = random.pick(&[most, most, most, most + 44, most - 1]);
+        let text_room =
+            random.pick(&[TEXT_BYTES, TEXT_BYTES, TEXT_BYTES, TEXT_BYTES, TEXT_BYTES - 1, 8_704]);
         let wanted = {
             let (mut verdicts, mut new) = (vec![7; verdict_room], vec![7; text_room]);
             let answer = judge(&text, &list, &mut verdicts, &mut new);
@@ -156,7 +159,8 @@ fn tuned_games_are_the_plain_ones() {
         let condition = generate::goal(random, &program);
         let condition =
             if random.chance(10) { generate::damage(random, &condition) } else { condition };
-        let room = random.pick(&[256, 256, 256, 257, 255]);
+        let most = TABLE_WORDS;
+        let room = random.pick(&[most, most, most, most + 1, most - 1]);
         let (mut one, mut other) = (vec![7; room], vec![7; room]);
         let (mut number, mut arm) = ([7; MOST_LINES], [8; MOST_LINES]);
         let answer = tuned::force(&text, &driver, &condition, &mut one, &mut number, &mut arm);

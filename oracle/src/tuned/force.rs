@@ -1,14 +1,15 @@
 //! What a driver can force, by a queue of the statements that have a number.
 
-use super::flow::{has, put, Flow, Row};
+use super::filled::Filled;
+use super::flow::{for_each, has, is_short, put, At, Flow, Row, SHORT};
 use super::read::Program;
 use super::tabulate::{tabulate_program, whole};
-use crate::condition::TABLE_WORDS;
+use crate::condition::{PART_WORDS, TABLE_WORDS};
 use crate::forcing::UNFORCED;
 use crate::program::{Statement, MOST_LINES, VARIABLES};
 
 /// The variables of a list, as bits.
-fn mask(list: &[u8]) -> Option<u32> {
+fn mask(list: &[u8]) -> Option<u64> {
     if list.is_empty() {
         return Some(0);
     }
@@ -39,36 +40,30 @@ fn mask(list: &[u8]) -> Option<u32> {
 }
 
 /// Fills the numbers and the arms of a program's statements.
-fn fill(
+fn fill<const W: usize>(
     program: &Program,
-    mask: u32,
-    met: &Row,
+    mask: u64,
+    met: &Row<W>,
     number: &mut [u32; MOST_LINES],
     arm: &mut [u8; MOST_LINES],
 ) {
-    let flow = Flow::new(program);
+    let flow = Flow::<W>::new(program);
     let statements = program.statements();
-    let mut his: Row = [0; 4];
+    let mut his: Row<W> = [0; W];
     for (at, statement) in statements.iter().enumerate() {
         if matches!(*statement, Statement::Branch { tested, .. } if mask >> tested & 1 == 1) {
-            put(&mut his, at as u8);
+            put(&mut his, at as At);
         }
     }
     number[..statements.len()].fill(UNFORCED);
     arm[..statements.len()].fill(0);
-    let (mut queue, mut end) = ([0; MOST_LINES], 0);
-    for (word, mut bits) in met.iter().copied().enumerate() {
-        while bits != 0 {
-            let at = 64 * word as u8 + bits.trailing_zeros() as u8;
-            number[usize::from(at)] = 0;
-            queue[end] = at;
-            end += 1;
-            bits &= bits - 1;
-        }
-    }
+    let mut queue: Filled<At, MOST_LINES> = Filled::new();
+    for_each(met, |at| {
+        number[usize::from(at)] = 0;
+        queue.push(at);
+    });
     let mut start = 0;
-    while start < end {
-        let to = queue[start & 255];
+    while let Some(&to) = queue.items().get(start) {
         start += 1;
         let here = number[usize::from(to)];
         for &at in flow.predecessors(to) {
@@ -77,15 +72,14 @@ fn fill(
             let later = number[usize::from(then)].max(number[usize::from(other)]);
             if number[usize::from(at)] == UNFORCED && (has(&his, at) || later <= here) {
                 number[usize::from(at)] = here + 1;
-                queue[end & 255] = at;
-                end += 1;
+                queue.push(at);
             }
         }
     }
     for (at, statement) in statements.iter().enumerate() {
         if let Statement::Branch { then, other, .. } = *statement {
             let (then, other) = (number[then as usize - 1], number[other as usize - 1]);
-            arm[at] = match (has(&his, at as u8), number[at]) {
+            arm[at] = match (has(&his, at as At), number[at]) {
                 (true, 0 | UNFORCED) => 0,
                 (true, _) => 1 + u8::from(other < then),
                 (false, UNFORCED) => 1 + u8::from(then != UNFORCED),
@@ -108,9 +102,14 @@ pub fn force(
     if table.len() < TABLE_WORDS {
         return Err(1);
     }
-    let program = Program::read(program)?;
+    let mut given = Program::empty();
+    given.read(program)?;
     let mask = mask(driver).ok_or(22)?;
-    let answer = tabulate_program(&program, condition, table)?;
-    fill(&program, mask, &whole(table, answer.0), number, arm);
+    let answer = tabulate_program(&given, condition, table)?;
+    if is_short(&given) {
+        fill::<SHORT>(&given, mask, &whole(table, answer.0), number, arm);
+    } else {
+        fill::<PART_WORDS>(&given, mask, &whole(table, answer.0), number, arm);
+    }
     Ok(answer)
 }

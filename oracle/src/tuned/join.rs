@@ -10,9 +10,10 @@ pub fn join(road: &[u8], creeper: &[u8], text: &mut [u8]) -> Result<(u32, u32), 
     if text.len() < TEXT_BYTES {
         return Err(1);
     }
-    let road = Program::read(road)?;
-    let creeper = Program::read(creeper)?;
-    let (first, second) = (road.statements(), creeper.statements());
+    let (mut one, mut other) = (Program::empty(), Program::empty());
+    one.read(road)?;
+    other.read(creeper)?;
+    let (first, second) = (one.statements(), other.statements());
     let further = first.len() - 1;
     let count = further + second.len();
     if count > MOST_LINES {

@@ -1,43 +1,43 @@
 //! Verdicts and rewriting.
 
-use super::flow::{and, has, put, without, Flow, Row};
+use super::flow::{and, has, is_short, put, without, At, Flow, Row, Worklist, SHORT};
 use super::read::{List, Program};
 use super::tabulate::Rows;
 use super::write::Writer;
-use crate::condition::Direction;
+use crate::condition::{Direction, PART_WORDS};
 use crate::marks::{Kind, Mark, TEXT_BYTES, VERDICT_BYTES};
 use crate::pricing::{price, Prices};
 use crate::program::{Expression, Operand, Operator, Statement, MOST_LINES};
 
 /// What verdicts are found from.
-struct Judge {
-    flow: Flow,
-    rows: Rows,
+struct Judge<const W: usize> {
+    flow: Flow<W>,
+    rows: Rows<W>,
 }
 
 /// The statements that a search has to look at yet, and all that it met.
-struct Search {
-    met: Row,
-    items: [u8; 256],
-    count: usize,
+struct Search<const W: usize> {
+    met: Row<W>,
+    list: Worklist,
 }
 
-impl Search {
-    fn new() -> Search {
-        Search { met: [0; 4], items: [0; 256], count: 0 }
+impl<const W: usize> Search<W> {
+    #[inline(always)]
+    fn new() -> Search<W> {
+        Search { met: [0; W], list: Worklist::new() }
     }
 
-    fn meet(&mut self, at: u8) {
+    #[inline(always)]
+    fn meet(&mut self, at: At) {
         if !has(&self.met, at) {
             put(&mut self.met, at);
-            self.items[self.count & 255] = at;
-            self.count += 1;
+            self.list.push(at);
         }
     }
 
-    fn next(&mut self) -> Option<u8> {
-        self.count = self.count.checked_sub(1)?;
-        Some(self.items[self.count & 255])
+    #[inline(always)]
+    fn next(&mut self) -> Option<At> {
+        self.list.pop()
     }
 }
 
@@ -86,12 +86,12 @@ impl Source for Computed {
     }
 }
 
-impl Judge {
+impl<const W: usize> Judge<W> {
     /// Whether no path from behind a statement comes to a use before a definition.
-    fn is_dead(&self, x: u8, at: u8) -> bool {
+    fn is_dead(&self, x: u8, at: At) -> bool {
         let (defining, using) =
             (&self.rows.defining[usize::from(x)], &self.rows.using[usize::from(x)]);
-        let mut search = Search::new();
+        let mut search = Search::<W>::new();
         self.flow.successors(at).iter().for_each(|&next| search.meet(next));
         while let Some(at) = search.next() {
             if has(using, at) {
@@ -105,7 +105,7 @@ impl Judge {
     }
 
     /// The same by labelling every statement.
-    fn is_dead_by_labels(&self, x: u8, at: u8) -> bool {
+    fn is_dead_by_labels(&self, x: u8, at: At) -> bool {
         let unchanged = without(&self.flow.all, &self.rows.defining[usize::from(x)]);
         let used =
             self.flow.some_until(Direction::Forward, &unchanged, &self.rows.using[usize::from(x)]);
@@ -113,18 +113,19 @@ impl Judge {
     }
 
     /// Where what an assignment before has stored still holds: nothing of it is defined, and the program has started.
-    fn carrying(&self, source: impl Source) -> Row {
+    fn carrying(&self, source: impl Source) -> Row<W> {
         let mut row = self.rows.transparent(&self.flow.all, &source.right());
         row = without(&row, &self.rows.defining[usize::from(source.variable())]);
-        without(&row, &[1, 0, 0, 0])
+        row[0] &= !1;
+        row
     }
 
     /// Whether each path back from before a statement comes to the source, or goes on for ever, and all its other
     /// places carry what it stores.
-    fn is_held(&self, program: &Program, source: impl Source, at: u8) -> bool {
+    fn is_held(&self, program: &Program, source: impl Source, at: At) -> bool {
         let carrying = self.carrying(source);
-        let mut search = Search::new();
-        let step = |search: &mut Search, at: u8| match self.flow.predecessors(at) {
+        let mut search = Search::<W>::new();
+        let step = |search: &mut Search<W>, at: At| match self.flow.predecessors(at) {
             [] => search.meet(at),
             sources => sources.iter().for_each(|&source| search.meet(source)),
         };
@@ -141,11 +142,11 @@ impl Judge {
     }
 
     /// The same by labelling every statement.
-    fn is_held_by_labels(&self, program: &Program, source: impl Source, at: u8) -> bool {
-        let mut sources = [0; 4];
+    fn is_held_by_labels(&self, program: &Program, source: impl Source, at: At) -> bool {
+        let mut sources = [0; W];
         for (at, statement) in program.statements().iter().enumerate() {
             if source.is(statement) {
-                put(&mut sources, at as u8);
+                put(&mut sources, at as At);
             }
         }
         let others = without(&self.flow.all, &sources);
@@ -200,22 +201,62 @@ fn make(mark: &Mark, statement: &mut Statement) {
 /// Stands for the verdict of an `rm` until each `cse` is judged.
 const UNDECIDED: u8 = 255;
 
+/// A way to find whether a mark's condition is true at its statement.
+trait Way {
+    fn is_true<const W: usize>(judge: &Judge<W>, program: &Program, mark: &Mark, at: At) -> bool;
+}
+
+/// By a search from the statement.
+struct BySearch;
+
+impl Way for BySearch {
+    #[inline(always)]
+    fn is_true<const W: usize>(judge: &Judge<W>, program: &Program, mark: &Mark, at: At) -> bool {
+        match mark.kind {
+            Kind::Remove(_) => judge.is_dead(mark.variable, at),
+            Kind::Replace(a) => judge.is_held(program, Copied(mark.variable, a), at),
+            Kind::Reuse(e) => judge.is_held(program, Computed(mark.variable, e), at),
+        }
+    }
+}
+
+/// By labelling every statement.
+struct ByLabels;
+
+impl Way for ByLabels {
+    #[inline(always)]
+    fn is_true<const W: usize>(judge: &Judge<W>, program: &Program, mark: &Mark, at: At) -> bool {
+        match mark.kind {
+            Kind::Remove(_) => judge.is_dead_by_labels(mark.variable, at),
+            Kind::Replace(a) => judge.is_held_by_labels(program, Copied(mark.variable, a), at),
+            Kind::Reuse(e) => judge.is_held_by_labels(program, Computed(mark.variable, e), at),
+        }
+    }
+}
+
 /// Judges the marks of a list, and makes the accepted ones in the program; how many there are, and how many are accepted.
+fn make_all<T: Way>(program: &mut Program, list: &List, verdicts: &mut [u8]) -> (u32, u32) {
+    if is_short(program) {
+        make_in::<T, SHORT>(program, list, verdicts)
+    } else {
+        make_in::<T, PART_WORDS>(program, list, verdicts)
+    }
+}
+
 #[inline(always)]
-fn make_all(
+fn make_in<T: Way, const W: usize>(
     program: &mut Program,
     list: &List,
     verdicts: &mut [u8],
-    is_true: impl Fn(&Judge, &Program, &Mark, u8) -> bool,
 ) -> (u32, u32) {
-    let mut judge = Judge { flow: Flow::new(program), rows: Rows::new(program) };
-    let (mut named, mut accepted) = ([0; 4], 0);
+    let mut judge = Judge::<W> { flow: Flow::new(program), rows: Rows::new(program) };
+    let (mut named, mut accepted) = ([0; W], 0);
     for (mark, verdict) in list.marks().iter().zip(verdicts.iter_mut()) {
         let count = judge.flow.count as u32;
         *verdict = if !(1..=count).contains(&mark.number) {
             11
         } else {
-            let at = (mark.number - 1) as u8;
+            let at = (mark.number - 1) as At;
             if has(&named, at) {
                 12
             } else {
@@ -226,7 +267,7 @@ fn make_all(
                     18
                 } else if matches!(mark.kind, Kind::Remove(_)) {
                     UNDECIDED
-                } else if is_true(&judge, program, mark, at) {
+                } else if T::is_true(&judge, program, mark, at) {
                     accepted += 1;
                     // Other kinds don't ask for uses.
                     if matches!(mark.kind, Kind::Reuse(_)) {
@@ -241,7 +282,7 @@ fn make_all(
     }
     for (mark, verdict) in list.marks().iter().zip(verdicts.iter_mut()) {
         if *verdict == UNDECIDED {
-            let is_true = is_true(&judge, program, mark, (mark.number - 1) as u8);
+            let is_true = T::is_true(&judge, program, mark, (mark.number - 1) as At);
             accepted += u32::from(is_true);
             *verdict = if is_true { 0 } else { 14 };
         }
@@ -254,38 +295,28 @@ fn make_all(
     (list.marks().len() as u32, accepted)
 }
 
-/// Whether a mark's condition is true, by a search from its statement.
-#[inline(always)]
-fn is_true_by_search(judge: &Judge, program: &Program, mark: &Mark, at: u8) -> bool {
-    match mark.kind {
-        Kind::Remove(_) => judge.is_dead(mark.variable, at),
-        Kind::Replace(a) => judge.is_held(program, Copied(mark.variable, a), at),
-        Kind::Reuse(e) => judge.is_held(program, Computed(mark.variable, e), at),
-    }
-}
-
 /// Makes the accepted marks of a list in the program.
 pub fn rewrite(program: &mut Program, list: &List) {
-    make_all(program, list, &mut [0; VERDICT_BYTES], is_true_by_search);
+    make_all::<BySearch>(program, list, &mut [0; VERDICT_BYTES]);
 }
 
 #[inline(always)]
-fn judge_with(
+fn judge_with<T: Way>(
     program: &[u8],
     marks: &[u8],
     verdicts: &mut [u8],
     text: &mut [u8],
-    is_true: impl Fn(&Judge, &Program, &Mark, u8) -> bool,
 ) -> Result<(u32, u32, u32), u8> {
     if verdicts.len() < VERDICT_BYTES || text.len() < TEXT_BYTES {
         return Err(1);
     }
-    let mut program = Program::read(program)?;
+    let mut given = Program::empty();
+    given.read(program)?;
     let mut list = List::empty();
     list.read(marks)?;
-    let (count, accepted) = make_all(&mut program, &list, verdicts, is_true);
+    let (count, accepted) = make_all::<T>(&mut given, &list, verdicts);
     let mut writer = Writer::new(text);
-    program.statements().iter().for_each(|statement| writer.statement(statement));
+    given.statements().iter().for_each(|statement| writer.statement(statement));
     Ok((count, accepted, writer.written()))
 }
 
@@ -297,7 +328,7 @@ pub fn judge(
     verdicts: &mut [u8],
     text: &mut [u8],
 ) -> Result<(u32, u32, u32), u8> {
-    judge_with(program, marks, verdicts, text, is_true_by_search)
+    judge_with::<BySearch>(program, marks, verdicts, text)
 }
 
 /// Puts the price of each statement, and tells their sum.
@@ -319,15 +350,14 @@ pub fn report(
     before: &mut [u32; MOST_LINES],
     after: &mut [u32; MOST_LINES],
 ) -> Result<(u32, u32, u32, i32), u8> {
-    let mut program = Program::read(program)?;
-    let count = program.statements().len();
-    let mut old = [0; MOST_LINES];
-    let given = put_prices(prices, &program, &mut old);
+    let mut text = Program::empty();
+    text.read(program)?;
     let mut list = List::empty();
     list.read(marks)?;
-    rewrite(&mut program, &list);
-    before[..count].copy_from_slice(&old[..count]);
-    let rewritten = put_prices(prices, &program, after);
+    let given = put_prices(prices, &text, before);
+    rewrite(&mut text, &list);
+    let rewritten = put_prices(prices, &text, after);
+    let count = text.statements().len();
     Ok((count as u32, given, rewritten, given as i32 - rewritten as i32))
 }
 
@@ -338,9 +368,5 @@ pub fn judge_by_labels(
     verdicts: &mut [u8],
     text: &mut [u8],
 ) -> Result<(u32, u32, u32), u8> {
-    judge_with(program, marks, verdicts, text, |judge, program, mark, at| match mark.kind {
-        Kind::Remove(_) => judge.is_dead_by_labels(mark.variable, at),
-        Kind::Replace(a) => judge.is_held_by_labels(program, Copied(mark.variable, a), at),
-        Kind::Reuse(e) => judge.is_held_by_labels(program, Computed(mark.variable, e), at),
-    })
+    judge_with::<ByLabels>(program, marks, verdicts, text)
 }

@@ -1,24 +1,25 @@
 //! Lists of readers and writers: a statement's bits set in the lent words, those of changed statements cleared before.
 
-use super::flow::put;
+use super::flow::{for_each, put, At};
 use super::judge::rewrite;
 use super::read::{List, Program};
+use crate::condition::PART_WORDS;
 use crate::listing::{Counts, LIST_WORDS};
 use crate::program::{Expression, Operand, Statement, FIRST_KEPT, KEPT, VARIABLES};
 
 /// The words of a set.
-const SET: usize = 4;
+const SET: usize = PART_WORDS;
 
 /// Sets the bits of a statement, none of which is set.
 #[inline(always)]
 fn note(list: &mut [u64; LIST_WORDS], at: usize, statement: &Statement) {
     let (word, bit) = (at / 64, 1 << (at % 64));
-    let mut define = |x: u8| list[2 * SET * usize::from(x & 31) + word] |= bit;
+    let mut define = |x: u8| list[2 * SET * usize::from(x % VARIABLES) + word] |= bit;
     match *statement {
         Statement::Read(x) | Statement::Assign(x, _) => define(x),
         _ => {}
     }
-    let mut using = |x: u8| list[2 * SET * usize::from(x & 31) + SET + word] |= bit;
+    let mut using = |x: u8| list[2 * SET * usize::from(x % VARIABLES) + SET + word] |= bit;
     match *statement {
         Statement::Write(x) => {
             using(x);
@@ -56,9 +57,10 @@ fn words(list: &mut [u64]) -> Result<&mut [u64; LIST_WORDS], u8> {
 /// The call: makes the program's list; its counts, or the refusal, 1 or 2 to 5.
 pub fn list(program: &[u8], list: &mut [u64]) -> Result<Counts, u8> {
     let list = words(list)?;
-    let program = Program::read(program)?;
+    let mut given = Program::empty();
+    given.read(program)?;
     list.fill(0);
-    for (at, statement) in program.statements().iter().enumerate() {
+    for (at, statement) in given.statements().iter().enumerate() {
         note(list, at, statement);
     }
     Ok(counts(list))
@@ -68,7 +70,8 @@ pub fn list(program: &[u8], list: &mut [u64]) -> Result<Counts, u8> {
 /// 2 to 5, 9 or 10.
 pub fn relist(program: &[u8], marks: &[u8], list: &mut [u64]) -> Result<Counts, u8> {
     let list = words(list)?;
-    let given = Program::read(program)?;
+    let mut given = Program::empty();
+    given.read(program)?;
     let mut asked = List::empty();
     asked.read(marks)?;
     let mut new = given.clone();
@@ -76,18 +79,15 @@ pub fn relist(program: &[u8], marks: &[u8], list: &mut [u64]) -> Result<Counts, 
     let mut changed = [0; SET];
     for (at, (before, after)) in given.statements().iter().zip(new.statements()).enumerate() {
         if before != after {
-            put(&mut changed, at as u8);
+            put(&mut changed, at as At);
         }
     }
     for set in list.chunks_exact_mut(SET) {
         set.iter_mut().zip(changed).for_each(|(word, changed)| *word &= !changed);
     }
-    for (word, mut bits) in changed.into_iter().enumerate() {
-        while bits != 0 {
-            let at = 64 * word + bits.trailing_zeros() as usize;
-            note(list, at, &new.statements()[at]);
-            bits &= bits - 1;
-        }
-    }
+    for_each(&changed, |at| {
+        let at = usize::from(at);
+        note(list, at, &new.statements()[at]);
+    });
     Ok(counts(list))
 }

@@ -1,7 +1,10 @@
 //! Readers of the one spelling of each thing.
 
+use super::filled::Filled;
 use crate::marks::{Kind, Mark, MOST_MARKS};
-use crate::program::{Expression, Operand, Operator, Statement, LARGEST, LEAST, MOST_LINES};
+use crate::program::{
+    Expression, Operand, Operator, Statement, LARGEST, LEAST, MOST_LINES, VARIABLES,
+};
 
 pub struct Cursor<'a> {
     text: &'a [u8],
@@ -84,13 +87,13 @@ impl<'a> Cursor<'a> {
         self.byte(b'i')?;
         let mut value = self.digit()?;
         self.pass();
-        if (1..=3).contains(&value) {
+        if value != 0 {
             if let Some(digit) = self.digit() {
                 value = 10 * value + digit;
                 self.pass();
             }
         }
-        (value < 32).then_some(value as u8)
+        (value < u32::from(VARIABLES)).then_some(value as u8)
     }
 
     fn operand(&mut self) -> Option<Operand> {
@@ -175,29 +178,29 @@ impl<'a> Cursor<'a> {
 /// A program that is taken.
 #[derive(Clone)]
 pub struct Program {
-    statements: [Statement; MOST_LINES],
-    count: usize,
+    statements: Filled<Statement, MOST_LINES>,
 }
 
 impl Program {
-    pub fn read(text: &[u8]) -> Result<Program, u8> {
-        let mut program = Program { statements: [Statement::Skip; MOST_LINES], count: 0 };
+    pub fn empty() -> Program {
+        Program { statements: Filled::new() }
+    }
+
+    /// Fills an empty program; or the refusal, 2 to 5. It isn't answered, as with `List`.
+    pub fn read(&mut self, text: &[u8]) -> Result<(), u8> {
         let mut cursor = Cursor::new(text);
         while !cursor.is_at_end() {
             let statement = cursor.statement().ok_or(2)?;
             cursor.byte(b'\n').ok_or(2)?;
-            if let Some(place) = program.statements.get_mut(program.count) {
-                *place = statement;
-            }
-            program.count += 1;
+            self.statements.push(statement);
         }
-        let count = program.count;
+        let count = self.statements.count();
         if !(2..=MOST_LINES).contains(&count) {
             return Err(3);
         }
         let targets = 2..=count as u32;
         let (mut misplaced, mut outside) = (false, false);
-        for (at, statement) in program.statements().iter().enumerate() {
+        for (at, statement) in self.statements().iter().enumerate() {
             let (mut is_read, mut is_write) = (false, false);
             match statement {
                 Statement::Read(_) => is_read = true,
@@ -215,28 +218,26 @@ impl Program {
         if outside {
             return Err(5);
         }
-        Ok(program)
+        Ok(())
     }
 
     pub fn statements(&self) -> &[Statement] {
-        &self.statements[..self.count]
+        self.statements.items()
     }
 
     pub fn statements_mut(&mut self) -> &mut [Statement] {
-        &mut self.statements[..self.count]
+        self.statements.items_mut()
     }
 }
 
 /// A list that is taken.
 pub struct List {
-    marks: [Mark; MOST_MARKS],
-    count: usize,
+    marks: Filled<Mark, MOST_MARKS>,
 }
 
 impl List {
     pub fn empty() -> List {
-        let none = Mark { number: 0, variable: 0, kind: Kind::Replace(Operand::Constant(0)) };
-        List { marks: [none; MOST_MARKS], count: 0 }
+        List { marks: Filled::new() }
     }
 
     /// Fills an empty list. It isn't answered, since to move one takes as long as to read a dozen lines.
@@ -245,18 +246,15 @@ impl List {
         while !cursor.is_at_end() {
             let mark = cursor.mark().ok_or(9)?;
             cursor.byte(b'\n').ok_or(9)?;
-            if let Some(place) = self.marks.get_mut(self.count) {
-                *place = mark;
-            }
-            self.count += 1;
+            self.marks.push(mark);
         }
-        if self.count > MOST_MARKS {
+        if self.marks.count() > MOST_MARKS {
             return Err(10);
         }
         Ok(())
     }
 
     pub fn marks(&self) -> &[Mark] {
-        &self.marks[..self.count]
+        self.marks.items()
     }
 }

@@ -2,9 +2,11 @@
 
 use std::hash::{Hash, Hasher};
 
+use super::filled::Filled;
+use super::flow::{is_short, Row, SHORT};
 use super::read::Program;
-use super::tabulate::{counted, read, Found, Parts, NONE};
-use crate::condition::{Atom, Part, LONGEST_TEXT, MOST_PARTS};
+use super::tabulate::{counted, put_row, read, Found, Parts};
+use crate::condition::{Part, LONGEST_TEXT, MOST_PARTS, PART_WORDS};
 use crate::review::{Reviewed, MOST_TABLES, REVIEW_LINES, REVIEW_WORDS};
 
 const HASHES: usize = 256;
@@ -12,9 +14,9 @@ const HASHES: usize = 256;
 /// Parts that differ, in the order in which they first end. The operands of each are named by their tables, so
 /// parts are equal where they are spelled alike.
 struct Numbering {
-    parts: [Part; MOST_TABLES],
-    /// One more than there may be, where there are more.
-    count: usize,
+    parts: Filled<Part, MOST_TABLES>,
+    /// Whether there are more than there may be.
+    is_over: bool,
     /// For each hash the parts that have it, each by its number and 1 more, 0 at the end of the list.
     heads: [u8; HASHES],
     links: [u8; MOST_TABLES],
@@ -67,20 +69,19 @@ impl Parts for Numbering {
         let hash = mixer.finish() as usize;
         let mut link = usize::from(self.heads[hash]);
         while link != 0 {
-            if self.parts[link - 1] == part {
+            if self.parts.items()[link - 1] == part {
                 return link - 1;
             }
             link = usize::from(self.links[link - 1]);
         }
-        if self.count >= MOST_TABLES {
-            self.count = MOST_TABLES + 1;
+        let number = self.parts.count();
+        if number >= MOST_TABLES {
+            self.is_over = true;
             return 0;
         }
-        let number = self.count;
-        self.parts[number] = part;
+        self.parts.push(part);
         self.links[number] = self.heads[hash];
         self.heads[hash] = number as u8 + 1;
-        self.count += 1;
         number
     }
 }
@@ -106,7 +107,8 @@ pub fn review(program: &[u8], conditions: &[u8], table: &mut [u64]) -> Result<Re
     if table.len() < REVIEW_WORDS {
         return Err(1);
     }
-    let program = Program::read(program)?;
+    let mut given = Program::empty();
+    given.read(program)?;
     let is_unfinished = !conditions.is_empty() && !conditions.ends_with(b"\n");
     let ends = conditions.iter().filter(|&&byte| byte == b'\n').count();
     let lines = ends + usize::from(is_unfinished);
@@ -114,8 +116,8 @@ pub fn review(program: &[u8], conditions: &[u8], table: &mut [u64]) -> Result<Re
         return Err(16);
     }
     let mut numbering = Numbering {
-        parts: [Part::Atom(Atom::True); MOST_TABLES],
-        count: 0,
+        parts: Filled::new(),
+        is_over: false,
         heads: [0; HASHES],
         links: [0; MOST_TABLES],
         occurrences: 0,
@@ -125,21 +127,36 @@ pub fn review(program: &[u8], conditions: &[u8], table: &mut [u64]) -> Result<Re
         reviewed.table_of[j] = number(&mut numbering, line)? as u32;
         reviewed.parts[j] = numbering.occurrences as u32;
     }
-    if numbering.count > MOST_TABLES {
+    if numbering.is_over {
         return Err(17);
     }
-    reviewed.tables = numbering.count as u32;
-    let found = Found::new(&program);
-    let mut done = [NONE; MOST_TABLES];
-    for k in 0..numbering.count {
-        let row = found.row(&numbering.parts[k], &done);
-        done[k] = row;
-        table[4 * k..4 * k + 4].copy_from_slice(&row);
+    let parts = numbering.parts.items();
+    reviewed.tables = parts.len() as u32;
+    if is_short(&given) {
+        fill::<SHORT>(&given, parts, table, &mut reviewed);
+    } else {
+        fill::<PART_WORDS>(&given, parts, table, &mut reviewed);
     }
-    for j in 0..lines {
-        let (satisfied, first) = counted(&done[reviewed.table_of[j] as usize]);
+    Ok(reviewed)
+}
+
+/// Fills the tables, and what is counted of each line's.
+fn fill<const W: usize>(
+    program: &Program,
+    parts: &[Part],
+    table: &mut [u64],
+    reviewed: &mut Reviewed,
+) {
+    let found = Found::<W>::new(program);
+    let mut done: Filled<Row<W>, MOST_TABLES> = Filled::new();
+    for (k, part) in parts.iter().enumerate() {
+        let row = found.row(part, done.items());
+        done.push(row);
+        put_row(table, k, &row);
+    }
+    for j in 0..reviewed.lines as usize {
+        let (satisfied, first) = counted(&done.items()[reviewed.table_of[j] as usize]);
         reviewed.satisfied[j] = satisfied;
         reviewed.first[j] = first;
     }
-    Ok(reviewed)
 }

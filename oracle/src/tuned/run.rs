@@ -1,5 +1,6 @@
 //! Runs of a program that is made into small instructions first.
 
+use super::filled::Filled;
 use super::read::Program;
 use crate::machine::{kept_of, Outcome, Values, LARGEST_BUDGET, VALUES};
 use crate::pricing::{price, Prices};
@@ -30,12 +31,12 @@ struct Instruction {
     b: u16,
 }
 
-const PLACES: usize = 1024;
+/// The values of the variables, and two constants of each statement.
+const PLACES: usize = VALUES + 2 * MOST_LINES;
 
 struct Machine {
-    instructions: [Instruction; MOST_LINES],
-    values: [u32; PLACES],
-    used: u16,
+    instructions: Filled<Instruction, MOST_LINES>,
+    values: Filled<u32, PLACES>,
 }
 
 impl Machine {
@@ -43,21 +44,19 @@ impl Machine {
         match operand {
             Operand::Variable(x) => u16::from(x),
             Operand::Constant(c) => {
-                self.values[usize::from(self.used)] = c;
-                self.used += 1;
-                self.used - 1
+                self.values.push(c);
+                self.values.count() as u16 - 1
             }
         }
     }
 
     fn new(program: &Program, values: &Values, prices: &Prices) -> Machine {
         let none = Instruction { code: Code::Skip, x: 0, price: 0, a: 0, b: 0 };
-        let mut machine =
-            Machine { instructions: [none; MOST_LINES], values: [0; PLACES], used: VALUES as u16 };
-        machine.values[..VALUES].copy_from_slice(values);
-        for (at, statement) in program.statements().iter().enumerate() {
+        let mut machine = Machine { instructions: Filled::new(), values: Filled::of(0, VALUES) };
+        machine.values.items_mut().copy_from_slice(values);
+        for statement in program.statements() {
             let skip = Instruction { price: price(prices, statement) as u16, ..none };
-            machine.instructions[at] = match *statement {
+            let instruction = match *statement {
                 Statement::Read(x) => Instruction { code: Code::Read, x, ..skip },
                 Statement::Write(x) => Instruction { code: Code::Write, x, ..skip },
                 Statement::Skip => skip,
@@ -83,60 +82,54 @@ impl Machine {
                     Instruction { code, x, a: machine.place(a), b: machine.place(b), ..skip }
                 }
             };
+            machine.instructions.push(instruction);
         }
         machine
     }
 
-    #[inline(always)]
-    fn value(&self, place: u16) -> u32 {
-        self.values[usize::from(place) % PLACES]
-    }
-
-    /// The values of the variables.
-    fn variables(&self) -> Values {
-        let mut values = [0; VALUES];
-        values.copy_from_slice(&self.values[..VALUES]);
-        values
-    }
-
     fn run(&mut self, input: u32, budget: u32) -> Outcome {
+        let (instructions, values) = (self.instructions.items(), self.values.items_mut());
+        let variables =
+            |values: &[u32]| -> Values { values[..VALUES].try_into().expect("so many values") };
         let (mut at, mut ticks) = (0, 0);
         for steps in 1..=budget {
-            let Instruction { code, x, price, a, b } = self.instructions[at % MOST_LINES];
+            let Instruction { code, x, price, a, b } = instructions[at];
             ticks += u64::from(price);
             let value = match code {
                 Code::Read => input,
-                Code::Copy => self.value(a),
-                Code::Plus => self.value(a).wrapping_add(self.value(b)),
-                Code::Minus => self.value(a).wrapping_sub(self.value(b)),
-                Code::Times => self.value(a).wrapping_mul(self.value(b)),
+                Code::Copy => values[usize::from(a)],
+                Code::Plus => values[usize::from(a)].wrapping_add(values[usize::from(b)]),
+                Code::Minus => values[usize::from(a)].wrapping_sub(values[usize::from(b)]),
+                Code::Times => values[usize::from(a)].wrapping_mul(values[usize::from(b)]),
                 Code::Divide => {
-                    let divisor = self.value(b) as i32;
+                    let divisor = values[usize::from(b)] as i32;
                     if divisor == 0 {
                         return Outcome::Fault { statement: at as u32 + 1, steps, ticks };
                     }
-                    (self.value(a) as i32).wrapping_div(divisor) as u32
+                    (values[usize::from(a)] as i32).wrapping_div(divisor) as u32
                 }
-                Code::Less => u32::from((self.value(a) as i32) < self.value(b) as i32),
-                Code::Equal => u32::from(self.value(a) == self.value(b)),
+                Code::Less => {
+                    u32::from((values[usize::from(a)] as i32) < values[usize::from(b)] as i32)
+                }
+                Code::Equal => u32::from(values[usize::from(a)] == values[usize::from(b)]),
                 Code::Skip => {
                     at += 1;
                     continue;
                 }
                 Code::Branch => {
-                    at = usize::from(if self.values[usize::from(x)] != 0 { a } else { b });
+                    at = usize::from(if values[usize::from(x)] != 0 { a } else { b });
                     continue;
                 }
                 Code::Write => {
-                    let value = self.values[usize::from(x)] as i32;
-                    let kept = kept_of(&self.variables());
+                    let value = values[usize::from(x)] as i32;
+                    let kept = kept_of(&variables(values));
                     return Outcome::Ended { value, steps, kept, ticks };
                 }
             };
-            self.values[usize::from(x)] = value;
+            values[usize::from(x)] = value;
             at += 1;
         }
-        Outcome::Spent { statement: at as u32 + 1, values: self.variables(), ticks }
+        Outcome::Spent { statement: at as u32 + 1, values: variables(values), ticks }
     }
 }
 
@@ -151,6 +144,7 @@ pub fn run(
     if budget > LARGEST_BUDGET {
         return Err(15);
     }
-    let program = Program::read(program)?;
-    Ok(Machine::new(&program, values, prices).run(input, budget))
+    let mut given = Program::empty();
+    given.read(program)?;
+    Ok(Machine::new(&given, values, prices).run(input, budget))
 }

@@ -17,7 +17,7 @@ fn filled(name: &[u8]) -> Option<Name> {
 fn text_of(place: &[u8; PLACE_BYTES]) -> Option<&[u8]> {
     let length = u16::from_le_bytes([place[NAME_BYTES], place[NAME_BYTES + 1]]);
     let text = place[HEAD_BYTES..].get(..usize::from(length))?;
-    Program::read(text).is_ok().then_some(text)
+    Program::empty().read(text).is_ok().then_some(text)
 }
 
 fn name_of(place: &[u8; PLACE_BYTES]) -> Name {
@@ -65,7 +65,7 @@ pub fn keep(stages: &mut [u8], name: &[u8], program: &[u8]) -> Result<u32, u8> {
     if stages.len() < STAGES_BYTES {
         return Err(1);
     }
-    Program::read(program)?;
+    Program::empty().read(program)?;
     let name = filled(name).ok_or(23)?;
     let at = match known(stages, &name) {
         Some((at, _)) => at,

@@ -1,23 +1,25 @@
 //! Tables of conditions, row by row.
 
-use super::flow::{and, or, put, without, Flow, Row};
+use super::filled::Filled;
+use super::flow::{and, is_short, or, put, without, At, Flow, Row, SHORT};
 use super::read::{Cursor, Program};
+use crate::condition::{words_of, LONGEST_TEXT, MOST_PARTS, PART_WORDS, TABLE_WORDS};
 use crate::condition::{Atom, Demand, Direction, Part, Quantifier};
-use crate::condition::{LONGEST_TEXT, MOST_PARTS, TABLE_WORDS};
 use crate::program::{Expression, Operand, FIRST_KEPT, KEPT, VARIABLES};
 
 /// The statements that define each variable, and those that use it.
-pub struct Rows {
-    pub defining: [Row; VARIABLES as usize],
-    pub using: [Row; VARIABLES as usize],
+pub struct Rows<const W: usize> {
+    pub defining: [Row<W>; VARIABLES as usize],
+    pub using: [Row<W>; VARIABLES as usize],
 }
 
-impl Rows {
-    pub fn new(program: &Program) -> Rows {
+impl<const W: usize> Rows<W> {
+    pub fn new(program: &Program) -> Rows<W> {
         use crate::program::Statement;
-        let mut rows = Rows { defining: [[0; 4]; 32], using: [[0; 4]; 32] };
+        let none = [[0; W]; VARIABLES as usize];
+        let mut rows = Rows { defining: none, using: none };
         for (at, statement) in program.statements().iter().enumerate() {
-            let at = at as u8;
+            let at = at as At;
             match *statement {
                 Statement::Read(x) => put(&mut rows.defining[usize::from(x)], at),
                 Statement::Write(x) => {
@@ -43,7 +45,7 @@ impl Rows {
     }
 
     /// Where no variable of an expression is defined.
-    pub fn transparent(&self, all: &Row, expression: &Expression) -> Row {
+    pub fn transparent(&self, all: &Row<W>, expression: &Expression) -> Row<W> {
         let (a, b) = operands(expression);
         let mut row = *all;
         for operand in [a, b] {
@@ -71,28 +73,23 @@ pub trait Parts {
 
 /// The parts of a condition, as many as may be; all are counted.
 struct List {
-    parts: [Part; MOST_PARTS],
-    count: usize,
+    parts: Filled<Part, MOST_PARTS>,
 }
 
 impl Parts for List {
     fn add(&mut self, part: Part) -> usize {
-        if let Some(place) = self.parts.get_mut(self.count) {
-            *place = part;
-        }
-        self.count += 1;
-        self.count - 1
+        self.parts.push(part);
+        self.parts.count() - 1
     }
 }
 
 impl List {
-    fn read(text: &[u8]) -> Result<List, u8> {
-        let mut list = List { parts: [Part::Atom(Atom::True); MOST_PARTS], count: 0 };
-        read(&mut list, text)?;
-        if list.count > MOST_PARTS {
+    fn read(&mut self, text: &[u8]) -> Result<(), u8> {
+        read(self, text)?;
+        if self.parts.count() > MOST_PARTS {
             return Err(8);
         }
-        Ok(list)
+        Ok(())
     }
 }
 
@@ -220,22 +217,27 @@ fn atom(cursor: &mut Cursor<'_>) -> Option<Atom> {
 }
 
 /// The statements at which an atom holds.
-fn atom_row(program: &Program, flow: &Flow, rows: &Rows, atom: &Atom) -> Row {
-    let mut row = [0; 4];
+fn atom_row<const W: usize>(
+    program: &Program,
+    flow: &Flow<W>,
+    rows: &Rows<W>,
+    atom: &Atom,
+) -> Row<W> {
+    let mut row = [0; W];
     match atom {
         Atom::True => row = flow.all,
         Atom::False => {}
         Atom::Entry => put(&mut row, 0),
-        Atom::Exit => put(&mut row, (flow.count - 1) as u8),
+        Atom::Exit => put(&mut row, (flow.count - 1) as At),
         Atom::Node(n) => {
             if (1..=flow.count as u32).contains(n) {
-                put(&mut row, (n - 1) as u8);
+                put(&mut row, (n - 1) as At);
             }
         }
         Atom::Stmt(wanted) => {
             for (at, statement) in program.statements().iter().enumerate() {
                 if statement == wanted {
-                    put(&mut row, at as u8);
+                    put(&mut row, at as At);
                 }
             }
         }
@@ -248,14 +250,14 @@ fn atom_row(program: &Program, flow: &Flow, rows: &Rows, atom: &Atom) -> Row {
 
 /// The statements at which an operator holds on paths: by E U and A U alone, since no path has `p W q` exactly
 /// where each has `!q` until neither.
-fn path_row(
-    flow: &Flow,
+fn path_row<const W: usize>(
+    flow: &Flow<W>,
     quantifier: Quantifier,
     direction: Direction,
-    p: &Row,
-    q: &Row,
+    p: &Row<W>,
+    q: &Row<W>,
     weak: bool,
-) -> Row {
+) -> Row<W> {
     let all = &flow.all;
     let (not_q, neither) = (without(all, q), without(&without(all, p), q));
     match (quantifier, weak) {
@@ -267,20 +269,20 @@ fn path_row(
 }
 
 /// What rows are made from.
-pub struct Found<'a> {
+pub struct Found<'a, const W: usize> {
     pub program: &'a Program,
-    pub flow: Flow,
-    rows: Rows,
+    pub flow: Flow<W>,
+    rows: Rows<W>,
 }
 
-impl<'a> Found<'a> {
-    pub fn new(program: &'a Program) -> Found<'a> {
+impl<'a, const W: usize> Found<'a, W> {
+    pub fn new(program: &'a Program) -> Found<'a, W> {
         Found { program, flow: Flow::new(program), rows: Rows::new(program) }
     }
 
     /// The statements at which a part holds, from the rows of its operands.
     #[inline(always)]
-    pub fn row(&self, part: &Part, done: &[Row]) -> Row {
+    pub fn row(&self, part: &Part, done: &[Row<W>]) -> Row<W> {
         let flow = &self.flow;
         match *part {
             Part::Atom(atom) => atom_row(self.program, flow, &self.rows, &atom),
@@ -295,7 +297,7 @@ impl<'a> Found<'a> {
             Part::Path(quantifier, direction, demand) => {
                 let (p, q, weak) = match demand {
                     Demand::Finally(p) => (&flow.all, &done[p], false),
-                    Demand::Globally(p) => (&done[p], &NONE, true),
+                    Demand::Globally(p) => (&done[p], &[0; W], true),
                     Demand::Until(p, q) => (&done[p], &done[q], false),
                     Demand::Weak(p, q) => (&done[p], &done[q], true),
                 };
@@ -305,12 +307,10 @@ impl<'a> Found<'a> {
     }
 }
 
-pub const NONE: Row = [0; 4];
-
 /// How many statements a row has, and the first of them, 0 if none.
-pub fn counted(row: &Row) -> (u32, u32) {
+pub fn counted<const W: usize>(row: &Row<W>) -> (u32, u32) {
     let satisfied = row.iter().map(|word| word.count_ones()).sum();
-    let first = (0..4)
+    let first = (0..W)
         .find(|&word| row[word] != 0)
         .map_or(0, |word| 64 * word as u32 + row[word].trailing_zeros() + 1);
     (satisfied, first)
@@ -326,13 +326,23 @@ pub fn tabulate(
     if table.len() < TABLE_WORDS {
         return Err(1);
     }
-    tabulate_program(&Program::read(program)?, condition, table)
+    let mut given = Program::empty();
+    given.read(program)?;
+    tabulate_program(&given, condition, table)
 }
 
 /// The row of the whole condition in a table of so many parts.
-pub fn whole(table: &[u64], parts: u32) -> Row {
-    let last = 4 * (parts as usize - 1);
-    [table[last], table[last + 1], table[last + 2], table[last + 3]]
+pub fn whole<const W: usize>(table: &[u64], parts: u32) -> Row<W> {
+    let last = PART_WORDS * (parts as usize - 1);
+    table[last..][..W].try_into().expect("so many words")
+}
+
+/// Puts a row into the words of a part.
+#[inline(always)]
+pub fn put_row<const W: usize>(table: &mut [u64], part: usize, row: &Row<W>) {
+    let (front, rest) = words_of(table, part).split_at_mut(W);
+    front.copy_from_slice(row);
+    rest.fill(0);
 }
 
 /// The same of a program that is read, into a table that is large enough.
@@ -342,14 +352,25 @@ pub fn tabulate_program(
     condition: &[u8],
     table: &mut [u64],
 ) -> Result<(u32, u32, u32), u8> {
-    let list = List::read(condition)?;
-    let found = Found::new(program);
-    let mut done = [NONE; MOST_PARTS];
-    for k in 0..list.count {
-        let row = found.row(&list.parts[k], &done);
-        done[k] = row;
-        table[4 * k..4 * k + 4].copy_from_slice(&row);
+    let mut list = List { parts: Filled::new() };
+    list.read(condition)?;
+    let parts = list.parts.items();
+    let (satisfied, first) = if is_short(program) {
+        fill::<SHORT>(program, parts, table)
+    } else {
+        fill::<PART_WORDS>(program, parts, table)
+    };
+    Ok((parts.len() as u32, satisfied, first))
+}
+
+/// Fills the rows of a condition's parts; tells how many statements satisfy the last, and the first of these.
+fn fill<const W: usize>(program: &Program, parts: &[Part], table: &mut [u64]) -> (u32, u32) {
+    let found = Found::<W>::new(program);
+    let mut done: Filled<Row<W>, MOST_PARTS> = Filled::new();
+    for (k, part) in parts.iter().enumerate() {
+        let row = found.row(part, done.items());
+        done.push(row);
+        put_row(table, k, &row);
     }
-    let (satisfied, first) = counted(&done[list.count - 1]);
-    Ok((list.count as u32, satisfied, first))
+    done.items().last().map_or((0, 0), counted)
 }

@@ -54,7 +54,7 @@ module _ (c : tie.After-length-of) where
   told = c .length-of .ensures ∙ ap lengthIn (c .before .part .ensures .0)
 
   within : c .length-of .result ≤ most-text
-  within = omega (arith, told, found holder .1 .stands .short)
+  within = rw told (found holder .1 .stands .short)
 
   lent : take (head-bytes + c .length-of .result - head-bytes) (drop head-bytes (c .before .part .result .now)) ≡ found holder .0
   lent = part-text (c .before .part .result .now) (c .length-of .result) (c .length-of .ensures) ∙ ap textIn (c .before .part .ensures .0) ∙ sym (found holder .1 .stands .text)

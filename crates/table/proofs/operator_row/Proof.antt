@@ -1,3 +1,4 @@
+use native.Mathlib.Omega.{arith}
 use Rattle.table.proofs.Rows.{negation-row, conjunction-row, disjunction-row, empty-row}
 use borrow.Author.Needs.{needs}
 use Rattle.table.proofs.operator_row.Statement.{statement}
@@ -27,7 +28,7 @@ operator-row-spec =
     (λ c. search needs)
     (λ c κs. search needs)
     (λ c. search needs)
-    (λ c κs. search needs)
+    (λ c κs. record { left = omega (arith, c .before .before .before .below .kept .1 .0, c .before .before .before .before .before .blank-row .ensures .size, c .before .before .before .before .before .before .before .before .before .before .before .before .pre .1 .0 .1); right = c .before .before .before .before .before .before .before .before .before .before .before .before .pre .1 .0 .0 .of-p })
     (λ c. search needs)
     (λ c κs. search needs)
     (λ c. search needs)

@@ -40,7 +40,7 @@ start c = c .before .before .before .before .before .before .before .before
 abbrev loop : Marked → tie.At-loop Inv-loop μ-loop
 loop c = c .before .before .before .before
 
--- its line is one of at most 256
+-- its line is one of at most `marks.most`
 below : (c : Marked) → loop c .loop .j < marks.most
 below c =
     let list = start c .pre .1 in

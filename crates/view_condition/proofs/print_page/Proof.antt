@@ -7,7 +7,7 @@ use Rattle.view_condition.proofs.print_page.Statement.{statement}
 use Rattle.view_condition.proofs.print_page.Tie as tie
 
 slice-aggregate-page : tie.Need-slice-aggregate-page
-slice-aggregate-page c = sym (length-take-le _ _ (c .before .without-end .ensures))
+slice-aggregate-page c = sym (length-take-le _ _ (c .before .before .without-end .ensures))
 
 array-share-prefix-out : tie.Need-array-share-prefix-out
 array-share-prefix-out c = view-within _ _ _ _ (c .before .before .before .before .page .ensures) (c .before .n .given .1)
@@ -25,6 +25,7 @@ pub print-page-spec : {M : Type 1} → statement M
 print-page-spec =
     tie.close
     (tie.spec
+    (λ c κs. search needs)
     (λ c κs. search needs)
     slice-aggregate-page
     (λ c. search needs)
