@@ -55,3 +55,9 @@ pub fn line_of_review(text: &[u8], refusal: Refusal) -> Option<usize> {
     let is_wrong = |line: &[u8]| rewrites::review(&program, line, &mut table) == Err(refusal);
     lines(text).position(is_wrong).map(|at| at + 1)
 }
+
+/// The byte of a condition, counted from 1, at which its reading stopped. The library doesn't tell it yet, so it is
+/// none, and all of a misspelled condition is shown as wrong.
+pub fn byte_of_condition(_condition: &[u8]) -> Option<usize> {
+    None
+}
