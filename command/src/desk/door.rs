@@ -3,8 +3,9 @@
 
 use super::calls::{Desk, Refused};
 use serde_json::json;
+use std::io::Write;
 use std::mem;
-use tiny_http::{Header, Method, Request, Response};
+use tiny_http::{HTTPVersion, Header, Method, Request, Response, StatusCode};
 
 /// The most bytes of a request's body: a text of the most bytes, each spelled `\u0000`, and the names around it.
 pub const MOST_BODY: usize = 8 * crate::files::MOST_BYTES;
@@ -145,13 +146,18 @@ impl Door {
             let words = json!({ "error": refused.words }).to_string();
             (refused.status, JSON, words.into_bytes())
         });
-        let mut response = Response::from_data(bytes).with_status_code(status);
+        let mut response =
+            Response::from_data(bytes).with_status_code(status).with_chunked_threshold(usize::MAX);
         for (name, value) in HEADERS.into_iter().chain([("Content-Type", kind)]) {
             response.add_header(header(name, value));
         }
         if request.body_length().map_or(false, |length| length > MOST_DROPPED) {
-            // The reader of a body makes room for all of what is left when it is dropped, so it never is.
-            mem::forget(request.upgrade("none", response));
+            // The reader of a body makes room for all of what is left when it is dropped, so it never is. An
+            // answer that goes on comes before the last one: it is what gives the stream.
+            let mut stream = request.upgrade("none", Response::new_empty(StatusCode(100)));
+            let _ = response.raw_print(&mut stream, HTTPVersion(1, 1), &[], false, None);
+            let _ = stream.flush();
+            mem::forget(stream);
             return;
         }
         let _ = request.respond(response);
