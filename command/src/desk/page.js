@@ -2,6 +2,7 @@
 'use strict';
 
 const by = id => document.getElementById(id);
+const HINT = by('told').textContent;
 const TYPED = 120; // milliseconds without a key before the desk is asked
 
 function make(kind, text, into, name) {
@@ -91,13 +92,12 @@ function marked(at, list, source, columns, lead, caption) {
   make('caption', caption, table);
   const row = make('tr', null, make('thead', null, table)), heads = [], items = [];
   const head = (column, name) => {
-    const th = make('th', null, row, name);
+    // No button: a browser prints one on the first sheet alone.
+    const th = make('th', column.label, row, name);
     th.scope = 'col';
-    const button = make('button', column.label, th);
-    button.type = 'button';
-    button.title = column.text;
+    th.tabIndex = 0;
+    th.title = column.text;
     heads.push(th);
-    return th;
   };
   const order = lead ? [columns.length - 1, ...columns.keys()].slice(0, columns.length) : [...columns.keys()];
   if (lead) head(columns[order[0]], 'whole');
@@ -142,7 +142,9 @@ function marked(at, list, source, columns, lead, caption) {
   table.addEventListener('mouseover', e => { const k = column(e.target); if (k >= 0) show(k, statement(e.target)); });
   table.addEventListener('mouseleave', () => show(fixed));
   table.addEventListener('focusin', e => { const k = column(e.target); if (k >= 0) show(k); });
-  table.addEventListener('click', e => { const k = column(e.target); if (k >= 0) { fixed = fixed === k ? -1 : k; show(k); } });
+  function hold(k) { fixed = fixed === k ? -1 : k; show(k); }
+  table.addEventListener('click', e => { const k = column(e.target); if (k >= 0) hold(k); });
+  table.addEventListener('keydown', e => { const k = column(e.target); if (k >= 0 && e.key === 'Enter') hold(k); });
 
   list.replaceChildren();
   columns.forEach((part, k) => {
@@ -152,7 +154,7 @@ function marked(at, list, source, columns, lead, caption) {
     button.addEventListener('mouseenter', () => show(k));
     button.addEventListener('mouseleave', () => show(fixed));
     button.addEventListener('focus', () => show(k));
-    button.addEventListener('click', () => { fixed = fixed === k ? -1 : k; show(k); });
+    button.addEventListener('click', () => hold(k));
   });
 }
 
@@ -275,17 +277,17 @@ function name(id) { return id === 'conditions' ? reviewed : id; }
 
 for (const id of Object.keys(fields)) {
   const note = by(id + '-saved');
-  fields[id].area.addEventListener('input', () => { note.textContent = 'not saved yet'; });
+  const tell = (text, is_wrong) => { note.textContent = text; note.classList.toggle('wrong', is_wrong); };
+  fields[id].area.addEventListener('input', () => tell('not saved yet', false));
   by(id + '-save').addEventListener('click', async () => {
     const file = name(id);
     try {
       const answer = await ask('save', { file, text: fields[id].text, was: was[file] ?? null });
       was[file] = answer.text;
-      note.textContent = 'saved to ' + file;
-      trouble('');
+      tell('saved to ' + file, false);
       if (id === 'conditions') choose(file);
     } catch (error) {
-      trouble(error.message);
+      tell(error.message, true);
     }
   });
 }
@@ -333,6 +335,7 @@ function open(tab) {
     other.tabIndex = chosen ? 0 : -1;
     by(other.getAttribute('aria-controls')).hidden = !chosen;
   }
+  by('told').textContent = HINT;
   if (tab.id === 'tab-runs') walk();
   // A layer that was hidden had no measure to scroll by.
   for (const { area } of Object.values(fields)) area.dispatchEvent(new Event('scroll'));

@@ -39,7 +39,9 @@ fn print_style() -> bool {
         && line(
             b"h1, h2 { font: bold 20px/1.4 monospace; margin: .5em 0; overflow-wrap: anywhere } h2 { font-size: 15px }",
         )
-        && line(b"table, ol, pre { font: 14px/1.5 monospace } .hint, .last { margin: .3em 0 }")
+        && line(
+            b"table, ol, pre { font: 14px/1.5 monospace } .last { margin: .3em 0 } thead th[tabindex] { cursor: pointer }",
+        )
         && line(
             b"button { font: inherit; color: inherit; background: none; border: 0; padding: 0 .1em; cursor: pointer }",
         )
@@ -52,7 +54,9 @@ fn print_style() -> bool {
             b"aside { max-height: 78vh; display: flex; flex-direction: column } aside h2 { margin: 0 }",
         )
         && line(b"ol { overflow: auto; margin: 0; padding-left: 3em; min-height: 0 }")
-        && line(b"li button { width: 100%; text-align: left; overflow-wrap: anywhere }")
+        && line(
+            b"li button { width: 100%; text-align: left; vertical-align: top; overflow-wrap: anywhere }",
+        )
         && line(
             b"table { border-collapse: separate; border-spacing: 0 } caption { text-align: left; font: 14px/1.5 sans-serif; padding: .2em .4em }",
         )
@@ -88,7 +92,7 @@ fn print_layout() -> bool {
         && line(b"@page { size: A4 landscape; margin: 8mm }")
         && line(b"@media print {")
         && line(
-            b"* { print-color-adjust: exact; -webkit-print-color-adjust: exact } body { margin: 0; font-size: 9pt } .hint, #told { display: none }",
+            b"* { print-color-adjust: exact; -webkit-print-color-adjust: exact } body { margin: 0; font-size: 9pt } #told { display: none }",
         )
         && line(
             b".scroll, aside, ol { max-height: none; overflow: visible; display: block; border: 0 } .split { display: flex; flex-direction: column-reverse }",
@@ -97,12 +101,14 @@ fn print_layout() -> bool {
             b"ol { columns: 2; font-size: 7pt } table { font-size: 8pt } thead { display: table-header-group } tr { break-inside: avoid }",
         )
         && line(
-            b"thead th, .whole, .number, .text { position: static } table.many { font-size: 6pt; line-height: 1.25 }",
+            b"thead th, .whole, .number, .text { position: static } table.many { font-size: 7pt; line-height: 1.25 }",
         )
         && line(
-            b".many th, .many td { padding: 0 .25mm } .many button { padding: 0 } .many .text { min-width: 0; padding-right: 1mm }",
+            b".many th, .many td { padding: 0 .25mm } .many .text { min-width: 0; padding-right: 1mm }",
         )
-        && line(b".many .whole, .many .number { width: auto; min-width: 0 }")
+        && line(
+            b".many .whole, .many .number { width: auto; min-width: 0 } :focus-visible { outline: none }",
+        )
         && line(b"}")
         && line(b"</style>")
 }
@@ -167,11 +173,11 @@ fn print_functions() -> bool {
 // A table with the whole condition first and a panel with the parts.
 fn print_making() -> bool {
     line(b"var name = document.querySelector('h1').textContent;")
+        && line(
+            b"var hint = 'Point at a part, or go to one with the Tab key: the statements at which it is true are marked.';",
+        )
         && cut(b"make('h2', lines[n - 1].slice(", PART_TEXT)
         && line(b"), page);")
-        && line(
-            b"make('p', 'Point at a part, or go to one with the Tab key: the statements at which it is true are marked.', page, 'hint');",
-        )
         && line(
             b"var split = make('div', '', page, 'split'), scroll = make('div', '', split, 'scroll'), side = make('aside', '', split);",
         )
@@ -195,7 +201,7 @@ fn print_making() -> bool {
         && cut(b"  parts[k] = lines[k].slice(", PART_TEXT)
         && line(b"); heads[k] = heads[k] || head('', '');")
         && line(
-            b"  make('button', k + 1, heads[k]).title = parts[k]; items[k] = make('button', parts[k], make('li', '', list));",
+            b"  heads[k].textContent = k + 1; heads[k].title = parts[k]; heads[k].tabIndex = 0; items[k] = make('button', parts[k], make('li', '', list));",
         )
         && line(b"}")
 }
@@ -229,7 +235,7 @@ fn print_rows() -> bool {
 // The last line, the fixed line, and what pointing, the Tab key and a tap do.
 fn print_answers() -> bool {
     line(
-        b"make('p', lines[lines.length - 2], page, 'last'); var status = make('p', '', page); status.id = 'told';",
+        b"make('p', lines[lines.length - 2], page, 'last'); var status = make('p', hint, page); status.id = 'told';",
     )
         && line(b"status.setAttribute('role', 'status');")
         && line(
@@ -242,6 +248,7 @@ fn print_answers() -> bool {
             b"table.onmouseover = answer; table.addEventListener('focusin', answer); table.onmouseleave = function () { show(held); };",
         )
         && line(b"table.onclick = function (e) { var k = column(e.target); if (k >= 0) hold(k); };")
+        && line(b"table.onkeydown = function (e) { if (e.key === 'Enter') table.onclick(e); };")
         && line(b"items.forEach(function (e, k) {")
         && line(
             b"  e.onmouseenter = e.onfocus = function () { show(k); }; e.onmouseleave = function () { show(held); }; e.onclick = function () { hold(k); };",
