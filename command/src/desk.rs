@@ -13,11 +13,15 @@ use calls::Desk;
 use clap::Args;
 use door::Door;
 use std::io;
-use std::net::{Ipv4Addr, TcpListener};
+use std::net::{Ipv4Addr, TcpListener, TcpStream};
 use std::path::PathBuf;
 use std::sync::Arc;
 use std::thread;
+use std::time::Duration;
 use tiny_http::Server;
+
+/// How long a connection may be left waiting.
+const WAITING: Duration = Duration::from_millis(250);
 
 #[derive(Args)]
 pub struct Arguments {
@@ -40,6 +44,16 @@ fn listen() -> io::Result<(Server, String)> {
     Ok((server.map_err(|error| io::Error::new(io::ErrorKind::Other, error))?, address))
 }
 
+/// Of connections that come at the same moment the server may give two to one thread, and a browser keeps connections
+/// open, so that the second waits for as long. Where another ends, a waiting one is taken; so one is made that ends at once,
+/// again and again.
+fn stir(address: &str) {
+    loop {
+        thread::sleep(WAITING);
+        let _ = TcpStream::connect(address);
+    }
+}
+
 impl Arguments {
     pub fn run(&self, output: &mut Output) -> Result<Status, Unwritten> {
         let mut folder = Folder::new(&self.folder);
@@ -50,7 +64,8 @@ impl Arguments {
         let desk = Desk::new(&self.folder).map_err(unheard)?;
         let (server, address) = listen().map_err(unheard)?;
         output.print(format!("http://{address}/\n").as_bytes())?;
-        let door = Arc::new(Door::new(desk, address));
+        let door = Arc::new(Door::new(desk, address.clone()));
+        thread::Builder::new().spawn(move || stir(&address)).map_err(unheard)?;
         loop {
             let request = server.recv().map_err(unheard)?;
             let door = Arc::clone(&door);

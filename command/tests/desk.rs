@@ -11,6 +11,8 @@ mod shell;
 
 use common::option;
 use coverage::Tally;
+use oracle::check::LARGEST_FILE;
+use oracle::condition::MOST_PARTS;
 use oracle::generate::{self, Random};
 use oracle::liveness::Liveness;
 use oracle::machine::{self, Outcome, LARGEST_BUDGET};
@@ -312,10 +314,14 @@ fn reviews_are_those_that_the_command_prints() {
     for case in 0..option("DESK_CASES", CASES) {
         let random = &mut Random::new(seed ^ case);
         let (program, given) = random_folder::given(random);
-        let typed = match String::from_utf8(random_folder::conditions(random, &program)) {
+        let mut typed = match String::from_utf8(random_folder::conditions(random, &program)) {
             Ok(typed) => typed,
             Err(_) => continue,
         };
+        // Random lines of too many parts are few.
+        if random.chance(8) {
+            typed = "!".repeat(MOST_PARTS) + "true\n" + &typed;
+        }
         let file = if typed.is_empty() || typed.ends_with('\n') {
             typed.clone()
         } else {
@@ -397,7 +403,7 @@ fn steps_are_as_by_the_oracle() {
         let size = generate::size(random).min(60);
         let program = generate::program(random, size);
         let list = marks::text(&generate::marks(random, &program, 12));
-        let list = if random.chance(4) { generate::damage(random, &list) } else { list };
+        let list = if random.chance(10) { generate::damage(random, &list) } else { list };
         let start = random_folder::start(random);
         let (list, start) = match (String::from_utf8(list), String::from_utf8(start)) {
             (Ok(list), Ok(start)) => (list, start),
@@ -409,6 +415,11 @@ fn steps_are_as_by_the_oracle() {
         let body = json!({ "marks": list, "start": start, "from": from, "count": 9 });
         let answer = desk.ask("steps", body);
         let fault = &answer["faults"][0];
+        if answer["status"] == 2 {
+            // More than a file may have.
+            assert!(list.len() + 1 > LARGEST_FILE || start.len() + 1 > LARGEST_FILE, "case {case}");
+            continue;
+        }
         if answer["status"] != 0 {
             assert!(answer.get("states").is_none(), "case {case}");
             let field = answer["place"]["field"].as_str().expect("a place");
@@ -857,6 +868,26 @@ fn large_bodies() {
     assert_eq!(desk.ask("check", json!({ "marks": "" }))["status"], 0);
     drop(held);
     assert_eq!(desk.ask("check", json!({ "marks": "" }))["status"], 0);
+}
+
+/// Connections that come together are each answered soon, while others stay open and idle, as a browser keeps them.
+#[test]
+fn many_at_once() {
+    let desk = Desk::of(folder("desk_many", &[("given", b"read i0\nwrite i0\n")]));
+    let mut idle = Vec::new();
+    for round in 0..12 {
+        let mut burst: Vec<TcpStream> = (0..6).map(|_| desk.connect()).collect();
+        let request = format!("GET /page.css HTTP/1.1\r\nHost: {}\r\n\r\n", desk.address);
+        for stream in &mut burst {
+            stream.set_read_timeout(Some(Duration::from_secs(10))).expect("a limit");
+            stream.write_all(request.as_bytes()).expect("it is sent");
+        }
+        for stream in &mut burst {
+            assert_eq!(read_answer(stream).status, 200, "round {round}");
+        }
+        idle.extend(burst);
+    }
+    assert_eq!(idle.len(), 72);
 }
 
 #[test]
