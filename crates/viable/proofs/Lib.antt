@@ -1,0 +1,4 @@
+pub mod Complete
+pub mod Languages
+pub mod Rows
+pub mod Stops
