@@ -2,3 +2,4 @@ pub mod Complete
 pub mod Languages
 pub mod Rows
 pub mod Stops
+pub mod Unique

@@ -395,17 +395,169 @@ All K [] = Unit
 All K (r ∷ rs) = Right K (getD r 0 0) (getD r 1 0) (drop 2 r) × All K rs
 
 all-right : (K : List ℕ → Type 0) → All K rows
-all-right K =
-    (row-not K, (row-some K, (row-all K, (row-round K, (row-tr K, (row-false K, (row-e K, (row-node K, (row-stmt K, (row-def K, (row-use K,
-    (row-path forward next K, (row-path forward finally K, (row-path forward globally K, (row-path backward next K, (row-path backward finally K, (row-path backward globally K, (row-square K,
-    (row-round-space K, (row-and K, (row-or K,
-    (row-square-space K, (row-between forward until K, (row-between forward weak K, (row-between backward until K, (row-between backward weak K,
-    (row-true K, (row-trans K, (row-entry K, (row-exit K,
-    (row-read K, (row-write K, (row-skip K, (row-i K, (row-if K, (row-assign-zero K, (row-assign-one K,
-    (row-expression-variable K, (row-expression-minus K, (row-expression-zero K, (row-expression-one K, (row-single K, (row-rest-space K,
-    (row-operator Add K, (row-operator Subtract K, (row-operator Multiply K, (row-operator Less K, (row-operator Equal K, (row-operator Divide K,
-    (row-operand-variable K, (row-operand-minus K, (row-operand-zero K, (row-operand-one K, (row-magnitude K,
-    (row-name K, (row-name-zero K, (row-name-one K, (row-number-zero K, (row-number-one K, tt)))))))))))))))))))))))))))))))))))))))))))))))))))))))))))
+all-right K = (
+  row-not K,
+  (
+    row-some K,
+    (
+      row-all K,
+      (
+        row-round K,
+        (
+          row-tr K,
+          (
+            row-false K,
+            (
+              row-e K,
+              (
+                row-node K,
+                (
+                  row-stmt K,
+                  (
+                    row-def K,
+                    (
+                      row-use K,
+                      (
+                        row-path forward next K,
+                        (
+                          row-path forward finally K,
+                          (
+                            row-path forward globally K,
+                            (
+                              row-path backward next K,
+                              (
+                                row-path backward finally K,
+                                (
+                                  row-path backward globally K,
+                                  (
+                                    row-square K,
+                                    (
+                                      row-round-space K,
+                                      (
+                                        row-and K,
+                                        (
+                                          row-or K,
+                                          (
+                                            row-square-space K,
+                                            (
+                                              row-between forward until K,
+                                              (
+                                                row-between forward weak K,
+                                                (
+                                                  row-between backward until K,
+                                                  (
+                                                    row-between backward weak K,
+                                                    (
+                                                      row-true K,
+                                                      (
+                                                        row-trans K,
+                                                        (
+                                                          row-entry K,
+                                                          (
+                                                            row-exit K,
+                                                            (
+                                                              row-read K,
+                                                              (
+                                                                row-write K,
+                                                                (
+                                                                  row-skip K,
+                                                                  (
+                                                                    row-i K,
+                                                                    (
+                                                                      row-if K,
+                                                                      (
+                                                                        row-assign-zero K,
+                                                                        (
+                                                                          row-assign-one K,
+                                                                          (
+                                                                            row-expression-variable K,
+                                                                            (
+                                                                              row-expression-minus K,
+                                                                              (
+                                                                                row-expression-zero K,
+                                                                                (
+                                                                                  row-expression-one K,
+                                                                                  (
+                                                                                    row-single K,
+                                                                                    (
+                                                                                      row-rest-space K,
+                                                                                      (
+                                                                                        row-operator Add K,
+                                                                                        (
+                                                                                          row-operator Subtract K,
+                                                                                          (
+                                                                                            row-operator Multiply K,
+                                                                                            (
+                                                                                              row-operator Less K,
+                                                                                              (
+                                                                                                row-operator Equal K,
+                                                                                                (
+                                                                                                  row-operator Divide K,
+                                                                                                  (
+                                                                                                    row-operand-variable K,
+                                                                                                    (
+                                                                                                      row-operand-minus K,
+                                                                                                      (
+                                                                                                        row-operand-zero K,
+                                                                                                        (
+                                                                                                          row-operand-one K,
+                                                                                                          (
+                                                                                                            row-magnitude K,
+                                                                                                            (row-name K, (row-name-zero K, (row-name-one K, (row-number-zero K, (row-number-one K, tt))))),
+                                                                                                          ),
+                                                                                                        ),
+                                                                                                      ),
+                                                                                                    ),
+                                                                                                  ),
+                                                                                                ),
+                                                                                              ),
+                                                                                            ),
+                                                                                          ),
+                                                                                        ),
+                                                                                      ),
+                                                                                    ),
+                                                                                  ),
+                                                                                ),
+                                                                              ),
+                                                                            ),
+                                                                          ),
+                                                                        ),
+                                                                      ),
+                                                                    ),
+                                                                  ),
+                                                                ),
+                                                              ),
+                                                            ),
+                                                          ),
+                                                        ),
+                                                      ),
+                                                    ),
+                                                  ),
+                                                ),
+                                              ),
+                                            ),
+                                          ),
+                                        ),
+                                      ),
+                                    ),
+                                  ),
+                                ),
+                              ),
+                            ),
+                          ),
+                        ),
+                      ),
+                    ),
+                  ),
+                ),
+              ),
+            ),
+          ),
+        ),
+      ),
+    ),
+  ),
+)
 
 found-right : (K : List ℕ → Type 0) (rs : List (List ℕ)) → All K rs → (i c : ℕ) (w : List ℕ) → ruleIn rs i c ≡ word w → Right K i c w
 found-right K [] h i c w e = let z : _≡_ {A = ℕ} 0 1 = cc in absurd (omega arith)

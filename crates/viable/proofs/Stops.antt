@@ -62,11 +62,11 @@ module _ (b n c : ℕ) (h : more b n c ≡ true) where
   abbrev within : Bool
   within = ltb 0 n && ltb (n * 10 + (c - 48)) b
 
-  low : 48 ≤ c
+  pub low : 48 ≤ c
   unfolding more
   low = leb-true 48 c (and-left (leb 48 c) (leb c 57) (and-left digit within h))
 
-  high : c ≤ 57
+  pub high : c ≤ 57
   unfolding more
   high = leb-true c 57 (and-right (leb 48 c) (leb c 57) (and-left digit within h))
 
@@ -74,7 +74,7 @@ module _ (b n c : ℕ) (h : more b n c ≡ true) where
   unfolding more
   positive = ltb-true 0 n (and-left (ltb 0 n) (ltb (n * 10 + (c - 48)) b) (and-right digit within h))
 
-  inside : n * 10 + (c - 48) < b
+  pub inside : n * 10 + (c - 48) < b
   unfolding more
   inside = ltb-true (n * 10 + (c - 48)) b (and-right (ltb 0 n) (ltb (n * 10 + (c - 48)) b) (and-right digit within h))
 
