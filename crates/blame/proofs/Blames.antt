@@ -20,9 +20,12 @@ use Rattle.statement_reader.specs.declared.StatementRead.the-variants.{Found, M
 use Rattle.program.specs.declared.Refusal.{Refusal}
 use Rattle.program.specs.declared.Refusal.the-variants as refusal
 use Rattle.program.specs.Program.{Spells, at}
-use Rattle.program.specs.Reading.{Refused, number}
+use Rattle.program.specs.declared.Answer as answer
+use Rattle.program.specs.declared.Program.{Program}
+use Rattle.program.specs.Reading.{Refused, number, ProgramRead}
 use Rattle.program.proofs.Texts.{statements-unambiguous}
-use Rattle.blame.specs.Blame.{Rule, FirstBroken, NoneBroken, Blames, LineTold, misspelled, broken, none, NumberTold, Blamed}
+use Rattle.program.proofs.Unique.{refused-unique, taken-refused}
+use Rattle.blame.specs.Blame.{Rule, FirstBroken, NoneBroken, Blames, LineTold, misspelled, broken, none, NumberTold, Blamed, TextBlamed}
 
 -- what the reader of a line told
 pub line-of : {t : List ℕ} {at : ℕ} {r : StatementRead} {s : Statement} {k : ℕ} → r ≡ Found s k → LineRead t at r → LineOf spell Valid t at s k
@@ -118,3 +121,13 @@ no-number {t} {n} a b c d = record { told = λ r e. absurd (go r e); other = λ 
     go refusal.LineCount e = b e
     go refusal.Placement e = c e
     go refusal.Target e = d e
+
+-- the reading of the text tells which refusal it gets, or that it is taken
+module _ {t : List ℕ} (a : answer.Answer) (p : Program) where
+  pub read-taken : a ≡ answer.the-variants.Taken → ProgramRead t a p → TextBlamed t 0
+  read-taken is d = let k = (rw is at d) .0 in record { about = λ r f. absurd (taken-refused t k r f); taken = λ P _. refl }
+
+  pub read-refused : {s : Refusal} → a ≡ answer.the-variants.Refused s → ProgramRead t a p → {n : ℕ} → LineTold t s n → TextBlamed t n
+  read-refused {s} is d w =
+      let f = (rw is at d) .0 in
+      record { about = λ r g. rw (refused-unique t r s g f) (blames w f); taken = λ P k. absurd (taken-refused t k s f) }

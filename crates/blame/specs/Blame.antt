@@ -7,7 +7,7 @@ use Rattle.line_number.specs.First as first
 use Rattle.line_number.specs.First.{lineAt}
 use Rattle.language.specs.Spelling.{spell, Valid}
 use Rattle.language.specs.declared.Statement.{Statement}
-use Rattle.program.specs.Program.{Spells, at, InPlace, Targets}
+use Rattle.program.specs.Program.{Spells, at, InPlace, Targets, Taken}
 use Rattle.program.specs.Reading.{Refused, number}
 use Rattle.program.specs.declared.Refusal.{Refusal}
 use Rattle.program.specs.declared.Refusal.the-variants.{Misspelled, LineCount, Placement, Target}
@@ -62,3 +62,8 @@ pub record NumberTold (t : List ℕ) (n line : ℕ) : Type 0 where
 pub record Blamed (t : List ℕ) (n line : ℕ) : Type 0 where
   pub about : (r : Refusal) → n ≡ number r → Refused t r → Blames t r line
   pub other : ((r : Refusal) → n ≡ number r → ⊥) → line ≡ 0
+
+-- whatever refusal the text t gets is about line n, which is 0 where it is taken
+pub record TextBlamed (t : List ℕ) (n : ℕ) : Type 0 where
+  pub about : (r : Refusal) → Refused t r → Blames t r n
+  pub taken : (P : List Statement) → Taken t P → n ≡ 0

@@ -5,7 +5,7 @@ ghost use lib.ListN.{length};
 ghost use Rattle.language.specs.declared.Statement.{Statement as Meant};
 ghost use Rattle.program.specs.Program.{Spells};
 ghost use Rattle.base.specs.Decides.{Decides};
-ghost use Rattle.blame.specs.Blame.{Rule, LineTold, NumberTold};
+ghost use Rattle.blame.specs.Blame.{Rule, LineTold, NumberTold, TextBlamed};
 ghost use Rattle.blame.specs.Counting.{CountTold};
 use language::Statement;
 use program::Refusal;
@@ -84,5 +84,17 @@ pub fn line_of_number(text: &[u8], n: u8) -> u32
         4 => line_of(text, Refusal::Placement),
         5 => line_of(text, Refusal::Target),
         _ => 0,
+    }
+}
+
+// A call: the line that the refusal of the program's text is about; 0 where it is about none, or the text is taken.
+pub fn blame(program: &[u8]) -> u32
+    ensures { λ line. ⌜ TextBlamed (now (program .entry)) line ⌝ }
+{
+    let reading = program::read(program);
+    let answer = reading.answer;
+    match answer {
+        program::Answer::Taken => 0,
+        program::Answer::Refused(refusal) => line_of(program, refusal),
     }
 }
