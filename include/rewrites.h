@@ -339,6 +339,19 @@ uint8_t rewrites_keep(uint8_t *stages, size_t stages_len, const uint8_t *name, s
 uint8_t rewrites_return(const uint8_t *stages, size_t stages_len, const uint8_t *name, size_t name_len,
                         uint8_t *text, size_t text_len, uint32_t *bytes);
 
+/* Tell where a text is wrong, counted from 1. They lend nothing, and take any bytes. 0 is returned where
+   nothing is refused, and where the refusal is about no place.
+
+   rewrites_blame_program   the first line that refusal 2, 4 or 5 of the text is about; 0 for 3.
+   rewrites_blame_marks     the first line that isn't spelled as a mark or lacks its byte 10; 0 for 10.
+   rewrites_blame_condition the byte at which reading stopped, for 7: what stands before it begins the
+                            spelling of some condition, and with that byte it begins none. Where the whole
+                            text only begins one it is the byte after the last. 0 for 6 and 8, which
+                            are about no byte: neither length nor the number of parts counts here. */
+uint32_t rewrites_blame_program(const uint8_t *program, size_t program_len);
+uint32_t rewrites_blame_marks(const uint8_t *marks, size_t marks_len);
+uint32_t rewrites_blame_condition(const uint8_t *condition, size_t condition_len);
+
 #ifdef __cplusplus
 }
 #endif

@@ -1206,6 +1206,60 @@ pub fn mark_line(marks: &[u8], line: u32) -> Result<Range<usize>, Refusal> {
     Ok(begin..end)
 }
 
+/// The line of a program's text, counted from 1, that its refusal is about, if it is about one.
+///
+/// It is the first that isn't spelled as a statement, else the first whose `read` or `write` stands wrong, else
+/// the first with a target outside 2 to N. A wrong number of lines is about no line.
+///
+/// ```
+/// use rewrites::blame_program;
+///
+/// assert_eq!(blame_program(b"read i0\nskip\nif i0 goto 9 else 2\nwrite i0\n"), Some(3));
+/// assert_eq!(blame_program(b"read i0\n"), None);
+/// assert_eq!(blame_program(b"read i0\nwrite i0\n"), None);
+/// ```
+pub fn blame_program(program: &[u8]) -> Option<u32> {
+    // SAFETY: the pointer comes from a reference, so it isn't null.
+    place(unsafe { raw::rewrites_blame_program(program.as_ptr(), program.len()) })
+}
+
+/// The first line of a list of marks, counted from 1, that isn't spelled as a mark or lacks its byte 10.
+///
+/// ```
+/// use rewrites::blame_marks;
+///
+/// assert_eq!(blame_marks(b"2: mark(rm, i0, 1)\n3: mark(rm, i0)\n"), Some(2));
+/// assert_eq!(blame_marks(b"2: mark(rm, i0, 1)"), Some(1));
+/// assert_eq!(blame_marks(b"2: mark(rm, i0, 1)\n"), None);
+/// ```
+pub fn blame_marks(marks: &[u8]) -> Option<u32> {
+    // SAFETY: the pointer comes from a reference, so it isn't null.
+    place(unsafe { raw::rewrites_blame_marks(marks.as_ptr(), marks.len()) })
+}
+
+/// The byte, counted from 1, at which the reading of a misspelled condition stops.
+///
+/// What stands before it begins the spelling of some condition, and with that byte it begins none. Where the
+/// whole text only begins one it is the byte after the last. A condition that is too long or has too many parts
+/// is wrong at no byte.
+///
+/// ```
+/// use rewrites::blame_condition;
+///
+/// assert_eq!(blame_condition(b"E[true U node(05)]"), Some(16));
+/// assert_eq!(blame_condition(b"(true & fal"), Some(12));
+/// assert_eq!(blame_condition(b"(true & false)"), None);
+/// ```
+pub fn blame_condition(condition: &[u8]) -> Option<u32> {
+    // SAFETY: the pointer comes from a reference, so it isn't null.
+    place(unsafe { raw::rewrites_blame_condition(condition.as_ptr(), condition.len()) })
+}
+
+/// What one of the calls above returned: 0 is no place.
+fn place(number: u32) -> Option<u32> {
+    (number != 0).then_some(number)
+}
+
 /// Makes the list of a program's readers and writers: for each variable the statements that define it,
 /// `read X` or `X := E`, and those that use it.
 ///
