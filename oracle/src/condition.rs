@@ -7,7 +7,9 @@
 use std::fmt::Write;
 use std::ops::RangeInclusive;
 
-use crate::program::{expression, number, variable, Expression, Program, Statement, MOST_LINES, VARIABLES};
+use crate::program::{
+    expression, number, variable, Expression, Program, Statement, MOST_LINES, VARIABLES,
+};
 use crate::steps::Steps;
 
 /// The longest text of a condition, in bytes.
@@ -253,7 +255,11 @@ impl Trial<'_> {
     }
 
     fn spelling(&mut self, at: usize, spelling: &str) -> Vec<usize> {
-        let mut ends = vec![at];
+        self.each(vec![at], spelling)
+    }
+
+    /// The same from each of these places on.
+    fn each(&mut self, mut ends: Vec<usize>, spelling: &str) -> Vec<usize> {
         for item in spelling.chars() {
             ends = ends.into_iter().flat_map(|at| self.item(at, item)).collect();
         }
@@ -288,13 +294,13 @@ impl Trial<'_> {
             for after in self.word(at, quantifier) {
                 for letter in ["X", "F", "G", "Y", "R", "M"] {
                     let named = self.word(after, letter);
-                    ends.extend(named.into_iter().flat_map(|at| self.spelling(at, " C")).collect::<Vec<_>>());
+                    ends.extend(self.each(named, " C"));
                 }
                 let first = self.spelling(after, "[C ");
                 for letter in ["U", "W", "S", "B"] {
                     for &at in &first {
                         let named = self.word(at, letter);
-                        ends.extend(named.into_iter().flat_map(|at| self.spelling(at, " C]")).collect::<Vec<_>>());
+                        ends.extend(self.each(named, " C]"));
                     }
                 }
             }
