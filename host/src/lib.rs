@@ -193,11 +193,20 @@ pub const MOST_STEPS: u32 = 1_000_000;
 /// The words of one part in a table: a bit for each of the most statements.
 pub const PART_WORDS: usize = STATEMENTS / 64;
 
-/// The words that a table must have: 64 parts of [`PART_WORDS`].
-pub const TABLE_WORDS: usize = 64 * PART_WORDS;
+/// The most bytes of a condition.
+pub const CONDITION_BYTES: usize = 1024;
 
-/// The words that the table of a review must have: 128 tables of [`PART_WORDS`].
-pub const REVIEW_WORDS: usize = 128 * PART_WORDS;
+/// The most parts of a condition.
+pub const PARTS: usize = 64;
+
+/// The words that a table must have: [`PART_WORDS`] for each of the most parts.
+pub const TABLE_WORDS: usize = PARTS * PART_WORDS;
+
+/// The most differing parts of a review.
+pub const REVIEW_TABLES: usize = 128;
+
+/// The words that the table of a review must have: [`PART_WORDS`] for each of the most differing parts.
+pub const REVIEW_WORDS: usize = REVIEW_TABLES * PART_WORDS;
 
 /// The most lines of a review.
 pub const REVIEW_LINES: usize = 32;
@@ -219,6 +228,12 @@ pub const TEXT_BYTES: usize = 34 * STATEMENTS;
 
 /// The kinds of statements that have a price of their own.
 pub const KINDS: usize = 11;
+
+/// The largest price, in ticks; the least is 1.
+pub const MOST_PRICE: u32 = 65_535;
+
+/// The bytes of stack that are enough for every call.
+pub const STACK_BYTES: usize = 512 << 10;
 
 /// A table of prices in ticks, which the caller holds and hands to each [`run`] and [`report`]; at first it is
 /// [`ours`](Prices::ours). The library remembers none.

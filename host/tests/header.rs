@@ -41,6 +41,20 @@ fn the_same_program_is_cpp() {
     succeeds_in_cpp("header_cpp", file("host/tests/header.c"));
 }
 
+/// The header says that there is no state: the archive has neither data that can be written nor room for it.
+#[test]
+fn the_library_has_no_state() {
+    let told = Command::new("size").arg(env!("REWRITES_ARCHIVE")).output().expect("size runs");
+    let told = String::from_utf8(told.stdout).expect("size prints text");
+    let mut lines = told.lines().map(|line| line.split_whitespace().collect::<Vec<_>>());
+    assert_eq!(lines.next().expect("a heading")[1..3], ["data", "bss"]);
+    let objects: Vec<_> = lines.collect();
+    assert!(
+        !objects.is_empty() && objects.iter().all(|object| object[1..3] == ["0", "0"]),
+        "{told}"
+    );
+}
+
 /// README's lines behind `From C`, without their indent.
 fn snippet() -> Vec<String> {
     let readme = read("README.md");
@@ -171,9 +185,13 @@ fn the_headers_sizes_are_this_crates() {
         ("KEPT", rewrites::KEPT),
         ("MOST_STEPS", rewrites::MOST_STEPS as usize),
         ("KINDS", rewrites::KINDS),
+        ("MOST_PRICE", rewrites::MOST_PRICE as usize),
+        ("CONDITION_BYTES", rewrites::CONDITION_BYTES),
+        ("PARTS", rewrites::PARTS),
         ("PART_WORDS", rewrites::PART_WORDS),
         ("TABLE_WORDS", rewrites::TABLE_WORDS),
         ("REVIEW_LINES", rewrites::REVIEW_LINES),
+        ("REVIEW_TABLES", rewrites::REVIEW_TABLES),
         ("REVIEW_WORDS", rewrites::REVIEW_WORDS),
         ("LIST_WORDS", rewrites::LIST_WORDS),
         ("MARKS", rewrites::MARKS),
@@ -182,11 +200,16 @@ fn the_headers_sizes_are_this_crates() {
         ("PLACE_BYTES", rewrites::PLACE_BYTES),
         ("STAGES_BYTES", rewrites::STAGES_BYTES),
         ("NAME_BYTES", rewrites::NAME_BYTES),
+        ("STACK_BYTES", rewrites::STACK_BYTES),
         ("UNFORCED", rewrites::UNFORCED as usize),
     ];
     for (name, size) in expected {
         assert_eq!(numbers.get(&format!("REWRITES_{name}")), Some(&(size as u64)), "{name}");
     }
+    // No macro of the header is left out: the others are the version and its three numbers.
+    let header = read("include/rewrites.h");
+    let macros = header.lines().filter(|line| line.starts_with("#define REWRITES_"));
+    assert_eq!(macros.filter(|line| *line != "#define REWRITES_H").count(), expected.len() + 4);
     let version = ["MAJOR", "MINOR", "PATCH"]
         .map(|part| numbers[&format!("REWRITES_VERSION_{part}")].to_string());
     assert_eq!(version.join("."), env!("CARGO_PKG_VERSION"));
