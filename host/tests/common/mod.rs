@@ -95,6 +95,12 @@ pub fn installed(compiler: &str) -> bool {
     Command::new(compiler).arg("--version").output().map_or(false, |told| told.status.success())
 }
 
+/// The archive that the host crate is linked to. Other packages that share this file take the repository's.
+fn archive() -> PathBuf {
+    let own = || Path::new(env!("CARGO_MANIFEST_DIR")).join("../target/staticlib/librewrites.a");
+    option_env!("REWRITES_ARCHIVE").map_or_else(own, PathBuf::from)
+}
+
 /// The same by a compiler with these words.
 pub fn linked_by(compiler: &str, words: &[&str], name: &str, sources: &[PathBuf]) -> PathBuf {
     let package = Path::new(env!("CARGO_MANIFEST_DIR"));
@@ -108,7 +114,7 @@ pub fn linked_by(compiler: &str, words: &[&str], name: &str, sources: &[PathBuf]
         .args(sources)
         // The archive is no source, whatever language the sources are taken as.
         .args(["-x", "none"])
-        .arg(env!("REWRITES_ARCHIVE"))
+        .arg(archive())
         .status()
         .expect("the compiler runs");
     assert!(status.success());
