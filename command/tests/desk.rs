@@ -194,6 +194,12 @@ fn piece(place: &Value, text: &str) -> String {
     String::from_utf16_lossy(&units[at("begin")..at("end")])
 }
 
+/// Of a misspelled condition what stands from the byte on at which its reading stopped, of another that is refused all of it.
+fn wrong_piece(refusal: Option<u64>, condition: &str) -> &str {
+    let from = if refusal == Some(7) { stop(condition.as_bytes()) - 1 } else { 0 };
+    &condition[from..]
+}
+
 fn seeded(number: u64) -> u64 {
     Random::new(option("DIFFERENTIAL_SEED", 1) ^ number).bits()
 }
@@ -227,9 +233,7 @@ fn tables_are_those_that_the_command_prints() {
             Some(6..=8) => {
                 let bare = typed.strip_suffix('\n').unwrap_or(&typed);
                 assert_eq!(added[1]["field"], "condition", "case {case}");
-                // Of a misspelled one what stands from the byte on at which its reading stopped, else all of it.
-                let from = if refusal == Some(7) { stop(bare.as_bytes()) - 1 } else { 0 };
-                assert_eq!(piece(&added[1], &typed), &bare[from..], "case {case}");
+                assert_eq!(piece(&added[1], &typed), wrong_piece(refusal, bare), "case {case}");
             }
             _ => assert_eq!(added[1], Value::Null, "case {case}"),
         }
@@ -344,7 +348,7 @@ fn reviews_are_those_that_the_command_prints() {
                 }
                 if let (6..=8, Some(line)) = (number, fault["line"].as_u64()) {
                     let wrong = lines(file.as_bytes())[line as usize - 1].clone();
-                    assert_eq!(piece(&added[1], &file), wrong, "case {case}");
+                    assert_eq!(piece(&added[1], &file), wrong_piece(Some(number), &wrong), "case {case}");
                 }
             }
         }
