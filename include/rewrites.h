@@ -10,12 +10,110 @@
    there. No other pointer may be null. Places that a call writes may not overlap each other or any
    other place lent to it.
 
-   A call takes no memory but the stack of its thread: at most 512 KiB for any input. */
+   Threads: the library has no state of its own, and remembers nothing from one call to the next. Any
+   number of calls may be under way at once, on any threads, as long as none writes to a place that
+   another was lent.
+
+   Stack: a call takes no memory but the stack of its thread, at most REWRITES_STACK_BYTES for any
+   input; what it takes by itself is told with each call. */
 #ifndef REWRITES_H
 #define REWRITES_H
 
 #include <stddef.h>
 #include <stdint.h>
+
+/* The version of this header and of the library that it belongs to: three numbers, and one number of
+   them that grows with them, for `#if REWRITES_VERSION >= 100`. */
+#define REWRITES_VERSION_MAJOR 0
+#define REWRITES_VERSION_MINOR 1
+#define REWRITES_VERSION_PATCH 0
+#define REWRITES_VERSION                                                                           \
+    (REWRITES_VERSION_MAJOR * 10000 + REWRITES_VERSION_MINOR * 100 + REWRITES_VERSION_PATCH)
+
+/* Sizes of programs and lists, and the least lengths of what is lent. */
+#define REWRITES_STATEMENTS 1024       /* the most statements of a program */
+#define REWRITES_TEXT_BYTES 34816      /* new text: 34 for the line of each of the most statements */
+#define REWRITES_VARIABLES 64          /* i0 to i63 */
+#define REWRITES_FIRST_KEPT 24         /* the first variable that the unit keeps, i24 */
+#define REWRITES_KEPT 8                /* how many it keeps */
+#define REWRITES_MOST_STEPS 1000000    /* the largest budget */
+#define REWRITES_KINDS 11              /* the prices of a table */
+#define REWRITES_MOST_PRICE 65535      /* the largest price; the least is 1 */
+#define REWRITES_CONDITION_BYTES 1024  /* the most bytes of a condition */
+#define REWRITES_PARTS 64              /* the most parts of a condition */
+#define REWRITES_PART_WORDS 16         /* the words of a part: a bit for each of the most statements */
+#define REWRITES_TABLE_WORDS 1024      /* a table: the words of the most parts */
+#define REWRITES_REVIEW_LINES 32       /* the most lines of a review */
+#define REWRITES_REVIEW_TABLES 128     /* the most differing parts of a review */
+#define REWRITES_REVIEW_WORDS 2048     /* the table of a review */
+#define REWRITES_LIST_WORDS 2048       /* a list of readers and writers: two sets for each variable */
+#define REWRITES_MARKS 1024            /* the most marks of a list */
+#define REWRITES_VERDICT_BYTES 1024    /* verdicts: a byte for each of the most marks */
+#define REWRITES_PLACES 8              /* the places of stages */
+#define REWRITES_PLACE_BYTES 35000     /* the bytes of a place */
+#define REWRITES_STAGES_BYTES 280000   /* stages: all places */
+#define REWRITES_NAME_BYTES 8          /* the most letters of a stage's name */
+#define REWRITES_STACK_BYTES 524288    /* the stack that is enough for every call */
+
+/* What rewrites_force tells where the driver can't bring about the condition. */
+#define REWRITES_UNFORCED UINT32_C(4294967295)
+
+/* What a call returns. The order in which refusals are tested is told with each call. */
+enum rewrites_refusal {
+    REWRITES_OK = 0,                    /* not refused */
+    REWRITES_BUFFER = 1,                /* what is lent is too small */
+    REWRITES_MISSPELLED = 2,            /* a line of the program */
+    REWRITES_LINE_COUNT = 3,            /* of the program */
+    REWRITES_PLACEMENT = 4,             /* of `read` or `write` */
+    REWRITES_TARGET = 5,                /* outside 2 to N */
+    REWRITES_CONDITION_LENGTH = 6,      /* over REWRITES_CONDITION_BYTES */
+    REWRITES_CONDITION_MISSPELLED = 7,  /* also a last line of a review without its byte 10 */
+    REWRITES_CONDITION_PARTS = 8,       /* over REWRITES_PARTS */
+    REWRITES_MARK_MISSPELLED = 9,       /* a line of the marks */
+    REWRITES_MARK_COUNT = 10,           /* over REWRITES_MARKS */
+    REWRITES_BUDGET = 15,               /* over REWRITES_MOST_STEPS */
+    REWRITES_REVIEW_LINE_COUNT = 16,    /* none, or over REWRITES_REVIEW_LINES */
+    REWRITES_REVIEW_PARTS = 17,         /* over REWRITES_REVIEW_TABLES that differ */
+    REWRITES_PRICE_MISSPELLED = 19,     /* a line of the prices */
+    REWRITES_PRICE_COUNT = 20,          /* other than REWRITES_KINDS */
+    REWRITES_JOINED_COUNT = 21,         /* over REWRITES_STATEMENTS */
+    REWRITES_DRIVER = 22,               /* the driver's list */
+    REWRITES_STAGE_NAME = 23,           /* not 1 to REWRITES_NAME_BYTES lower-case letters */
+    REWRITES_STAGES_FULL = 24,          /* a new name, and no empty place */
+    REWRITES_STAGE_UNKNOWN = 25         /* no place holds the name */
+};
+
+/* A mark's verdict, a byte of rewrites_judge's. The first that applies is told, and REWRITES_MAY_FAULT
+   is tested before REWRITES_UNMET. */
+enum rewrites_verdict {
+    REWRITES_ACCEPTED = 0,
+    REWRITES_MISSING = 11,    /* no such statement */
+    REWRITES_REPEATED = 12,   /* an earlier line names the statement */
+    REWRITES_UNFIT = 13,      /* the mark doesn't fit */
+    REWRITES_UNMET = 14,      /* its condition is false */
+    REWRITES_MAY_FAULT = 18   /* it drops a division that may fault */
+};
+
+/* What rewrites_run puts into *ended. */
+enum rewrites_outcome { REWRITES_SPENT = 0, REWRITES_ENDED = 1, REWRITES_FAULT = 2 };
+
+/* What rewrites_force puts into arm. */
+enum rewrites_arm { REWRITES_NO_ARM = 0, REWRITES_GOTO = 1, REWRITES_ELSE = 2 };
+
+/* Where in a table of prices that of a statement stands. */
+enum rewrites_kind {
+    REWRITES_KIND_READ = 0,
+    REWRITES_KIND_WRITE = 1,
+    REWRITES_KIND_SKIP = 2,
+    REWRITES_KIND_IF = 3,
+    REWRITES_KIND_COPY = 4,    /* X := A */
+    REWRITES_KIND_PLUS = 5,
+    REWRITES_KIND_MINUS = 6,
+    REWRITES_KIND_TIMES = 7,
+    REWRITES_KIND_LESS = 8,
+    REWRITES_KIND_EQUAL = 9,
+    REWRITES_KIND_DIVIDE = 10
+};
 
 #ifdef __cplusplus
 extern "C" {
@@ -48,14 +146,15 @@ extern "C" {
     3: under 2 or over 1,024 lines (empty text included).
     4: `read` or `write` missing from its place or standing elsewhere.
     5: a target outside 2 to N, the count of statements. */
-uint8_t rewrites_run(const uint8_t *program, size_t program_len, const uint32_t values[64],
-                     uint32_t input, uint32_t budget, const uint32_t prices[11], uint32_t *ended,
-                     int32_t *value, uint32_t *steps, uint32_t *statement, uint32_t left[64],
-                     uint32_t kept[8], uint64_t *ticks);
+uint8_t rewrites_run(const uint8_t *program, size_t program_len,
+                     const uint32_t values[REWRITES_VARIABLES], uint32_t input, uint32_t budget,
+                     const uint32_t prices[REWRITES_KINDS], uint32_t *ended, int32_t *value,
+                     uint32_t *steps, uint32_t *statement, uint32_t left[REWRITES_VARIABLES],
+                     uint32_t kept[REWRITES_KEPT], uint64_t *ticks);
 
 /* Sets all eleven prices to ours: `read` 4, `write` 4, `skip` 1, `if` 3, `X := A` 2, `+` 3, `-` 3,
    `*` 9, `<` 3, `=` 3, `/` 24. */
-void rewrites_our_prices(uint32_t prices[11]);
+void rewrites_our_prices(uint32_t prices[REWRITES_KINDS]);
 
 /* Reads a buyer's table of prices: eleven lines in the order of rewrites_run's, each a decimal number
    from 1 to 65,535 without leading zeros, ended by byte 10. Takes at most 16 KiB of stack.
@@ -65,7 +164,7 @@ void rewrites_our_prices(uint32_t prices[11]);
    Returns the number of a refusal, and keeps all:
    19: some line isn't such a number, or the last lacks its byte 10.
    20: other than eleven lines (empty text included). */
-uint8_t rewrites_prices(const uint8_t *text, size_t text_len, uint32_t prices[11]);
+uint8_t rewrites_prices(const uint8_t *text, size_t text_len, uint32_t prices[REWRITES_KINDS]);
 
 /* Tabulates a condition over the statements of a program: fills the table with the statements at
    which each part of the condition is true. The parts are the condition's operators and atoms, 1 to
@@ -119,8 +218,10 @@ uint8_t rewrites_tabulate(const uint8_t *program, size_t program_len, const uint
    17: over 128 differing parts. */
 uint8_t rewrites_review(const uint8_t *program, size_t program_len, const uint8_t *conditions,
                         size_t conditions_len, uint64_t *table, size_t table_len, uint32_t *tables,
-                        uint32_t *lines, uint32_t table_of[32], uint32_t parts[32],
-                        uint32_t satisfied[32], uint32_t first[32]);
+                        uint32_t *lines, uint32_t table_of[REWRITES_REVIEW_LINES],
+                        uint32_t parts[REWRITES_REVIEW_LINES],
+                        uint32_t satisfied[REWRITES_REVIEW_LINES],
+                        uint32_t first[REWRITES_REVIEW_LINES]);
 
 /* Tells what a driver can force. The list, empty or with single spaces between, names the variables
    that are his: at an `if` on one of them he picks the arm, at every other the unit does, without
@@ -151,7 +252,8 @@ uint8_t rewrites_review(const uint8_t *program, size_t program_len, const uint8_
 uint8_t rewrites_force(const uint8_t *program, size_t program_len, const uint8_t *driver,
                        size_t driver_len, const uint8_t *condition, size_t condition_len,
                        uint64_t *table, size_t table_len, uint32_t *parts, uint32_t *satisfied,
-                       uint32_t *first, uint32_t number[1024], uint8_t arm[1024]);
+                       uint32_t *first, uint32_t number[REWRITES_STATEMENTS],
+                       uint8_t arm[REWRITES_STATEMENTS]);
 
 /* Judges each mark of a list on the program, and writes the program with the accepted marks made. A
    list has zero to 1,024 lines, each ended by byte 10: `n: mark(rm, X, E)`, `n: mark(rpl, X, A)` or
@@ -218,9 +320,9 @@ uint8_t rewrites_judge(const uint8_t *program, size_t program_len, const uint8_t
     9: some line of the marks is misspelled, or the last is without its byte 10.
    10: the marks have over 1,024 lines. */
 uint8_t rewrites_report(const uint8_t *program, size_t program_len, const uint8_t *marks,
-                        size_t marks_len, const uint32_t prices[11], uint32_t before[1024],
-                        uint32_t after[1024], uint32_t *statements, uint32_t *given,
-                        uint32_t *rewritten, int32_t *saved);
+                        size_t marks_len, const uint32_t prices[REWRITES_KINDS],
+                        uint32_t before[REWRITES_STATEMENTS], uint32_t after[REWRITES_STATEMENTS],
+                        uint32_t *statements, uint32_t *given, uint32_t *rewritten, int32_t *saved);
 
 /* Tells where a line of a list of marks lies in the list's text, so that a host can show a verdict
    beside its mark. A list is as with rewrites_judge; line j, counted from 0, is the one whose verdict
@@ -252,7 +354,7 @@ uint8_t rewrites_mark_line(const uint8_t *marks, size_t marks_len, uint32_t line
     1: the list has under 2,048 words.
     2 to 5: the program, as with rewrites_run. */
 uint8_t rewrites_list(const uint8_t *program, size_t program_len, uint64_t *list, size_t list_len,
-                      uint32_t defined[64], uint32_t used[64]);
+                      uint32_t defined[REWRITES_VARIABLES], uint32_t used[REWRITES_VARIABLES]);
 
 /* Brings a list of readers and writers up to date after a round of marks. The marks are judged on the
    program as with rewrites_judge. For each statement whose text the accepted ones change, its bit in
@@ -272,8 +374,8 @@ uint8_t rewrites_list(const uint8_t *program, size_t program_len, uint64_t *list
     9: some line of the marks is misspelled, or the last is without its byte 10.
    10: the marks have over 1,024 lines. */
 uint8_t rewrites_relist(const uint8_t *program, size_t program_len, const uint8_t *marks,
-                        size_t marks_len, uint64_t *list, size_t list_len, uint32_t defined[64],
-                        uint32_t used[64]);
+                        size_t marks_len, uint64_t *list, size_t list_len,
+                        uint32_t defined[REWRITES_VARIABLES], uint32_t used[REWRITES_VARIABLES]);
 
 /* Joins a road program of N statements and a creeper program of M to one of N+M-1. The road program's
    `write X` and the creeper program's `read Y` become the one statement `Y := X`, number N, and
@@ -338,6 +440,19 @@ uint8_t rewrites_keep(uint8_t *stages, size_t stages_len, const uint8_t *name, s
    25: no place holds the name. */
 uint8_t rewrites_return(const uint8_t *stages, size_t stages_len, const uint8_t *name, size_t name_len,
                         uint8_t *text, size_t text_len, uint32_t *bytes);
+
+/* Tell where a text is wrong, counted from 1. They lend nothing, and take any bytes. 0 is returned where
+   nothing is refused, and where the refusal is about no place.
+
+   rewrites_blame_program   the first line that refusal 2, 4 or 5 of the text is about; 0 for 3.
+   rewrites_blame_marks     the first line that isn't spelled as a mark or lacks its byte 10; 0 for 10.
+   rewrites_blame_condition the byte at which reading stopped, for 7: what stands before it begins the
+                            spelling of some condition, and with that byte it begins none. Where the whole
+                            text only begins one it is the byte after the last. 0 for 6 and 8, which
+                            are about no byte: neither length nor the number of parts counts here. */
+uint32_t rewrites_blame_program(const uint8_t *program, size_t program_len);
+uint32_t rewrites_blame_marks(const uint8_t *marks, size_t marks_len);
+uint32_t rewrites_blame_condition(const uint8_t *condition, size_t condition_len);
 
 #ifdef __cplusplus
 }

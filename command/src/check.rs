@@ -35,17 +35,18 @@ pub struct Arguments {
 }
 
 /// A list that was judged.
-struct Judged {
+pub struct Judged {
     given: Text,
     list: Text,
     verdicts: Vec<Verdict>,
     counts: Counts,
-    program: Vec<u8>,
+    /// The program with the accepted marks made.
+    pub program: Vec<u8>,
     report: Report,
 }
 
 #[derive(Serialize)]
-struct Answer<'a> {
+pub struct Answer<'a> {
     marks: usize,
     accepted: usize,
     bytes: usize,
@@ -89,11 +90,8 @@ struct Total<'a> {
     sums: &'a Sums,
 }
 
-/// Judges the list of a folder, whose files read as empty where they can't be opened.
-fn judge(folder: &mut Folder) -> Option<Judged> {
-    folder.is_there("a program in `given` and a list of marks in `marks`")?;
-    let given = folder.read_or_empty("given")?;
-    let list = folder.read_or_empty("marks")?;
+/// Judges a list on a program; or what is refused.
+pub fn judged(given: Text, list: Text) -> Result<Judged, Fault> {
     let (mut verdicts, mut text) = ([0; VERDICT_BYTES], [0; TEXT_BYTES]);
     let judged = rewrites::judge(&given.bytes, &list.bytes, &mut verdicts, &mut text);
     let ours = Prices::ours();
@@ -105,15 +103,21 @@ fn judge(folder: &mut Folder) -> Option<Judged> {
             let verdicts: Vec<Verdict> = bytes.filter_map(Verdict::from_byte).collect();
             let counts = Counts::of(&verdicts);
             let program = text[..judged.bytes as usize].to_vec();
-            Some(Judged { given, list, verdicts, counts, program, report })
+            Ok(Judged { given, list, verdicts, counts, program, report })
         }
         Err(refusal) => {
             let is_of_list = matches!(refusal, Refusal::MarkMisspelled | Refusal::MarkCount);
-            let text = if is_of_list { &list } else { &given };
-            folder.refuse(Fault::refused(refusal, text));
-            None
+            Err(Fault::refused(refusal, if is_of_list { &list } else { &given }))
         }
     }
+}
+
+/// Judges the list of a folder, whose files read as empty where they can't be opened.
+fn judge(folder: &mut Folder) -> Option<Judged> {
+    folder.is_there("a program in `given` and a list of marks in `marks`")?;
+    let given = folder.read_or_empty("given")?;
+    let list = folder.read_or_empty("marks")?;
+    judged(given, list).map_err(|fault| folder.refuse(fault)).ok()
 }
 
 impl Judged {
@@ -149,7 +153,7 @@ impl Judged {
             .collect()
     }
 
-    fn answer(&self) -> Answer<'_> {
+    pub fn answer(&self) -> Answer<'_> {
         Answer {
             marks: self.counts.marks(),
             accepted: self.counts.accepted,

@@ -9,7 +9,7 @@ use std::fmt;
 use std::path::Path;
 
 /// Something wrong with a folder: a refusal, or a file that isn't as it should be.
-#[derive(Debug, Serialize)]
+#[derive(Clone, Debug, Serialize)]
 pub struct Fault {
     /// The number of a refused call.
     pub refusal: Option<u8>,

@@ -10,6 +10,7 @@ use std::path::{Path, PathBuf};
 pub const MOST_BYTES: usize = 65_535;
 
 /// A text with the name by which messages call it.
+#[derive(Clone)]
 pub struct Text {
     pub name: String,
     pub bytes: Vec<u8>,
@@ -51,7 +52,11 @@ pub fn read(path: &Path) -> Result<Vec<u8>, Unread> {
 }
 
 fn read_at_most(path: &Path, most: usize) -> Result<Vec<u8>, Unread> {
-    let file = File::open(path).map_err(Unread::Missing)?;
+    read_open(File::open(path).map_err(Unread::Missing)?, most)
+}
+
+/// The bytes of a file that is open, at most so many.
+pub fn read_open(file: File, most: usize) -> Result<Vec<u8>, Unread> {
     let mut bytes = Vec::new();
     // One byte more than the most is enough to tell that a file is longer.
     file.take(most as u64 + 1).read_to_end(&mut bytes).map_err(Unread::Broken)?;
@@ -83,6 +88,16 @@ pub fn replace(path: &Path, bytes: &[u8]) -> Result<(), Unwritten> {
         Err(error) => Err(error),
     };
     replaced.map_err(|error| Unwritten { place: shown(path), error })
+}
+
+/// The same for a file in its own place. A link there, or what isn't a file, stays as it is.
+pub fn replace_plain(path: &Path, bytes: &[u8]) -> io::Result<()> {
+    match fs::symlink_metadata(path) {
+        Ok(there) if there.is_file() => rename_over(path, Some(there), bytes),
+        Ok(_) => Err(io::Error::new(io::ErrorKind::Other, "a link, or no file")),
+        Err(error) if error.kind() == io::ErrorKind::NotFound => rename_over(path, None, bytes),
+        Err(error) => Err(error),
+    }
 }
 
 fn rename_over(place: &Path, there: Option<fs::Metadata>, bytes: &[u8]) -> io::Result<()> {

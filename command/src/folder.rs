@@ -108,7 +108,8 @@ impl<'a> Folder<'a> {
         None
     }
 
-    fn unread<T>(&mut self, path: &Path, why: &Unread) -> Option<T> {
+    /// A file isn't read.
+    pub fn unread<T>(&mut self, path: &Path, why: &Unread) -> Option<T> {
         self.add(Status::Unread, Fault::unread(path, why));
         None
     }

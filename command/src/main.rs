@@ -6,6 +6,7 @@
 mod blame;
 mod check;
 mod costs;
+mod desk;
 mod fault;
 mod files;
 mod folder;
@@ -43,8 +44,8 @@ Exit status:
 Of many folders the worst is told.";
 
 /// Shift programs: judges marks, tabulates and reviews conditions, runs, prices by a buyer's table, finds
-/// what a driver can force and the lines of marks, lists readers and writers, joins two programs, and keeps
-/// stages to go back to
+/// what a driver can force and the lines of marks, lists readers and writers, joins two programs, keeps
+/// stages to go back to, and serves a page for a folder
 #[derive(Parser)]
 #[command(name = "rewrites", version, after_help = STATUSES)]
 struct Arguments {
@@ -84,6 +85,9 @@ enum Call {
     /// Keep a program under a name, return to one, or show what is kept
     #[command(after_help = STATUSES)]
     Stage(stage::Arguments),
+    /// Serve a page for a folder on this machine, to look at conditions, marks, runs and reviews
+    #[command(after_help = STATUSES)]
+    Desk(desk::Arguments),
 }
 
 /// What is wrong with the arguments of a call taken together.
@@ -98,7 +102,8 @@ fn wrong(arguments: &Arguments) -> Option<clap::Error> {
         | Call::Price(_)
         | Call::Lines(_)
         | Call::List(_)
-        | Call::Join(_) => return None,
+        | Call::Join(_)
+        | Call::Desk(_) => return None,
     };
     let mut command = Arguments::command();
     command.build();
@@ -135,6 +140,7 @@ fn answered(output: &mut Output) -> Result<Status, Unwritten> {
         Call::List(call) => call.run(output),
         Call::Join(call) => call.run(output),
         Call::Stage(call) => call.run(output),
+        Call::Desk(call) => call.run(output),
     }
 }
 

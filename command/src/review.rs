@@ -2,6 +2,7 @@
 
 use crate::blame::lines;
 use crate::fault::Fault;
+use crate::files::Text;
 use crate::folder::Folder;
 use crate::output::{Output, Unwritten};
 use crate::status::Status;
@@ -28,7 +29,7 @@ pub struct Arguments {
 }
 
 #[derive(Serialize)]
-struct Answer {
+pub struct Answer {
     /// The number of the program's statements.
     statements: usize,
     tables: u32,
@@ -111,27 +112,28 @@ impl Answer {
     }
 }
 
+/// The tables of a review over a program, or what is refused.
+pub fn answer(given: &Text, conditions: &Text) -> Result<Answer, Fault> {
+    let mut table = [0; REVIEW_WORDS];
+    let reviewed = rewrites::review(&given.bytes, &conditions.bytes, &mut table);
+    match reviewed {
+        Ok(reviewed) => Ok(Answer::new(&given.bytes, &conditions.bytes, &reviewed, &table)),
+        Err(
+            refusal @ (Refusal::Misspelled
+            | Refusal::LineCount
+            | Refusal::Placement
+            | Refusal::Target),
+        ) => Err(Fault::refused(refusal, given)),
+        Err(refusal) => Err(Fault::of_review(refusal, conditions)),
+    }
+}
+
 impl Arguments {
     fn review(&self, folder: &mut Folder) -> Option<Answer> {
         folder.is_there("a program in `given` and conditions in `conditions`")?;
         let given = folder.read("given")?;
         let conditions = folder.read("conditions")?;
-        let mut table = [0; REVIEW_WORDS];
-        match rewrites::review(&given.bytes, &conditions.bytes, &mut table) {
-            Ok(reviewed) => Some(Answer::new(&given.bytes, &conditions.bytes, &reviewed, &table)),
-            Err(refusal) => {
-                let is_of_program = matches!(
-                    refusal,
-                    Refusal::Misspelled | Refusal::LineCount | Refusal::Placement | Refusal::Target
-                );
-                folder.refuse(if is_of_program {
-                    Fault::refused(refusal, &given)
-                } else {
-                    Fault::of_review(refusal, &conditions)
-                });
-                None
-            }
-        }
+        answer(&given, &conditions).map_err(|fault| folder.refuse(fault)).ok()
     }
 
     pub fn run(&self, output: &mut Output) -> Result<Status, Unwritten> {

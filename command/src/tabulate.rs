@@ -2,6 +2,7 @@
 
 use crate::blame::lines;
 use crate::fault::Fault;
+use crate::files::Text;
 use crate::folder::Folder;
 use crate::output::{Output, Unwritten};
 use crate::parts;
@@ -26,7 +27,7 @@ pub struct Arguments {
 }
 
 #[derive(Serialize)]
-struct Answer {
+pub struct Answer {
     condition: String,
     /// The number of the program's statements.
     statements: usize,
@@ -85,46 +86,47 @@ impl Answer {
     }
 }
 
+/// The table of a condition over a program, or what is refused.
+pub fn answer(given: &Text, condition: &Text) -> Result<Answer, Fault> {
+    let mut table = [0; TABLE_WORDS];
+    match rewrites::tabulate(&given.bytes, &condition.bytes, &mut table) {
+        Ok(answer) => {
+            let texts = parts::texts(&condition.bytes);
+            let rows = texts.into_iter().zip(table.chunks(PART_WORDS)).enumerate();
+            let table = rows.map(|(k, (text, words))| {
+                let statements = statements(words);
+                Row {
+                    part: k + 1,
+                    text: String::from_utf8_lossy(text).into_owned(),
+                    satisfied: statements.len(),
+                    statements,
+                }
+            });
+            Ok(Answer {
+                condition: String::from_utf8_lossy(&condition.bytes).into_owned(),
+                statements: lines(&given.bytes).count(),
+                parts: answer.parts,
+                satisfied: answer.satisfied,
+                first: answer.first,
+                table: table.collect(),
+            })
+        }
+        Err(refusal) => {
+            let is_of_condition = matches!(
+                refusal,
+                Refusal::ConditionLength | Refusal::ConditionMisspelled | Refusal::ConditionParts
+            );
+            Err(Fault::refused(refusal, if is_of_condition { condition } else { given }))
+        }
+    }
+}
+
 impl Arguments {
     fn tabulate(&self, folder: &mut Folder) -> Option<Answer> {
         folder.is_there("a program in `given` and a condition in `condition`")?;
         let given = folder.read("given")?;
         let condition = folder.option_or_bare(&self.condition, "condition")?;
-        let mut table = [0; TABLE_WORDS];
-        match rewrites::tabulate(&given.bytes, &condition.bytes, &mut table) {
-            Ok(answer) => {
-                let texts = parts::texts(&condition.bytes);
-                let rows = texts.into_iter().zip(table.chunks(PART_WORDS)).enumerate();
-                let table = rows.map(|(k, (text, words))| {
-                    let statements = statements(words);
-                    Row {
-                        part: k + 1,
-                        text: String::from_utf8_lossy(text).into_owned(),
-                        satisfied: statements.len(),
-                        statements,
-                    }
-                });
-                Some(Answer {
-                    condition: String::from_utf8_lossy(&condition.bytes).into_owned(),
-                    statements: lines(&given.bytes).count(),
-                    parts: answer.parts,
-                    satisfied: answer.satisfied,
-                    first: answer.first,
-                    table: table.collect(),
-                })
-            }
-            Err(refusal) => {
-                let is_of_condition = matches!(
-                    refusal,
-                    Refusal::ConditionLength
-                        | Refusal::ConditionMisspelled
-                        | Refusal::ConditionParts
-                );
-                let text = if is_of_condition { &condition } else { &given };
-                folder.refuse(Fault::refused(refusal, text));
-                None
-            }
-        }
+        answer(&given, &condition).map_err(|fault| folder.refuse(fault)).ok()
     }
 
     pub fn run(&self, output: &mut Output) -> Result<Status, Unwritten> {

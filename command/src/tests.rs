@@ -21,7 +21,7 @@ fn cases(count: u64) -> impl Iterator<Item = Random> {
 
 /// The line that the second implementation names in its words of a refusal.
 fn line_in_words(refusal: Refusal, program: &[u8]) -> Option<usize> {
-    let words = desk::words(refusal.number(), program);
+    let words = desk::words(refusal.number(), program, &[]);
     let (_, rest) = words.split_once(": line ")?;
     rest.split(|c: char| !c.is_ascii_digit()).next()?.parse().ok()
 }

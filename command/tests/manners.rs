@@ -37,6 +37,7 @@ fn help_and_version() {
         &["list", "-h"],
         &["join", "-h"],
         &["stage", "-h"],
+        &["desk", "-h"],
     ] {
         let output = run(words);
         assert_eq!((status(&output), said(&output).as_str()), (0, ""), "{words:?}");
@@ -76,6 +77,8 @@ fn usage() {
         &["run", ".", "--budget", "-1"],
         &["run", ".", "--set", "i64=1"],
         &["run", ".", "--set", "i3"],
+        &["desk"],
+        &["desk", ".", "."],
         &["price"],
         &["price", ".", "."],
         &["price", ".", "--prices", "prices"],

@@ -2,7 +2,9 @@
 //! paths through them; and marks, which propose rewrites of them.
 //!
 //! The calls are those of a library that is proved to meet its contracts. This package links it and
-//! gives each call a safe form. A call takes no memory but the stack of its thread, at most 512 KiB.
+//! gives each call a safe form. A call takes no memory but the stack of its thread, at most 512 KiB. There
+//! is no state: any number of calls may be under way at once. The build links the archive `librewrites.a`
+//! of the folder that the environment variable `REWRITES_LIB_DIR` names, else that of the repository.
 //!
 //! A program is ASCII text, one statement a line, each line ended by byte 10. The first statement
 //! is `read X`, the last `write X`; between them stand `X := A`, `X := A o A` with `+`, `-`, `*`,
@@ -191,11 +193,20 @@ pub const MOST_STEPS: u32 = 1_000_000;
 /// The words of one part in a table: a bit for each of the most statements.
 pub const PART_WORDS: usize = STATEMENTS / 64;
 
-/// The words that a table must have: 64 parts of [`PART_WORDS`].
-pub const TABLE_WORDS: usize = 64 * PART_WORDS;
+/// The most bytes of a condition.
+pub const CONDITION_BYTES: usize = 1024;
 
-/// The words that the table of a review must have: 128 tables of [`PART_WORDS`].
-pub const REVIEW_WORDS: usize = 128 * PART_WORDS;
+/// The most parts of a condition.
+pub const PARTS: usize = 64;
+
+/// The words that a table must have: [`PART_WORDS`] for each of the most parts.
+pub const TABLE_WORDS: usize = PARTS * PART_WORDS;
+
+/// The most differing parts of a review.
+pub const REVIEW_TABLES: usize = 128;
+
+/// The words that the table of a review must have: [`PART_WORDS`] for each of the most differing parts.
+pub const REVIEW_WORDS: usize = REVIEW_TABLES * PART_WORDS;
 
 /// The most lines of a review.
 pub const REVIEW_LINES: usize = 32;
@@ -217,6 +228,12 @@ pub const TEXT_BYTES: usize = 34 * STATEMENTS;
 
 /// The kinds of statements that have a price of their own.
 pub const KINDS: usize = 11;
+
+/// The largest price, in ticks; the least is 1.
+pub const MOST_PRICE: u32 = 65_535;
+
+/// The bytes of stack that are enough for every call.
+pub const STACK_BYTES: usize = 512 << 10;
 
 /// A table of prices in ticks, which the caller holds and hands to each [`run`] and [`report`]; at first it is
 /// [`ours`](Prices::ours). The library remembers none.
@@ -361,6 +378,77 @@ pub struct Tabulated {
     pub first: u32,
 }
 
+/// The words that a call filled, read by statement: the parts of [`tabulate`] and [`force`], the tables of
+/// [`review`], the sets of [`list()`], each [`PART_WORDS`] words.
+///
+/// Words that a call keeps are what they were: an answer tells how many parts or tables it filled.
+///
+/// ```
+/// use rewrites::{list, review, tabulate, Table, LIST_WORDS, REVIEW_WORDS, TABLE_WORDS};
+///
+/// let program = b"read i0\nif i0 goto 2 else 3\nwrite i0\n";
+///
+/// // Part 0 is `exit`, part 1 is `AF exit`: statement 2 may go round for ever.
+/// let mut words = [0; TABLE_WORDS];
+/// let answer = tabulate(program, b"AF exit", &mut words)?;
+/// let table = Table(&words);
+/// assert!(table.part_at(1, 3));
+/// assert!(!table.part_at(1, 2));
+///
+/// // The whole condition is the last part.
+/// let whole: Vec<u32> = table.statements_of(answer.parts - 1).collect();
+/// assert_eq!(whole, [3]);
+///
+/// // Of a review: the table of its second line.
+/// let mut words = [0; REVIEW_WORDS];
+/// let answer = review(program, b"exit\nEX exit\n", &mut words)?;
+/// assert!(Table(&words).part_at(answer.table_of[1], 2));
+///
+/// // Of a list: variable v has set 2v, the statements that define it, and 2v + 1, those that use it.
+/// let mut words = [0; LIST_WORDS];
+/// list(program, &mut words)?;
+/// assert_eq!(Table(&words).statements_of(0).collect::<Vec<_>>(), [1]);
+/// assert_eq!(Table(&words).statements_of(1).collect::<Vec<_>>(), [2, 3]);
+/// # Ok::<(), rewrites::Refusal>(())
+/// ```
+#[derive(Clone, Copy, Debug, PartialEq, Eq)]
+pub struct Table<'t>(pub &'t [u64]);
+
+impl<'t> Table<'t> {
+    /// Whether a part, counted from 0, is true at a statement, counted from 1. False where the words have
+    /// no such part, and at 0 and beyond [`STATEMENTS`].
+    ///
+    /// ```
+    /// use rewrites::{tabulate, Table, STATEMENTS, TABLE_WORDS};
+    ///
+    /// let mut words = [0; TABLE_WORDS];
+    /// tabulate(b"read i0\nwrite i0\n", b"EX exit", &mut words)?;
+    /// let table = Table(&words);
+    /// assert_eq!((table.part_at(0, 1), table.part_at(0, 2)), (false, true));
+    /// assert_eq!((table.part_at(1, 1), table.part_at(1, 2)), (true, true));
+    ///
+    /// assert!(!table.part_at(0, 0) && !table.part_at(0, STATEMENTS as u32 + 1));
+    /// assert!(!table.part_at(u32::MAX, 2));
+    /// # Ok::<(), rewrites::Refusal>(())
+    /// ```
+    pub fn part_at(self, part: u32, statement: u32) -> bool {
+        let at = (statement as usize).wrapping_sub(1);
+        at < STATEMENTS
+            && self.part(part).map_or(false, |words| words[at / 64] >> (at % 64) & 1 == 1)
+    }
+
+    /// The statements at which a part, counted from 0, is true, in order.
+    pub fn statements_of(self, part: u32) -> impl Iterator<Item = u32> + 't {
+        (1..=STATEMENTS as u32).filter(move |&statement| self.part_at(part, statement))
+    }
+
+    /// The words of a part, if there is room for it.
+    pub fn part(self, part: u32) -> Option<&'t [u64]> {
+        let begin = (part as usize).checked_mul(PART_WORDS)?;
+        self.0.get(begin..begin.checked_add(PART_WORDS)?)
+    }
+}
+
 /// What a review answers beside the tables. Entry j of an array is that of line j, counted from 0;
 /// entries past the lines are 0.
 #[derive(Clone, Copy, Debug, PartialEq, Eq)]
@@ -434,6 +522,40 @@ pub struct Judged {
     pub accepted: u32,
     /// The number of bytes of new text.
     pub bytes: u32,
+}
+
+impl Judged {
+    /// The new program, of the text that [`judge`] filled.
+    ///
+    /// # Panics
+    ///
+    /// Where the text is shorter than the new program, so isn't the one that was filled.
+    ///
+    /// ```
+    /// use rewrites::{judge, Verdict, TEXT_BYTES, VERDICT_BYTES};
+    ///
+    /// let (mut verdicts, mut text) = ([0; VERDICT_BYTES], [0; TEXT_BYTES]);
+    /// let program = b"read i0\ni1 := 7\nwrite i0\n";
+    /// let marks = b"2: mark(rm, i1, 7)\n4: mark(rm, i1, 7)\n";
+    /// let answer = judge(program, marks, &mut verdicts, &mut text)?;
+    /// assert_eq!(answer.text(&text), b"read i0\nskip\nwrite i0\n");
+    /// let told: Vec<Verdict> = answer.verdicts(&verdicts).collect();
+    /// assert_eq!(told, [Verdict::Accepted, Verdict::Missing]);
+    /// # Ok::<(), rewrites::Refusal>(())
+    /// ```
+    pub fn text<'t>(&self, text: &'t [u8]) -> &'t [u8] {
+        &text[..self.bytes as usize]
+    }
+
+    /// The verdict of each mark, of the bytes that [`judge`] filled.
+    ///
+    /// # Panics
+    ///
+    /// Where there are fewer bytes than marks, or one that is no verdict: they aren't those that were filled.
+    pub fn verdicts<'v>(&self, verdicts: &'v [u8]) -> impl Iterator<Item = Verdict> + 'v {
+        let verdict = |&byte: &u8| Verdict::from_byte(byte).expect("a byte that judge filled");
+        verdicts[..self.marks as usize].iter().map(verdict)
+    }
 }
 
 /// The prices of a program's statements before and after the accepted marks of a list are made, in ticks.
@@ -535,6 +657,26 @@ pub struct Joined {
     pub statements: u32,
     /// The number of bytes of its text.
     pub bytes: u32,
+}
+
+impl Joined {
+    /// The joined program, of the text that [`join`] filled.
+    ///
+    /// # Panics
+    ///
+    /// Where the text is shorter than the joined program, so isn't the one that was filled.
+    ///
+    /// ```
+    /// use rewrites::{join, TEXT_BYTES};
+    ///
+    /// let mut text = [0; TEXT_BYTES];
+    /// let answer = join(b"read i0\nwrite i0\n", b"read i1\nwrite i1\n", &mut text)?;
+    /// assert_eq!(answer.text(&text), b"read i0\ni1 := i0\nwrite i1\n");
+    /// # Ok::<(), rewrites::Refusal>(())
+    /// ```
+    pub fn text<'t>(&self, text: &'t [u8]) -> &'t [u8] {
+        &text[..self.bytes as usize]
+    }
 }
 
 /// Why a call is refused. The first that applies is answered, in the order of the variants.
@@ -1068,7 +1210,7 @@ pub fn force(
 ///     other => panic!("{:?}", other),
 /// };
 /// assert_eq!(left(program), (6, 7));
-/// assert_eq!(left(&text[..answer.bytes as usize]), (6, 0));
+/// assert_eq!(left(answer.text(&text)), (6, 0));
 /// # Ok::<(), rewrites::Refusal>(())
 /// ```
 pub fn judge(
@@ -1206,6 +1348,60 @@ pub fn mark_line(marks: &[u8], line: u32) -> Result<Range<usize>, Refusal> {
     Ok(begin..end)
 }
 
+/// The line of a program's text, counted from 1, that its refusal is about, if it is about one.
+///
+/// It is the first that isn't spelled as a statement, else the first whose `read` or `write` stands wrong, else
+/// the first with a target outside 2 to N. A wrong number of lines is about no line.
+///
+/// ```
+/// use rewrites::blame_program;
+///
+/// assert_eq!(blame_program(b"read i0\nskip\nif i0 goto 9 else 2\nwrite i0\n"), Some(3));
+/// assert_eq!(blame_program(b"read i0\n"), None);
+/// assert_eq!(blame_program(b"read i0\nwrite i0\n"), None);
+/// ```
+pub fn blame_program(program: &[u8]) -> Option<u32> {
+    // SAFETY: the pointer comes from a reference, so it isn't null.
+    place(unsafe { raw::rewrites_blame_program(program.as_ptr(), program.len()) })
+}
+
+/// The first line of a list of marks, counted from 1, that isn't spelled as a mark or lacks its byte 10.
+///
+/// ```
+/// use rewrites::blame_marks;
+///
+/// assert_eq!(blame_marks(b"2: mark(rm, i0, 1)\n3: mark(rm, i0)\n"), Some(2));
+/// assert_eq!(blame_marks(b"2: mark(rm, i0, 1)"), Some(1));
+/// assert_eq!(blame_marks(b"2: mark(rm, i0, 1)\n"), None);
+/// ```
+pub fn blame_marks(marks: &[u8]) -> Option<u32> {
+    // SAFETY: the pointer comes from a reference, so it isn't null.
+    place(unsafe { raw::rewrites_blame_marks(marks.as_ptr(), marks.len()) })
+}
+
+/// The byte, counted from 1, at which the reading of a misspelled condition stops.
+///
+/// What stands before it begins the spelling of some condition, and with that byte it begins none. Where the
+/// whole text only begins one it is the byte after the last. A condition that is too long or has too many parts
+/// is wrong at no byte.
+///
+/// ```
+/// use rewrites::blame_condition;
+///
+/// assert_eq!(blame_condition(b"E[true U node(05)]"), Some(16));
+/// assert_eq!(blame_condition(b"(true & fal"), Some(12));
+/// assert_eq!(blame_condition(b"(true & false)"), None);
+/// ```
+pub fn blame_condition(condition: &[u8]) -> Option<u32> {
+    // SAFETY: the pointer comes from a reference, so it isn't null.
+    place(unsafe { raw::rewrites_blame_condition(condition.as_ptr(), condition.len()) })
+}
+
+/// What one of the calls above returned: 0 is no place.
+fn place(number: u32) -> Option<u32> {
+    (number != 0).then_some(number)
+}
+
 /// Makes the list of a program's readers and writers: for each variable the statements that define it,
 /// `read X` or `X := E`, and those that use it.
 ///
@@ -1291,7 +1487,7 @@ pub fn list(program: &[u8], list: &mut [u64]) -> Result<Listing, Refusal> {
 /// let mut text = [0; TEXT_BYTES];
 /// let judged = judge(program, marks, &mut [0; VERDICT_BYTES], &mut text)?;
 /// let mut afresh = [0; LIST_WORDS];
-/// assert_eq!(list(&text[..judged.bytes as usize], &mut afresh), Ok(answer));
+/// assert_eq!(list(judged.text(&text), &mut afresh), Ok(answer));
 /// assert_eq!(words, afresh);
 /// # Ok::<(), Refusal>(())
 /// ```
@@ -1348,7 +1544,7 @@ pub fn relist(program: &[u8], marks: &[u8], list: &mut [u64]) -> Result<Listing,
 /// let mut text = [0; TEXT_BYTES];
 /// let answer = join(road, creeper, &mut text)?;
 /// assert_eq!(answer, Joined { statements: 6, bytes: 73 });
-/// let joined = &text[..73];
+/// let joined = answer.text(&text);
 /// assert_eq!(
 ///     joined,
 ///     b"read i0\n\
@@ -1514,7 +1710,7 @@ pub fn go_back(stages: &[u8], name: &[u8], text: &mut [u8]) -> Result<u32, Refus
 /// // A round of marks, and its result under a name of its own.
 /// let mut text = [0; TEXT_BYTES];
 /// let judged = judge(program, b"3: mark(rpl, i1, i0)\n", &mut [0; VERDICT_BYTES], &mut text)?;
-/// assert_eq!(stages.keep("copied", &text[..judged.bytes as usize])?, 2);
+/// assert_eq!(stages.keep("copied", judged.text(&text))?, 2);
 ///
 /// assert_eq!(stages.go_back("given")?, program);
 /// assert_eq!(stages.go_back("copied")?, b"read i0\ni1 := i0\ni2 := i0\nwrite i2\n");

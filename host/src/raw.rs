@@ -245,4 +245,25 @@ extern "C" {
         text_len: usize,
         bytes: *mut u32,
     ) -> u8;
+
+    /// See [`crate::blame_program`] and the header.
+    ///
+    /// # Safety
+    ///
+    /// `program` points to `program_len` bytes; it may be null where that is 0.
+    pub fn rewrites_blame_program(program: *const u8, program_len: usize) -> u32;
+
+    /// See [`crate::blame_marks`] and the header.
+    ///
+    /// # Safety
+    ///
+    /// `marks` points to `marks_len` bytes; it may be null where that is 0.
+    pub fn rewrites_blame_marks(marks: *const u8, marks_len: usize) -> u32;
+
+    /// See [`crate::blame_condition`] and the header.
+    ///
+    /// # Safety
+    ///
+    /// `condition` points to `condition_len` bytes; it may be null where that is 0.
+    pub fn rewrites_blame_condition(condition: *const u8, condition_len: usize) -> u32;
 }

@@ -28,6 +28,18 @@ enum {
     TEXT = 34816
 };
 
+/* The header's names have these numbers. Host crate and package are held to the header by their own tests. */
+static int constants_answer(void) {
+    CHECK(REWRITES_STATEMENTS == STATEMENTS && REWRITES_VARIABLES == VARIABLES && REWRITES_MARKS == MARKS);
+    CHECK(REWRITES_PART_WORDS == PART && REWRITES_TABLE_WORDS == TABLE && REWRITES_REVIEW_WORDS == REVIEW);
+    CHECK(REWRITES_LIST_WORDS == LIST && REWRITES_TEXT_BYTES == TEXT && REWRITES_VERDICT_BYTES == MARKS);
+    CHECK(REWRITES_PARTS * PART == TABLE && REWRITES_REVIEW_TABLES * PART == REVIEW);
+    CHECK(REWRITES_PLACES * REWRITES_PLACE_BYTES == REWRITES_STAGES_BYTES);
+    CHECK(REWRITES_VERSION == REWRITES_VERSION_MAJOR * 10000 + REWRITES_VERSION_MINOR * 100 + REWRITES_VERSION_PATCH);
+    CHECK(REWRITES_OK == 0 && REWRITES_ACCEPTED == 0 && REWRITES_UNFORCED == 0xffffffff);
+    return 0;
+}
+
 /* Our prices, which rewrites_our_prices sets. */
 static uint32_t ours[11];
 
@@ -838,7 +850,7 @@ static int stages_answer(void) {
 
 int main(void) {
     rewrites_our_prices(ours);
-    return run_answers() || kept_answers() || division_answers() || report_answers() || prices_answers() ||
+    return constants_answer() || run_answers() || kept_answers() || division_answers() || report_answers() || prices_answers() ||
            cse_answers() ||
            tabulate_answers() || force_answers() || review_answers() || full_review_answers() ||
            judge_answers() ||

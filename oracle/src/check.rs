@@ -44,7 +44,7 @@ pub fn said(given: Option<&[u8]>, marks: Option<&[u8]>) -> String {
     }
     let (given, marks) = (given.unwrap_or_default(), marks.unwrap_or_default());
     match marks::judge(given, marks, &mut [0; VERDICT_BYTES], &mut [0; TEXT_BYTES]) {
-        Err(number) => said + &desk::words(number, given),
+        Err(number) => said + &desk::words(number, given, marks),
         Ok(_) => said,
     }
 }

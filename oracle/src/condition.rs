@@ -5,8 +5,11 @@
 //! as one that comes back to a statement it already holds.
 
 use std::fmt::Write;
+use std::ops::RangeInclusive;
 
-use crate::program::{expression, number, variable, Expression, Program, Statement, MOST_LINES};
+use crate::program::{
+    expression, number, variable, Expression, Program, Statement, MOST_LINES, VARIABLES,
+};
 use crate::steps::Steps;
 
 /// The longest text of a condition, in bytes.
@@ -207,6 +210,120 @@ impl<'a> Reader<'a> {
         };
         Some(self.add(Part::Path(quantifier, direction, demand)))
     }
+}
+
+/// How far a text can be read: every way to read it is tried, and the furthest byte that one of them came to
+/// is kept. Each of them could have gone on there, so the text before that byte begins some spelling.
+struct Trial<'a> {
+    text: &'a [u8],
+    furthest: usize,
+}
+
+impl Trial<'_> {
+    /// Where the word ends that stands there.
+    fn word(&mut self, at: usize, word: &str) -> Vec<usize> {
+        let alike = self.text[at..].iter().zip(word.as_bytes()).take_while(|(a, b)| a == b).count();
+        self.furthest = self.furthest.max(at + alike);
+        if alike == word.len() {
+            vec![at + alike]
+        } else {
+            Vec::new()
+        }
+    }
+
+    /// Where a number in this range may end.
+    fn number(&mut self, at: usize, range: RangeInclusive<u64>) -> Vec<usize> {
+        let mut ends = Vec::new();
+        for end in at + 1..=self.text.len() {
+            let digits = &self.text[at..end];
+            let value = std::str::from_utf8(digits).ok().and_then(|text| text.parse::<u64>().ok());
+            match value {
+                Some(value) if range.contains(&value) && value.to_string().as_bytes() == digits => {
+                    ends.push(end);
+                    self.furthest = self.furthest.max(end);
+                }
+                _ => break,
+            }
+        }
+        ends
+    }
+
+    /// One of the spellings, in each of which `V`, `N`, `A`, `X`, `S` and `C` stand for a variable, a statement
+    /// number, an operand, an expression, a statement and a condition.
+    fn spellings(&mut self, at: usize, spellings: &[&str]) -> Vec<usize> {
+        spellings.iter().flat_map(|spelling| self.spelling(at, spelling)).collect()
+    }
+
+    fn spelling(&mut self, at: usize, spelling: &str) -> Vec<usize> {
+        self.each(vec![at], spelling)
+    }
+
+    /// The same from each of these places on.
+    fn each(&mut self, mut ends: Vec<usize>, spelling: &str) -> Vec<usize> {
+        for item in spelling.chars() {
+            ends = ends.into_iter().flat_map(|at| self.item(at, item)).collect();
+        }
+        ends
+    }
+
+    fn item(&mut self, at: usize, item: char) -> Vec<usize> {
+        match item {
+            'V' => {
+                let named = self.word(at, "i");
+                let most = u64::from(VARIABLES) - 1;
+                named.into_iter().flat_map(|at| self.number(at, 0..=most)).collect()
+            }
+            'N' => self.number(at, 0..=(1 << 31) - 1),
+            'M' => self.number(at, 1..=1 << 31),
+            'A' => self.spellings(at, &["V", "N", "-M"]),
+            'X' => self.spellings(at, &["A", "A + A", "A - A", "A * A", "A < A", "A = A", "A / A"]),
+            'S' => {
+                let forms = ["read V", "write V", "V := X", "if V goto N else N", "skip"];
+                self.spellings(at, &forms)
+            }
+            'C' => self.condition(at),
+            _ => self.word(at, item.encode_utf8(&mut [0; 4])),
+        }
+    }
+
+    fn condition(&mut self, at: usize) -> Vec<usize> {
+        let mut ends = self.spellings(at, &["!C", "true", "false", "entry", "exit"]);
+        ends.extend(self.spellings(at, &["node(N)", "stmt(S)", "def(V)", "use(V)", "trans(X)"]));
+        // A capital letter of the spelling itself is no item here, so these are words.
+        for quantifier in ["E", "A"] {
+            for after in self.word(at, quantifier) {
+                for letter in ["X", "F", "G", "Y", "R", "M"] {
+                    let named = self.word(after, letter);
+                    ends.extend(self.each(named, " C"));
+                }
+                let first = self.spelling(after, "[C ");
+                for letter in ["U", "W", "S", "B"] {
+                    for &at in &first {
+                        let named = self.word(at, letter);
+                        ends.extend(self.each(named, " C]"));
+                    }
+                }
+            }
+        }
+        let first = self.spelling(at, "(C ");
+        for sign in ["& C)", "| C)"] {
+            for &at in &first {
+                ends.extend(self.spelling(at, sign));
+            }
+        }
+        ends
+    }
+}
+
+/// The byte, counted from 1, at which the reading of a misspelled condition stops; 0 where it isn't refused as
+/// misspelled. It may be the byte after the last.
+pub fn stop(text: &[u8]) -> usize {
+    if Condition::read(text).err() != Some(7) {
+        return 0;
+    }
+    let mut trial = Trial { text, furthest: 0 };
+    trial.condition(0);
+    trial.furthest + 1
 }
 
 impl Condition {

@@ -1,6 +1,6 @@
 //! What the desk's programs print: the viewer, the runner, and the comparison of two runs.
 
-use crate::condition::{Checker, Condition, TABLE_WORDS};
+use crate::condition::{stop, Checker, Condition, TABLE_WORDS};
 use crate::forcing::{self, Arm, Player};
 use crate::liveness::{differing, Liveness};
 use crate::machine::{self, Kept, Outcome, Run, State, Values, VALUES};
@@ -47,8 +47,16 @@ fn grouped(number: usize) -> String {
     }
 }
 
-/// The words of a refusal, on a line of their own.
-pub fn words(number: u8, program: &[u8]) -> String {
+/// The line that the refusal of a program's text is about; 0 where it is about none, or the text is taken.
+pub fn blame(program: &[u8]) -> usize {
+    match Program::read(program) {
+        Err(number @ (2 | 4 | 5)) => line_of(program, number),
+        _ => 0,
+    }
+}
+
+/// The words of a refusal, on a line of their own. The other text is the condition, or the list of marks.
+pub fn words(number: u8, program: &[u8], other: &[u8]) -> String {
     let line = || line_of(program, number);
     let words = match number {
         2 => format!("line {} isn't spelled as a statement, or lacks its byte 10", line()),
@@ -58,9 +66,12 @@ pub fn words(number: u8, program: &[u8]) -> String {
         }
         5 => format!("line {}: a target outside 2 to N", line()),
         6 => "longer than 1,024 bytes".into(),
-        7 => "misspelled".into(),
+        7 => format!("misspelled from byte {} on", stop(other)),
         8 => "over 64 parts".into(),
-        9 => "some line misspelled, or the last without its byte 10".into(),
+        9 => {
+            let line = marks::first_wrong(other);
+            format!("line {line} isn't spelled as a mark, or lacks its byte 10")
+        }
         10 => format!("over {} lines", grouped(MOST_MARKS)),
         19 => "some line isn't a price from 1 to 65,535, or the last lacks its byte 10".into(),
         20 => "other than eleven lines".into(),
@@ -78,8 +89,8 @@ pub fn words(number: u8, program: &[u8]) -> String {
     format!("{author}: {words}\n")
 }
 
-fn refused(number: u8, program: &[u8]) -> String {
-    format!("refused {number}\n{}", words(number, program))
+fn refused(number: u8, program: &[u8], other: &[u8]) -> String {
+    format!("refused {number}\n{}", words(number, program, other))
 }
 
 // The viewer
@@ -95,11 +106,11 @@ fn columns(parts: usize, byte: impl FnMut(usize) -> char) -> String {
 pub fn view(program: &[u8], condition: &[u8]) -> String {
     let given = match Program::read(program) {
         Ok(given) => given,
-        Err(number) => return refused(number, program),
+        Err(number) => return refused(number, program, condition),
     };
     let condition = match Condition::read(condition) {
         Ok(condition) => condition,
-        Err(number) => return refused(number, program),
+        Err(number) => return refused(number, program, condition),
     };
     let (steps, parts) = (Steps::new(&given), condition.parts().len());
     let mut checker = Checker::new(&given, &steps, &condition);
@@ -130,7 +141,7 @@ pub fn view(program: &[u8], condition: &[u8]) -> String {
 pub fn force(program: &[u8], driver: &[u8], condition: &[u8]) -> String {
     let told = match forcing::force(program, driver, condition, &mut [0; TABLE_WORDS]) {
         Ok(told) => told,
-        Err(number) => return refused(number, program),
+        Err(number) => return refused(number, program, condition),
     };
     let given = Program::read(program).expect("a program that is played is taken");
     let his = forcing::names(driver).expect("its list is taken");
@@ -249,7 +260,7 @@ pub fn run(program: &[u8], start: &[u8], trace: bool) -> String {
     };
     let outcome = match machine::run(program, start.values, start.input, start.budget, &OURS) {
         Ok(outcome) => outcome,
-        Err(number) => return refused(number, program),
+        Err(number) => return refused(number, program, &[]),
     };
     let given = Program::read(program).expect("a program that ran is taken");
     let mut text = String::new();
@@ -285,12 +296,12 @@ pub fn compare(program: &[u8], list: &[u8], start: &[u8]) -> String {
     let run = |text: &[u8]| machine::run(text, start.values, start.input, start.budget, &OURS);
     let given_ends = match run(program) {
         Ok(outcome) => outcome,
-        Err(number) => return refused(number, program),
+        Err(number) => return refused(number, program, list),
     };
     let (mut verdicts, mut new) = (vec![0; VERDICT_BYTES], vec![0; TEXT_BYTES]);
     let (count, accepted, bytes) = match marks::judge(program, list, &mut verdicts, &mut new) {
         Ok(answer) => answer,
-        Err(number) => return refused(number, program),
+        Err(number) => return refused(number, program, list),
     };
     new.truncate(bytes as usize);
     let given = Program::read(program).expect("a program that was judged is taken");
@@ -331,11 +342,11 @@ fn answer_line(outcome: &Outcome) -> String {
 pub fn price(program: &[u8], list: &[u8], table: &[u8], start: Option<&[u8]>) -> String {
     let prices = match read_prices(table) {
         Ok(prices) => prices,
-        Err(number) => return refused(number, program),
+        Err(number) => return refused(number, program, list),
     };
     let text = match report(program, list, &prices) {
         Ok(report) => report.text(),
-        Err(number) => return refused(number, program),
+        Err(number) => return refused(number, program, list),
     };
     let start = match start.map(read_start) {
         None => return text,
@@ -351,6 +362,6 @@ pub fn price(program: &[u8], list: &[u8], table: &[u8], start: Option<&[u8]>) ->
             let (given, rewritten) = (answer_line(&given), answer_line(&rewritten));
             text + &format!("given {given}rewritten {rewritten}")
         }
-        (Err(number), _) | (_, Err(number)) => refused(number, program),
+        (Err(number), _) | (_, Err(number)) => refused(number, program, list),
     }
 }

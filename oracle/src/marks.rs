@@ -139,6 +139,12 @@ pub fn read(text: &[u8]) -> Result<Vec<Mark>, u8> {
     Ok(marks)
 }
 
+/// The first line of a list, counted from 1, that isn't spelled as a mark; 0 where each is.
+pub fn first_wrong(text: &[u8]) -> usize {
+    let is_wrong = |line: &[u8]| line.strip_suffix(b"\n").and_then(Mark::read).is_none();
+    text.split_inclusive(|&byte| byte == b'\n').position(is_wrong).map_or(0, |at| at + 1)
+}
+
 /// The text of a list of any length.
 pub fn text(marks: &[Mark]) -> Vec<u8> {
     marks.iter().flat_map(|mark| format!("{mark}\n").into_bytes()).collect()

@@ -1,12 +1,14 @@
 -- From the line at which the reading stops to the line that a refusal is about. Assumes nothing.
 use mathlib.Core.Path.{_≡_, refl, ap, sym, _∙_}
-use mathlib.Core.List.{List, [], _∷_, append-nil}
+use mathlib.Core.List.{List, [], _∷_}
 use Prim.Native.Nat.{ℕ, _+_, _≤_, _<_}
 use native.Mathlib.Omega.{arith}
-use lib.ListN.{length, getD, drop, length-drop}
+use lib.ListN.{length, getD, drop}
 use borrow.Author.Count.{below-more}
 use Rattle.lines.specs.Lines.{LineOf, NoLine}
-use Rattle.lines.proofs.Texts.{no-line-empty, front-unique, spells-unique}
+use Rattle.lines.proofs.Texts.{spells-unique}
+use Rattle.line_number.specs.First.{lineAt}
+use Rattle.line_number.proofs.First.{not-spelled}
 use Rattle.lines.proofs.Walk.{Begins, text-done, line-inside, line-is}
 use Rattle.lines.proofs.Reading.{SoFar, none-yet, one-more, begins-here}
 use Rattle.language.specs.Spelling.{spell, Valid}
@@ -17,10 +19,13 @@ use Rattle.statement_reader.specs.declared.StatementRead.{StatementRead}
 use Rattle.statement_reader.specs.declared.StatementRead.the-variants.{Found, Misspelled}
 use Rattle.program.specs.declared.Refusal.{Refusal}
 use Rattle.program.specs.declared.Refusal.the-variants as refusal
-use Rattle.program.specs.Program.{text, Spells, at}
-use Rattle.program.specs.Reading.{Refused, number}
+use Rattle.program.specs.Program.{Spells, at}
+use Rattle.program.specs.declared.Answer as answer
+use Rattle.program.specs.declared.Program.{Program}
+use Rattle.program.specs.Reading.{Refused, number, ProgramRead}
 use Rattle.program.proofs.Texts.{statements-unambiguous}
-use Rattle.blame.specs.Blame.{lineAt, Rule, FirstMisspelled, FirstBroken, NoneBroken, Blames, LineTold, misspelled, broken, none, NumberTold, Blamed}
+use Rattle.program.proofs.Unique.{refused-unique, taken-refused}
+use Rattle.blame.specs.Blame.{Rule, FirstBroken, NoneBroken, Blames, LineTold, misspelled, broken, none, NumberTold, Blamed, TextBlamed}
 
 -- what the reader of a line told
 pub line-of : {t : List ℕ} {at : ℕ} {r : StatementRead} {s : Statement} {k : ℕ} → r ≡ Found s k → LineRead t at r → LineOf spell Valid t at s k
@@ -28,20 +33,6 @@ line-of is l = rw is at l
 
 pub no-line : (t : List ℕ) (at : ℕ) {r : StatementRead} → r ≡ Misspelled → LineRead t at r → NoLine spell Valid (drop at t)
 no-line t at is l = rw is at l
-
--- no line stands there: it is the first that isn't spelled
-pub first-misspelled : {t : List ℕ} {s p : ℕ} (so : SoFar spell Valid t s p) {a : StatementRead} → LineRead t p a → a ≡ Misspelled → p < length t → {k : ℕ} → k ≡ lineAt s
-    → FirstMisspelled t k
-first-misspelled {t} {s} {p} so l is h e =
-    record {
-      P = so .read;
-      rest = drop p t;
-      lines = so .front;
-      valid = so .valid;
-      more = omega (arith, length-drop p t);
-      misspelled = no-line t p is l;
-      line = e ∙ ap lineAt (so .counted);
-    }
 
 -- s lines are read up to the position; if the text has n, the statements of these are as the refusal asks
 pub record Good (t : List ℕ) (r : Refusal) (n s p : ℕ) : Type 0 where
@@ -85,13 +76,6 @@ module _ {t : List ℕ} {r : Refusal} {n s p : ℕ} (g : Good t r n s p) where
           line = il;
         }
 
--- a text with a line that isn't spelled is that of no statements
-pub not-spelled : {t : List ℕ} {n : ℕ} → FirstMisspelled t n → (Q : List Statement) → Spells t Q → ⊥
-not-spelled m Q q =
-    let e = sym (m .lines) ∙ q .lines ∙ sym (append-nil (text Q)) in
-    let u = front-unique statements-unambiguous (m .P) Q (m .rest) [] (m .valid) (q .valid) (m .misspelled) (no-line-empty spell Valid) e in
-    omega (arith, m .more, ap length (u .1))
-
 -- what each holds of a text's statements holds of those of any other reading of it
 pub none-of : {C : ℕ → ℕ → Statement → Type 0} {t : List ℕ} → NoneBroken C t → (Q : List Statement) → Spells t Q → (j : ℕ) → j < length Q → C (length Q) j (at Q j)
 none-of b Q q = rw (spells-unique statements-unambiguous (b .spells) q) at (b .each)
@@ -101,13 +85,13 @@ pub blames : {t : List ℕ} {r : Refusal} {n : ℕ} → LineTold t r n → Refus
 blames {r = refusal.Misspelled} (misspelled m) f = m
 blames {r = refusal.Misspelled} (broken b) f = absurd (b .broken tt)
 blames {r = refusal.Misspelled} (none b e) f = absurd (f (b .P) (b .spells))
-blames {r = refusal.LineCount} (misspelled m) f = absurd (not-spelled m (f .0) (f .1))
+blames {r = refusal.LineCount} (misspelled m) f = absurd (not-spelled statements-unambiguous m (f .0) (f .1))
 blames {r = refusal.LineCount} (broken b) f = absurd (b .broken tt)
 blames {r = refusal.LineCount} (none b e) f = e
-blames {r = refusal.Placement} (misspelled m) f = absurd (not-spelled m (f .0) (f .1))
+blames {r = refusal.Placement} (misspelled m) f = absurd (not-spelled statements-unambiguous m (f .0) (f .1))
 blames {r = refusal.Placement} (broken b) f = b
 blames {r = refusal.Placement} (none b e) f = absurd (f .3 (none-of b (f .0) (f .1)))
-blames {r = refusal.Target} (misspelled m) f = absurd (not-spelled m (f .0) (f .1))
+blames {r = refusal.Target} (misspelled m) f = absurd (not-spelled statements-unambiguous m (f .0) (f .1))
 blames {r = refusal.Target} (broken b) f = b
 blames {r = refusal.Target} (none b e) f = absurd (f .4 (none-of b (f .0) (f .1)))
 
@@ -137,3 +121,13 @@ no-number {t} {n} a b c d = record { told = λ r e. absurd (go r e); other = λ 
     go refusal.LineCount e = b e
     go refusal.Placement e = c e
     go refusal.Target e = d e
+
+-- the reading of the text tells which refusal it gets, or that it is taken
+module _ {t : List ℕ} (a : answer.Answer) (p : Program) where
+  pub read-taken : a ≡ answer.the-variants.Taken → ProgramRead t a p → TextBlamed t 0
+  read-taken is d = let k = (rw is at d) .0 in record { about = λ r f. absurd (taken-refused t k r f); taken = λ P _. refl }
+
+  pub read-refused : {s : Refusal} → a ≡ answer.the-variants.Refused s → ProgramRead t a p → {n : ℕ} → LineTold t s n → TextBlamed t n
+  read-refused {s} is d w =
+      let f = (rw is at d) .0 in
+      record { about = λ r g. rw (refused-unique t r s g f) (blames w f); taken = λ P k. absurd (taken-refused t k s f) }

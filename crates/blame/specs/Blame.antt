@@ -1,32 +1,20 @@
 -- Which line of a program's text a refusal is about.
 use mathlib.Core.Path.{_≡_}
-use mathlib.Core.List.{List, _++_}
-use Prim.Native.Nat.{ℕ, _+_, _<_, min}
+use mathlib.Core.List.{List}
+use Prim.Native.Nat.{ℕ, _<_}
 use lib.ListN.{length}
-use Rattle.lines.specs.Lines.{NoLine}
+use Rattle.line_number.specs.First as first
+use Rattle.line_number.specs.First.{lineAt}
 use Rattle.language.specs.Spelling.{spell, Valid}
 use Rattle.language.specs.declared.Statement.{Statement}
-use Rattle.program.specs.Program.{text, AllValid, Spells, at, InPlace, Targets}
+use Rattle.program.specs.Program.{Spells, at, InPlace, Targets, Taken}
 use Rattle.program.specs.Reading.{Refused, number}
 use Rattle.program.specs.declared.Refusal.{Refusal}
 use Rattle.program.specs.declared.Refusal.the-variants.{Misspelled, LineCount, Placement, Target}
 
--- the number of the line at place s, counted from 1; lines beyond 4,294,967,295 are all given that number
-abbrev pub most-line : ℕ
-most-line = 4294967295
-
-abbrev pub lineAt : ℕ → ℕ
-lineAt s = min (s + 1) most-line
-
--- line n is the first that isn't spelled: the lines before it are those of the valid statements P, and no valid statement's line follows
-pub record FirstMisspelled (t : List ℕ) (n : ℕ) : Type 0 where
-  pub P : List Statement
-  pub rest : List ℕ
-  pub lines : t ≡ text P ++ rest
-  pub valid : AllValid P
-  pub more : 0 < length rest
-  pub misspelled : NoLine spell Valid rest
-  pub line : n ≡ lineAt (length P)
+-- line n is the first that isn't spelled as a statement
+abbrev pub FirstMisspelled : List ℕ → ℕ → Type 0
+FirstMisspelled t n = first.FirstMisspelled spell Valid t n
 
 -- line n has the first statement of which the claim fails, a claim about the number of statements, a place and the statement there
 pub record FirstBroken (Claim : ℕ → ℕ → Statement → Type 0) (t : List ℕ) (n : ℕ) : Type 0 where
@@ -74,3 +62,8 @@ pub record NumberTold (t : List ℕ) (n line : ℕ) : Type 0 where
 pub record Blamed (t : List ℕ) (n line : ℕ) : Type 0 where
   pub about : (r : Refusal) → n ≡ number r → Refused t r → Blames t r line
   pub other : ((r : Refusal) → n ≡ number r → ⊥) → line ≡ 0
+
+-- whatever refusal the text t gets is about line n, which is 0 where it is taken
+pub record TextBlamed (t : List ℕ) (n : ℕ) : Type 0 where
+  pub about : (r : Refusal) → Refused t r → Blames t r n
+  pub taken : (P : List Statement) → Taken t P → n ≡ 0

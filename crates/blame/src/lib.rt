@@ -5,25 +5,11 @@ ghost use lib.ListN.{length};
 ghost use Rattle.language.specs.declared.Statement.{Statement as Meant};
 ghost use Rattle.program.specs.Program.{Spells};
 ghost use Rattle.base.specs.Decides.{Decides};
-ghost use Rattle.blame.specs.Blame.{lineAt, Rule, LineTold, NumberTold};
+ghost use Rattle.blame.specs.Blame.{Rule, LineTold, NumberTold, TextBlamed};
 ghost use Rattle.blame.specs.Counting.{CountTold};
 use language::Statement;
 use program::Refusal;
 use statement_reader::StatementRead;
-
-// Lines beyond are all given this number.
-const MOST_LINE: usize = 4294967295;
-
-// The number of the line at place s.
-fn line_at(s: usize) -> u32
-    ensures { λ r. ⌜ r ≡ lineAt s ⌝ }
-{
-    if s < MOST_LINE {
-        (s + 1) as u32
-    } else {
-        MOST_LINE as u32
-    }
-}
 
 // The number of a text's lines, or of the first that isn't spelled.
 pub enum Counted {
@@ -38,7 +24,7 @@ fn count_lines(s: &[u8]) -> Counted
     let mut at: usize = 0;
     while at < s.len() {
         let StatementRead::Found(_, k) = statement_reader::line(s, at) else {
-            return Counted::Misspelled(line_at(n));
+            return Counted::Misspelled(line_number::line_at(n));
         };
         n += 1;
         at = k;
@@ -66,10 +52,10 @@ fn first_broken(text: &[u8], r: Refusal, n: usize) -> u32
     let mut at: usize = 0;
     while at < text.len() {
         let StatementRead::Found(e, k) = statement_reader::line(text, at) else {
-            return line_at(s);
+            return line_number::line_at(s);
         };
         if !keeps(r, e, s, n) {
-            return line_at(s);
+            return line_number::line_at(s);
         }
         s += 1;
         at = k;
@@ -98,5 +84,17 @@ pub fn line_of_number(text: &[u8], n: u8) -> u32
         4 => line_of(text, Refusal::Placement),
         5 => line_of(text, Refusal::Target),
         _ => 0,
+    }
+}
+
+// A call: the line that the refusal of the program's text is about; 0 where it is about none, or the text is taken.
+pub fn blame(program: &[u8]) -> u32
+    ensures { λ line. ⌜ TextBlamed (now (program .entry)) line ⌝ }
+{
+    let reading = program::read(program);
+    let answer = reading.answer;
+    match answer {
+        program::Answer::Taken => 0,
+        program::Answer::Refused(refusal) => line_of(program, refusal),
     }
 }

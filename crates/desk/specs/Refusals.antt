@@ -8,7 +8,7 @@ use Rattle.base.specs.Bytes.{bytes}
 use Rattle.base.specs.Pick.{pick}
 use Rattle.language.specs.Spelling.{digits}
 
--- the number of a refusal and what is said of it; the number of a line of the program's text, where it is about one, stands between two texts
+-- the number of a refusal and what is said of it; the number of a line, or of a byte, where it is about one, stands between two texts
 pub data Row : Type 0 where
   whole : ℕ → String → Row
   onLine : ℕ → String → String → Row
@@ -22,9 +22,9 @@ refusals =
     ∷ onLine 4 "the author of the shift program: line " ": read or write missing from its place or standing elsewhere"
     ∷ onLine 5 "the author of the shift program: line " ": a target outside 2 to N"
     ∷ whole 6 "the author of the condition: longer than 1,024 bytes"
-    ∷ whole 7 "the author of the condition: misspelled"
+    ∷ onLine 7 "the author of the condition: misspelled from byte " " on"
     ∷ whole 8 "the author of the condition: over 64 parts"
-    ∷ whole 9 "the optimiser: some line misspelled, or the last without its byte 10"
+    ∷ onLine 9 "the optimiser: line " " isn't spelled as a mark, or lacks its byte 10"
     ∷ whole 10 "the optimiser: over 1,024 lines"
     ∷ whole 16 "the author of the review: no line or over 32 lines"
     ∷ whole 17 "the author of the review: over 128 differing parts"
@@ -43,7 +43,8 @@ wordsIn [] n line = []
 wordsIn (whole m text ∷ rows) n line = pick (eqb n m) (bytes text) (wordsIn rows n line)
 wordsIn (onLine m before after ∷ rows) n line = pick (eqb n m) (bytes before ++ (digits line ++ bytes after)) (wordsIn rows n line)
 
--- the words of refusal n, which for 2, 4 and 5 is about this line of the program's text
+-- the words of refusal n, which for 2, 4 and 5 is about this line of the program's text, for 9 about this line of the list of marks and for 7
+-- about this byte of the condition's text
 unfoldable pub refusalWords : ℕ → ℕ → List ℕ
 refusalWords n line = wordsIn refusals n line
 

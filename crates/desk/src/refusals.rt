@@ -9,7 +9,7 @@ ghost use Rattle.desk.specs.Refusals.{refusalWords, refusalText};
 // Every refusal has room in this many bytes.
 pub const REFUSAL_ROOM: usize = 128;
 
-// A line's number within a text.
+// A number within a text: that of a line, or of a byte.
 fn on_line(out: &mut [u8], at: usize, before: &[u8], line: u32, after: &[u8]) -> usize
     requires { ⌜ at + length (now before ++ (digits line ++ now after)) ≤ length (now out) ⌝ }
     ensures { λ r. ⌜ Put (now (out .entry)) at (now (before .entry) ++ (digits line ++ now (after .entry))) (now (out .exit)) r ⌝ }
@@ -72,13 +72,23 @@ pub fn words(out: &mut [u8], at: usize, n: u8, line: u32) -> usize
             at,
             b"the author of the condition: longer than 1,024 bytes",
         ),
-        7 => statement_writer::word(out, at, b"the author of the condition: misspelled"),
-        8 => statement_writer::word(out, at, b"the author of the condition: over 64 parts"),
-        9 => {
-            statement_writer::word(
+        7 => {
+            on_line(
                 out,
                 at,
-                b"the optimiser: some line misspelled, or the last without its byte 10",
+                b"the author of the condition: misspelled from byte ",
+                line,
+                b" on",
+            )
+        }
+        8 => statement_writer::word(out, at, b"the author of the condition: over 64 parts"),
+        9 => {
+            on_line(
+                out,
+                at,
+                b"the optimiser: line ",
+                line,
+                b" isn't spelled as a mark, or lacks its byte 10",
             )
         }
         10 => statement_writer::word(out, at, b"the optimiser: over 1,024 lines"),
@@ -123,7 +133,8 @@ pub fn words(out: &mut [u8], at: usize, n: u8, line: u32) -> usize
     }
 }
 
-// The line with the number of the refusal, and its words on the next; `line` is the line of the program's text that 2, 4 and 5 are about.
+// The line with the number of the refusal, and its words on the next; `line` is the line of the program's text
+// that 2, 4 and 5 are about, the line of the list of marks that 9 is about, or the byte of the condition that 7 is about.
 pub fn refusal(out: &mut [u8], at: usize, n: u8, line: u32) -> usize
     requires { ⌜ at + length (refusalText n line) ≤ length (now out) ⌝ }
     ensures { λ r. ⌜ Put (now (out .entry)) at (refusalText n line) (now (out .exit)) r ⌝ }

@@ -15,8 +15,8 @@ use Rattle.report.specs.Report.{countsLine}
 use Rattle.report.proofs.Lines.{counts-length}
 use Rattle.report.proofs.Reports.{answer-refused, answer-finished}
 use Rattle.desk.specs.Refusals.{refusalText, refusal-room}
-use Rattle.blame.specs.Blame.{Blamed}
-use Rattle.blame.proofs.Blames.{blamed, no-number}
+use Rattle.refusal_line.specs.Blame.{Blamed}
+use Rattle.refusal_line.proofs.Blames.{blamed, no-number}
 use Rattle.heading.specs.Heading.{HeadRefused, HeadJudged}
 
 pub counts-most : (m a : ℕ) → m < 2 ^ 32 → a < 2 ^ 32 → length (countsLine m a) ≤ refusal-room
@@ -29,13 +29,13 @@ budget-refused h fits put =
       n = budget-number;
       line = 0;
       refused = inl (h, refl);
-      blamed = blamed (no-number (λ e. omega (arith, e)) (λ e. omega (arith, e)) (λ e. omega (arith, e)) (λ e. omega (arith, e)));
+      blamed = blamed (no-number (λ e. omega (arith, e)) (λ e. omega (arith, e)) (λ e. omega (arith, e)) (λ e. omega (arith, e)) (λ e. omega (arith, e)));
       fits = fits;
       put = put;
     }
 
 module _ (t u : List ℕ) (budget : ℕ) (lent left : Lent) {r : JudgeAnswer} (a : JudgeAnswers t u lent left r) (allowed : budget ≤ most-steps) {o q : List ℕ} {n : ℕ} where
-  pub head-refused : (m line : ℕ) → r ≡ Refused m → Room (lent .verdicts) (lent .new) → Blamed t m line → length (refusalText m line) ≤ length o → Put o 0 (refusalText m line) q n
+  pub head-refused : (m line : ℕ) → r ≡ Refused m → Room (lent .verdicts) (lent .new) → Blamed t u m line → length (refusalText m line) ≤ length o → Put o 0 (refusalText m line) q n
       → HeadRefused t u budget o q n × (left .new ≡ lent .new)
   head-refused m line is room about fits put =
       (record { n = m; line = line; refused = inr (allowed, answer-refused t u lent left a is room); blamed = about; fits = fits; put = put }, ap (λ (x : Lent). x .new) ((rw is at a) .1))

@@ -9,7 +9,7 @@ use Rattle.run.specs.Run.{most-steps, budget-number}
 use Rattle.judge.specs.Judge.{text-bytes, Lent, JudgeFinished}
 use Rattle.report.specs.Report.{countsLine, Refuses}
 use Rattle.desk.specs.Refusals.{refusalText, refusal-room}
-use Rattle.blame.specs.Blame.{Blamed}
+use Rattle.refusal_line.specs.Blame.{Blamed}
 use Rattle.heading.specs.declared.Heading.{Heading}
 use Rattle.heading.specs.declared.Heading.the-variants.{Refused, Judged, NoRoom}
 
@@ -22,7 +22,7 @@ pub record HeadRefused (t u : List ℕ) (budget : ℕ) (o q : List ℕ) (r : ℕ
   pub n : ℕ
   pub line : ℕ
   pub refused : RefusedWith t u budget n
-  pub blamed : Blamed t n line
+  pub blamed : Blamed t u n line
   pub fits : length (refusalText n line) ≤ length o
   pub put : Put o 0 (refusalText n line) q r
 

@@ -32,7 +32,7 @@ pub fn write(program: &[u8], marks: &[u8], budget: u32, new: &mut [u8], out: &mu
     let answer = judge::judge(program, marks, &mut verdicts, new);
     match answer {
         JudgeAnswer::Refused(n) => {
-            let line = blame::line_of_number(program, n);
+            let line = refusal_line::line_of_number(program, marks, n);
             Heading::Refused(desk::refusals::refusal(out, 0, n, line))
         }
         JudgeAnswer::Finished(count, accepted, bytes) => {

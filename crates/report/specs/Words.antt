@@ -1,4 +1,4 @@
--- What the check program says of a refusal on standard error: whose mistake it is, and on which line of the program.
+-- What the check program says of a refusal on standard error: whose mistake it is, and on which line of the program or of the list of marks.
 use mathlib.Core.Path.{_≡_}
 use mathlib.Core.List.{List, [], _∷_, _++_}
 use Prim.Native.Nat.{ℕ, _≤_, _<_}
@@ -8,7 +8,7 @@ use Rattle.language.specs.declared.Statement.{Statement}
 use Rattle.program.specs.Program.{Taken}
 use Rattle.marks.specs.Reading as marks
 use Rattle.marks.specs.declared.Mark.{Mark}
-use Rattle.blame.specs.Blame.{Blamed}
+use Rattle.refusal_line.specs.Blame.{Blamed}
 use Rattle.desk.specs.Refusals.{refusalWords, refusal-room}
 use Rattle.report.specs.Report.{Refuses}
 use Rattle.report.specs.declared.Worded.{Worded}
@@ -24,7 +24,7 @@ pub record RefusalWorded (t u o q : List ℕ) (k : ℕ) : Type 0 where
   pub n : ℕ
   pub line : ℕ
   pub refuses : Refuses t u n
-  pub blamed : Blamed t n line
+  pub blamed : Blamed t u n line
   pub fits : length (wordsLine n line) ≤ length o
   pub written : Put o 0 (wordsLine n line) q k
 

@@ -157,7 +157,7 @@ pub fn words(given: &[u8], marks: &[u8], out: &mut [u8]) -> Worded
     let answer = judge::judge(given, marks, &mut verdicts, &mut text);
     match answer {
         JudgeAnswer::Refused(n) => {
-            let line = blame::line_of_number(given, n);
+            let line = refusal_line::line_of_number(given, marks, n);
             Worded::Written(write_words(out, n, line))
         }
         JudgeAnswer::Finished(_, _, _) => Worded::Nothing,

@@ -13,6 +13,9 @@ ghost use Rattle.host_report.specs.Places.{ReportExported};
 ghost use Rattle.host_listing.specs.Exports.{ListExported, RelistExported};
 ghost use Rattle.host_keep.specs.Places.{KeepExported};
 ghost use Rattle.host_return.specs.Places.{ReturnExported};
+ghost use Rattle.blame.specs.Blame.{TextBlamed};
+ghost use Rattle.mark_blame.specs.Blame.{LineTold};
+ghost use Rattle.condition_blame.specs.Blame.{Blamed};
 use language::KEPT;
 use listing::COUNTS;
 use machine::VALUES;
@@ -249,4 +252,25 @@ pub extern "C" fn rewrites_return(
     ensures { λ r. ⌜ ReturnExported (now (stages .entry)) (now (name .entry)) (now (text .entry)) (now (text .exit)) r (now (bytes .entry)) (now (bytes .exit)) ⌝ }
 {
     host_return::export(stages, name, text, bytes)
+}
+
+#[no_mangle]
+pub extern "C" fn rewrites_blame_program(program: &[u8]) -> u32
+    ensures { λ line. ⌜ TextBlamed (now (program .entry)) line ⌝ }
+{
+    blame::blame(program)
+}
+
+#[no_mangle]
+pub extern "C" fn rewrites_blame_marks(marks: &[u8]) -> u32
+    ensures { λ line. ⌜ LineTold (now (marks .entry)) line ⌝ }
+{
+    mark_blame::line_of(marks)
+}
+
+#[no_mangle]
+pub extern "C" fn rewrites_blame_condition(condition: &[u8]) -> u32
+    ensures { λ byte. ⌜ Blamed (now (condition .entry)) byte ⌝ }
+{
+    condition_blame::byte_of(condition)
 }

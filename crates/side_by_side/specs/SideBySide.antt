@@ -17,7 +17,7 @@ use Rattle.judge.specs.Judge.{text-bytes}
 use Rattle.demand.specs.Demand.{Demand3}
 use Rattle.report.specs.Report.{countsLine}
 use Rattle.desk.specs.Refusals.{refusalText}
-use Rattle.blame.specs.Blame.{Blamed}
+use Rattle.refusal_line.specs.Blame.{Blamed}
 use Rattle.start_refusal.specs.StartRefusal.{startText}
 use Rattle.start.specs.Start.{StartTaken, StartRead}
 use Rattle.start.specs.declared.Answer as start
@@ -70,7 +70,7 @@ pub record CallRefused (t m : List ℕ) (budget : ℕ) (b : List ℕ) : Type 0 w
   pub n : ℕ
   pub line : ℕ
   pub refused : RefusedWith t m budget n
-  pub blamed : Blamed t n line
+  pub blamed : Blamed t m n line
   pub text : b ≡ refusalText n line
 
 -- a start that is wrong is refused first, whatever the program and the marks

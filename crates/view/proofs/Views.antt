@@ -26,6 +26,7 @@ use Rattle.table.specs.Table.{part-words, partAt}
 use Rattle.tabulate.specs.Tabulate.{table-words, TabulateRefused, TabulateFilled, TabulateAnswers}
 use Rattle.tabulate.specs.declared.TabulateAnswer.{TabulateAnswer}
 use Rattle.tabulate.specs.declared.TabulateAnswer.the-variants.{Refused, Filled}
+use Rattle.condition_blame.specs.Blame.{Blamed}
 use Rattle.view.specs.View.{viewText, Refuses, PrintsView, PrintsRefusal, view-room, Printed, Views}
 use Rattle.view.specs.Writing.{truthIn, ViewFits, RefusalPut}
 use Rattle.view.specs.declared.Viewed.{Viewed}
@@ -43,12 +44,12 @@ module _ (t u old new : List ℕ) {r : TabulateAnswer} (a : TabulateAnswers t u 
   answer-filled is = rw is at a
 
 -- where the program is taken, the refusal is the condition's
-taken-refuses : {t u : List ℕ} (old : List ℕ) {n : ℕ} → length old ≡ table-words → TabulateRefused t u old n → {P : List Statement} → Taken t P → (line : ℕ) → Refuses t u n line
-taken-refuses old l (inl h) p line = absurd (omega (arith, h .0))
-taken-refuses old l (inr (inl h)) p line = absurd (program-taken (p .program) (h .1) (rw (p .lines) at (h .2)))
-taken-refuses old l (inr (inr h)) p line = inr (h .1, h .2, h .3, h .4, h .5)
+taken-refuses : {t u : List ℕ} (old : List ℕ) {n : ℕ} → length old ≡ table-words → TabulateRefused t u old n → {P : List Statement} → Taken t P → {byte : ℕ} → Blamed u byte → Refuses t u n byte
+taken-refuses old l (inl h) p b = absurd (omega (arith, h .0))
+taken-refuses old l (inr (inl h)) p b = absurd (program-taken (p .program) (h .1) (rw (p .lines) at (h .2)))
+taken-refuses old l (inr (inr h)) p b = inr (h .1, h .2, h .3, h .4, h .5, b)
 
-pub refusal-printed : {t u : List ℕ} (old : List ℕ) {n : ℕ} → length old ≡ table-words → TabulateRefused t u old n → {o q : List ℕ} {k : ℕ} → view-room ≤ length o → RefusalPut t n o q k
+pub refusal-printed : {t u : List ℕ} (old : List ℕ) {n : ℕ} → length old ≡ table-words → TabulateRefused t u old n → {o q : List ℕ} {k : ℕ} → view-room ≤ length o → RefusalPut t u n o q k
     → Printed (PrintsRefusal t u) o q k
 refusal-printed old l a room (inl x) =
     record {
@@ -62,9 +63,9 @@ refusal-printed old {n = n} l a room (inr x) =
     record {
       room = room;
       w = _;
-      says = record { n = n; line = 0; refuses = taken-refuses old l a (x .1) 0; text = refl };
-      fits = x .2;
-      written = x .3;
+      says = record { n = n; line = x .2; refuses = taken-refuses old l a (x .1) (x .3); text = refl };
+      fits = x .4;
+      written = x .5;
     }
 
 -- a bit of the table

@@ -22,6 +22,7 @@ use Rattle.condition_reader.specs.declared.Refusal as condition-refusal
 use Rattle.table.specs.Table.{part-words, partAt}
 use Rattle.table.specs.Summary.{Counts}
 use Rattle.blame.specs.Blame.{Blames}
+use Rattle.condition_blame.specs.Blame.{Blamed}
 use Rattle.desk.specs.Columns.{number-columns, statement-columns, spaces, wide, padded}
 use Rattle.desk.specs.Refusals.{refusalText}
 use Rattle.view.specs.declared.Viewed.{Viewed}
@@ -83,11 +84,11 @@ viewText P c truth satisfied first =
     partLines c ++ (headRow tens n ++ (headRow units n ++ (rows truth n P ++ lastLine n satisfied first)))
 
 -- "Order: .. 2 to 5, then 6 to 8": the number of the first refusal that applies to the program text t and the condition text u, and the
--- line of the program that it is about
+-- line of the program or the byte of the condition that it is about
 abbrev pub Refuses : List ℕ → List ℕ → ℕ → ℕ → Type 0
 Refuses t u n line =
     ((r : program-refusal.Refusal) × program.Refused t r × (n ≡ program.number r) × Blames t r line)
-    ⊎ ((P : List Statement) × Taken t P × (r : condition-refusal.Refusal) × condition-reading.Refused u r × (n ≡ condition-reading.number r))
+    ⊎ ((P : List Statement) × Taken t P × (r : condition-refusal.Refusal) × condition-reading.Refused u r × (n ≡ condition-reading.number r) × Blamed u line)
 
 pub record PrintsRefusal (t u w : List ℕ) : Type 0 where
   pub n : ℕ

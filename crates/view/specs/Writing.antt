@@ -17,6 +17,7 @@ use Rattle.condition.specs.Texts as condition
 use Rattle.condition.specs.Words as condition-words
 use Rattle.tabulate.specs.Tabulate.{table-words}
 use Rattle.blame.specs.Blame.{Blames}
+use Rattle.condition_blame.specs.Blame.{Blamed}
 use Rattle.desk.specs.Refusals.{refusalText}
 use Rattle.view.specs.View.{partLines, columns, headRow, row as rowText, rows, tens, units, mark, viewText}
 use Rattle.view.specs.declared.Row.{Row}
@@ -83,8 +84,8 @@ pub record ViewFits (u ws table : List ℕ) (p : Program) (n satisfied first roo
   pub tabled : Tabled table n
   pub fits : length (viewText (statements p) c (truthIn table) satisfied first) ≤ room
 
--- the program's refusal, with its line; or, where the program is taken, the refusal n
-abbrev pub RefusalPut : List ℕ → ℕ → List ℕ → List ℕ → ℕ → Type 0
-RefusalPut t n o q next =
+-- the program's refusal, with its line; or, where the program is taken, the refusal n, with the condition's byte
+abbrev pub RefusalPut : List ℕ → List ℕ → ℕ → List ℕ → List ℕ → ℕ → Type 0
+RefusalPut t u n o q next =
     ((r : Refusal) × Refused t r × (line : ℕ) × Blames t r line × (length (refusalText (number r) line) ≤ length o) × Put o 0 (refusalText (number r) line) q next)
-    ⊎ ((P : List Statement) × Taken t P × (length (refusalText n 0) ≤ length o) × Put o 0 (refusalText n 0) q next)
+    ⊎ ((P : List Statement) × Taken t P × (byte : ℕ) × Blamed u byte × (length (refusalText n byte) ≤ length o) × Put o 0 (refusalText n byte) q next)

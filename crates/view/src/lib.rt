@@ -196,10 +196,11 @@ fn write_view(
     write_last(out, k4, n, satisfied, first)
 }
 
-// The program's refusal, with the line that it is about; where the program is taken, the refusal n.
-fn write_refusal(out: &mut [u8], program: &[u8], n: u8) -> usize
+// The program's refusal, with the line that it is about; where the program is taken, the refusal n, with the byte of the condition that it
+// is about.
+fn write_refusal(out: &mut [u8], program: &[u8], condition: &[u8], n: u8) -> usize
     requires { ⌜ refusal-room ≤ length (now out) ⌝ }
-    ensures { λ r. ⌜ RefusalPut (now (program .entry)) n (now (out .entry)) (now (out .exit)) r ⌝ }
+    ensures { λ r. ⌜ RefusalPut (now (program .entry)) (now (condition .entry)) n (now (out .entry)) (now (out .exit)) r ⌝ }
 {
     let reading = program::read(program);
     let answer = reading.answer;
@@ -211,7 +212,7 @@ fn write_refusal(out: &mut [u8], program: &[u8], n: u8) -> usize
             blame::line_of(program, refusal),
         );
     }
-    desk::refusals::refusal(out, 0, n, 0)
+    desk::refusals::refusal(out, 0, n, condition_blame::byte_of(condition))
 }
 
 fn table_buffer() -> [u64; TABLE_WORDS]
@@ -230,7 +231,7 @@ pub fn view(program: &[u8], condition: &[u8], out: &mut [u8]) -> Viewed
     let mut table = table_buffer();
     let answer = tabulate::tabulate(program, condition, &mut table);
     match answer {
-        TabulateAnswer::Refused(n) => Viewed::Refused(write_refusal(out, program, n)),
+        TabulateAnswer::Refused(n) => Viewed::Refused(write_refusal(out, program, condition, n)),
         TabulateAnswer::Filled(n, satisfied, first) => {
             let reading = program::read(program);
             let p = reading.program;

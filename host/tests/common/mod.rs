@@ -87,17 +87,36 @@ pub fn compiled(name: &str) -> PathBuf {
 
 /// Compiles C files, links them to the library, and tells where the program is.
 pub fn linked(name: &str, sources: &[PathBuf]) -> PathBuf {
+    linked_by("cc", &["-std=c99"], name, sources)
+}
+
+/// Whether a compiler is installed.
+pub fn installed(compiler: &str) -> bool {
+    Command::new(compiler).arg("--version").output().map_or(false, |told| told.status.success())
+}
+
+/// The archive that the host crate is linked to. Other packages that share this file take the repository's.
+fn archive() -> PathBuf {
+    let own = || Path::new(env!("CARGO_MANIFEST_DIR")).join("../target/staticlib/librewrites.a");
+    option_env!("REWRITES_ARCHIVE").map_or_else(own, PathBuf::from)
+}
+
+/// The same by a compiler with these words.
+pub fn linked_by(compiler: &str, words: &[&str], name: &str, sources: &[PathBuf]) -> PathBuf {
     let package = Path::new(env!("CARGO_MANIFEST_DIR"));
     let program = Path::new(env!("CARGO_TARGET_TMPDIR")).join(name);
-    let status = Command::new("cc")
-        .args(["-std=c99", "-Wall", "-Wextra", "-Wpedantic", "-Werror", "-pthread", "-o"])
+    let status = Command::new(compiler)
+        .args(["-Wall", "-Wextra", "-Wpedantic", "-Werror", "-pthread", "-o"])
         .arg(&program)
         .arg("-I")
         .arg(package.join("../include"))
+        .args(words)
         .args(sources)
-        .arg(package.join("../target/staticlib/librewrites.a"))
+        // The archive is no source, whatever language the sources are taken as.
+        .args(["-x", "none"])
+        .arg(archive())
         .status()
-        .expect("cc runs");
+        .expect("the compiler runs");
     assert!(status.success());
     program
 }

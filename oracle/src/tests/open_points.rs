@@ -2,11 +2,11 @@
 
 use super::{condition_refusal, judged, lines, refusal, skips, whole, words, P, P_PRICES};
 use crate::check::{check, said};
-use crate::condition::TABLE_WORDS;
+use crate::condition::{stop, LONGEST_TEXT, MOST_PARTS, TABLE_WORDS};
 use crate::machine::{run, Outcome, VALUES};
-use crate::marks;
+use crate::marks::{self, first_wrong};
 use crate::pricing::OURS;
-use crate::program::Program;
+use crate::program::{Program, VARIABLES};
 
 #[test]
 fn ends_of_program_text() {
@@ -520,10 +520,62 @@ fn what_the_check_program_says() {
     assert_eq!(said(Some(long.as_bytes()), None), "given can't be read: over 65,535 bytes\n");
     assert_eq!(
         said(Some(p), Some(b"x")),
-        "the optimiser: some line misspelled, or the last without its byte 10\n"
+        "the optimiser: line 1 isn't spelled as a mark, or lacks its byte 10\n"
     );
     assert_eq!(
         said(Some(b"read i0\nif i0 goto 9 else 3\nwrite i0\n"), Some(b"")),
         "the author of the shift program: line 2: a target outside 2 to N\n"
     );
+}
+
+#[test]
+fn where_the_reading_of_a_condition_stops() {
+    let out_of_range = format!("def(i{VARIABLES})");
+    for (text, byte) in [
+        ("true", 0),
+        ("(true & !AM trans(i0 / -2147483648))", 0),
+        ("", 1),
+        ("tru", 4),
+        ("true ", 5),
+        ("true\n", 5),
+        ("(true)", 6),
+        ("! true", 2),
+        ("EX(true & true)", 3),
+        ("EX true & true", 8),
+        ("E[true U true)", 14),
+        ("A[true R true]", 8),
+        ("(true U true)", 7),
+        ("(true && true)", 8),
+        ("node(05)", 7),
+        ("node(2147483648)", 15),
+        ("node(-1)", 6),
+        (&out_of_range, 7),
+        ("stmt(i1 := -0)", 13),
+        ("stmt(i1 := 1 + 2 + 3)", 17),
+        ("stmt(skip", 10),
+        ("trans(-2147483649)", 17),
+        ("\u{feff}true", 1),
+        ("\ttrue", 1),
+        ("true\r", 5),
+    ] {
+        assert_eq!(stop(text.as_bytes()), byte, "{text}");
+    }
+    assert_eq!(stop(&b"!".repeat(LONGEST_TEXT)), LONGEST_TEXT + 1);
+    assert_eq!(stop(&b"!".repeat(LONGEST_TEXT + 1)), 0);
+    // Over the most parts, which is no misspelling.
+    assert_eq!(stop(&[b"!".repeat(MOST_PARTS), b"true".to_vec()].concat()), 0);
+}
+
+#[test]
+fn the_first_wrong_line_of_a_list() {
+    for (text, line) in [
+        ("", 0),
+        ("2: mark(rm, i0, 1)\n", 0),
+        ("2: mark(rm, i0, 1)", 1),
+        ("\n", 1),
+        ("2: mark(rm, i0, 1)\nx\ny\n", 2),
+        ("2: mark(rm, i0, 1)\r\n", 1),
+    ] {
+        assert_eq!(first_wrong(text.as_bytes()), line, "{text}");
+    }
 }

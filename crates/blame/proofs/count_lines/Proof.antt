@@ -5,8 +5,9 @@ use lib.ListN.{length}
 use borrow.Author.Needs.{needs}
 use Rattle.lines.proofs.Walk.{line-further}
 use Rattle.lines.proofs.Reading.{SoFar, none-yet, one-more, whole}
+use Rattle.line_number.proofs.First.{first-misspelled}
 use Rattle.language.specs.Spelling.{spell, Valid}
-use Rattle.blame.proofs.Blames.{line-of, first-misspelled}
+use Rattle.blame.proofs.Blames.{line-of, no-line}
 use Rattle.blame.proofs.count_lines.Statement.{statement}
 use Rattle.blame.proofs.count_lines.Tie as tie
 
@@ -22,7 +23,8 @@ loop-holds c = none-yet spell Valid _
 returns : tie.Need-returns Inv-loop μ-loop
 returns c =
     let l = c .before .before .before in
-    first-misspelled (l .before .before .loop .inv) (l .line .ensures) (c .before .enum-told .given .1) (l .before .loop-test .taken) (c .line-at .ensures)
+    let i = l .before .before .loop in
+    first-misspelled (i .inv) (no-line _ (i .at) (c .before .enum-told .given .1) (l .line .ensures)) (l .before .loop-test .taken) (c .line-at .ensures)
 
 add-n : tie.Need-add-n Inv-loop μ-loop
 add-n c = omega (arith, c .before .before .before .before .before .loop .inv .paid)

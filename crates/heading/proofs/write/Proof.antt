@@ -4,7 +4,7 @@ use mathlib.Core.Logic.{inl, inr}
 use Prim.Native.Nat.{_<_, _^_}
 use native.Mathlib.Omega.{arith}
 use Rattle.run.specs.Run.{budget-number}
-use Rattle.blame.proofs.Blames.{blamed}
+use Rattle.refusal_line.proofs.Blames.{blamed}
 use Rattle.desk.proofs.Rooms.{refusal-most}
 use Rattle.heading.proofs.Headings.{counts-most, budget-refused, head-refused, head-judged}
 use borrow.Author.Needs.{needs}

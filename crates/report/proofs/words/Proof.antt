@@ -2,7 +2,7 @@
 use mathlib.Core.Path.{refl}
 use Rattle.report.proofs.Refusals.{words-most}
 use Rattle.report.proofs.Reports.{answer-refused, answer-finished}
-use Rattle.blame.proofs.Blames.{blamed}
+use Rattle.refusal_line.proofs.Blames.{blamed}
 use Rattle.judge.specs.Judge.{Lent}
 use native.Mathlib.Omega.{arith}
 use borrow.Author.Needs.{needs}

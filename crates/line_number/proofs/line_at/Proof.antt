@@ -1,8 +1,8 @@
 -- `line_at` meets its contract. Assumes nothing.
 use native.Mathlib.Omega.{arith}
 use borrow.Author.Needs.{needs}
-use Rattle.blame.proofs.line_at.Statement.{statement}
-use Rattle.blame.proofs.line_at.Tie as tie
+use Rattle.line_number.proofs.line_at.Statement.{statement}
+use Rattle.line_number.proofs.line_at.Tie as tie
 
 pub line-at-spec : {M : Type 1} → statement M
 line-at-spec =

@@ -1,0 +1,1 @@
+// Which texts begin a condition's spelling: definitions in specs/, theorems in proofs/, no code.
