@@ -11,6 +11,7 @@ use Rattle.ctl.specs.Paths.{E, Paths, Until, So, Graph}
 use Rattle.labelling.specs.declared.Operator.the-variants as op
 use Rattle.lassos.specs.Lassos.{place, last, any, Way, Reaches, Shortest}
 use Rattle.lassos.specs.Distances.{Distances}
+use Rattle.lassos.proofs.Ways.{way-inside, way-one}
 use Rattle.lassos.proofs.Sound.{bears-some}
 use Rattle.lassos.proofs.Complete.{until-way}
 
@@ -41,7 +42,7 @@ module _ {n : ℕ} {step : ℕ → ℕ → Bool} (g : Graph n step) (p q z : ℕ
   WayOf k s = (ls : List ℕ) × (length ls ≡ suc k) × Way step s ls × Reaches (So p) (So q) ls
 
   stop : (s : ℕ) → q s ≡ true → WayOf 0 s
-  stop s e = (s ∷ [], refl, record { some = omega arith; starts = refl; steps = λ i b. absurd (omega arith) }, (e, λ i b. absurd (omega arith)))
+  stop s e = (s ∷ [], refl, way-one step s, (e, λ i b. absurd (omega arith)))
 
   more : (k s t : ℕ) → p s ≡ true → step s t ≡ true → WayOf k t → WayOf (suc k) s
   more k s t x h (ls, e, w, u) = (s ∷ ls, ap suc e, way-cons step s t ls h w, reaches-cons (So p) (So q) s ls (w .some) x u)
@@ -56,8 +57,7 @@ module _ {n : ℕ} {step : ℕ → ℕ → Bool} (g : Graph n step) (p q z : ℕ
 
   module _ (s : ℕ) (l : s < n) (ks : List ℕ) (w : Way step s ks) (u : Reaches (So p) (So q) ks) where
     inside : (i : ℕ) → i < length ks → place ks i < n
-    inside zero b = rw (w .starts) l
-    inside (suc i) b = g .inside (place ks i) (place ks (suc i)) (inside i (omega arith)) (w .steps i b)
+    inside = way-inside g s l ks w
 
     -- m places before the last, the number is at most m
     most : (m i : ℕ) → i + m ≡ last ks → (z (place ks i) ≡ true) × (far (place ks i) ≤ m)
