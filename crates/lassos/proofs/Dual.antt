@@ -11,16 +11,12 @@ use Rattle.labelling.specs.declared.Operator.the-variants as op
 use Rattle.labelling.specs.Labels.{Said}
 use Rattle.labelling.proofs.Labels.{said-iff}
 use Rattle.lassos.specs.Lassos.{place, last, Rest, any, turn, Way, Goes, Bears, Not, Neither, Against, Evidence, Evident}
-use Rattle.lassos.specs.Dual.{dual, dualFirst, dualSecond}
+use Rattle.lassos.specs.Dual.{dual, dualFirst, dualSecond, Same}
 use Rattle.lassos.proofs.Ways.{way-inside}
 use Rattle.lassos.proofs.Sound.{bears-some, against-all}
 use Rattle.lassos.proofs.Complete.{some-iff, not-all-iff}
 
 -- ---- operands that are the same on the graph
-
--- X and X′ are the same at the places below n
-abbrev pub Same : ℕ → (ℕ → Type 0) → (ℕ → Type 0) → Type 0
-Same n X X′ = (t : ℕ) → t < n → X t ↔ X′ t
 
 same-not : (n : ℕ) (X X′ : ℕ → Type 0) → Same n X X′ → Same n (Not X) (Not X′)
 same-not n X X′ f t b = ((λ h x. h (f t b .1 x)), λ h x. h (f t b .0 x))

@@ -1,5 +1,6 @@
 -- A proof device: what speaks against an operator bears another one out, of other operands; proofs/Dual.antt holds it to the definitions.
-use Prim.Native.Nat.{ℕ}
+use mathlib.Core.Logic.{_↔_}
+use Prim.Native.Nat.{ℕ, _<_}
 use Rattle.labelling.specs.declared.Operator.{Operator}
 use Rattle.labelling.specs.declared.Operator.the-variants as op
 use Rattle.lassos.specs.Lassos.{Not, Neither}
@@ -24,3 +25,7 @@ dualSecond op.Finally X Y = Not Y
 dualSecond op.Globally X Y = Not Y
 dualSecond op.Until X Y = Neither X Y
 dualSecond op.Weak X Y = Neither X Y
+
+-- X and X′ are the same at the places below n
+abbrev pub Same : ℕ → (ℕ → Type 0) → (ℕ → Type 0) → Type 0
+Same n X X′ = (t : ℕ) → t < n → X t ↔ X′ t
