@@ -1,11 +1,13 @@
 -- Evidence in other words: of operands that are the same on the graph, and against an operator for its dual. Assumes nothing.
+use mathlib.Core.Path.{_≡_, sym, _∙_}
 use mathlib.Core.Bool.{Bool}
 use mathlib.Core.List.{List}
 use mathlib.Core.Logic.{_↔_}
-use Prim.Native.Nat.{ℕ, _<_}
+use Prim.Native.Nat.{ℕ, suc, _<_}
 use native.Mathlib.Omega.{arith}
 use lib.ListN.{length}
 use Rattle.ctl.specs.Paths.{Quant, E, A, Paths, So, Graph}
+use Rattle.ctl.proofs.Paths.{graph-same}
 use Rattle.labelling.specs.declared.Operator.{Operator}
 use Rattle.labelling.specs.declared.Operator.the-variants as op
 use Rattle.labelling.specs.Labels.{Said}
@@ -74,6 +76,26 @@ module _ {n : ℕ} {step : ℕ → ℕ → Bool} (g : Graph n step) (s : ℕ) (l
     shows = evidence-map X Y X′ Y′ f h k o r ls (e .goes) (e .shows);
     shortest = λ d ks w b. e .shortest d ks w (evidence-map X′ Y′ X Y (same-back X X′ f) (same-back Y Y′ h) k o any ks w b);
   }
+
+-- ---- steps that are the same on the graph
+
+module _ {n : ℕ} {step : ℕ → ℕ → Bool} (g : Graph n step) (step′ : ℕ → ℕ → Bool) (same : (s t : ℕ) → s < n → step s t ≡ step′ s t) (s : ℕ) (l : s < n) where
+  way-there : (ls : List ℕ) → Way step s ls → Way step′ s ls
+  way-there ls w = record { some = w .some; starts = w .starts; steps = λ i b. sym (same (place ls i) (place ls (suc i)) (way-inside g s l ls w i (omega arith))) ∙ w .steps i b }
+
+  way-back : (ls : List ℕ) → Way step′ s ls → Way step s ls
+  way-back ls w = record { some = w .some; starts = w .starts; steps = λ i b. same (place ls i) (place ls (suc i)) (way-inside (graph-same g step′ same) s l ls w i (omega arith)) ∙ w .steps i b }
+
+  goes-there : (r : Rest) (ls : List ℕ) → Goes step s r ls → Goes step′ s r ls
+  goes-there any ls w = way-there ls w
+  goes-there (turn t) ls w = record {
+    way = way-there ls (w .way);
+    within = w .within;
+    turns = sym (same (place ls (last ls)) (place ls t) (way-inside g s l ls (w .way) (last ls) (omega (arith, w .within)))) ∙ w .turns;
+  }
+
+  pub evident-steps : (k : Quant) (o : Operator) (X Y : ℕ → Type 0) (r : Rest) (ls : List ℕ) → Evident k o n step X Y s r ls → Evident k o n step′ X Y s r ls
+  evident-steps k o X Y r ls e = record { few = e .few; goes = goes-there r ls (e .goes); shows = e .shows; shortest = λ d ks w b. e .shortest d ks (way-back ks w) b }
 
 -- ---- against an operator
 
