@@ -21,7 +21,7 @@ use graph::PLACES;
 pub const NONE: u32 = 4294967295;
 
 // The places of the goal have the number 0 and are queued, the others have none. Returns how many are queued.
-fn start(n: usize, goal: &[u64], numbers: &mut [u32], queue: &mut [u16]) -> usize
+pub fn start(n: usize, goal: &[u64], numbers: &mut [u32], queue: &mut [u16]) -> usize
     requires { ⌜ (n ≤ length (now goal) * 64) × (n ≤ length (now numbers)) × (n ≤ length (now queue)) × (n ≤ 65536) ⌝ }
     ensures { λ r. ⌜ Started (member (now (goal .entry))) n (now (numbers .exit)) (now (queue .exit)) r ⌝ }
 {

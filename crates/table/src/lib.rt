@@ -42,7 +42,7 @@ pub enum Rule {
 }
 
 // The rule of an operator's code.
-fn rule_of(code: u64) -> Rule
+pub fn rule_of(code: u64) -> Rule
     ensures { λ r. ⌜ ((x : Operation) → codeOf x ≡ code → r ≡ ruleOf x) ⌝ }
 {
     match code {
