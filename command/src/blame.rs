@@ -12,7 +12,9 @@ pub fn lines(text: &[u8]) -> impl Iterator<Item = &[u8]> {
 /// refused is about no line.
 pub fn line_of_program(text: &[u8], refusal: Refusal) -> Option<usize> {
     match refusal {
-        Refusal::Misspelled | Refusal::Placement | Refusal::Target => blame_program(text).map(|line| line as usize),
+        Refusal::Misspelled | Refusal::Placement | Refusal::Target => {
+            blame_program(text).map(|line| line as usize)
+        }
         _ => None,
     }
 }
@@ -32,7 +34,8 @@ pub fn line_of_prices(text: &[u8]) -> Option<usize> {
 /// parts that is refused is about no line.
 pub fn line_of_review(text: &[u8], refusal: Refusal) -> Option<usize> {
     let mut table = [0; REVIEW_WORDS];
-    let is_wrong = |line: &[u8]| rewrites::review(b"read i0\nwrite i0\n", line, &mut table) == Err(refusal);
+    let is_wrong =
+        |line: &[u8]| rewrites::review(b"read i0\nwrite i0\n", line, &mut table) == Err(refusal);
     lines(text).position(is_wrong).map(|at| at + 1)
 }
 

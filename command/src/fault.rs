@@ -1,8 +1,10 @@
 //! What went wrong, in words: which file and line, whose mistake it is, and what was expected.
 
-use crate::blame::{line_of_marks, line_of_prices, line_of_program, line_of_review, lines};
+use crate::blame::{
+    byte_of_condition, line_of_marks, line_of_prices, line_of_program, line_of_review, lines,
+};
 use crate::files::{shown, Text, Unread};
-use crate::start;
+use crate::{slip, start};
 use rewrites::{Refusal, MARKS, MOST_STEPS, STAGES_BYTES, STATEMENTS};
 use serde::Serialize;
 use std::fmt;
@@ -19,6 +21,12 @@ pub struct Fault {
     pub words: String,
     pub expected: String,
     pub found: Option<String>,
+    /// The byte of what was found, counted from 1, at which its reading stopped.
+    #[serde(skip_serializing_if = "Option::is_none")]
+    pub byte: Option<usize>,
+    /// The slip that is made there, where it is a usual one.
+    #[serde(skip_serializing_if = "Option::is_none")]
+    pub slip: Option<String>,
 }
 
 /// The bytes of a text for a message, on one line and not many.
@@ -136,6 +144,16 @@ impl Fault {
             (Refusal::Driver, _) => Some(quoted(&[bytes, &b"\n"[..]].concat())),
             _ => None,
         };
+        let byte = match refusal {
+            Refusal::ConditionMisspelled => byte_of_condition(bytes),
+            _ => None,
+        };
+        let slip = match (refusal, line.and_then(|line| lines(bytes).nth(line - 1))) {
+            (Refusal::Misspelled, Some(line)) => slip::in_statement(line),
+            (Refusal::Target, Some(line)) => slip::in_target(line, bytes),
+            (Refusal::MarkMisspelled, Some(line)) => slip::in_mark(line),
+            _ => byte.and_then(|byte| slip::at(bytes, byte - 1)),
+        };
         Fault {
             refusal: Some(refusal.number()),
             file: text.name.clone(),
@@ -144,6 +162,8 @@ impl Fault {
             words: words(refusal),
             expected: expected(refusal, bytes),
             found,
+            byte,
+            slip,
         }
     }
 
@@ -196,6 +216,8 @@ impl Fault {
             expected,
             // A byte 10 at the end of a name is shown: it is what is wrong with it.
             found: Some(quoted(&[name, &b"\n"[..]].concat())),
+            byte: None,
+            slip: None,
         }
     }
 
@@ -210,6 +232,8 @@ impl Fault {
             words: wrong.words,
             expected: wrong.expected,
             found: line.map(quoted),
+            byte: None,
+            slip: None,
         }
     }
 
@@ -222,6 +246,8 @@ impl Fault {
             words,
             expected: expected.to_string(),
             found: None,
+            byte: None,
+            slip: None,
         }
     }
 
@@ -265,8 +291,14 @@ impl fmt::Display for Fault {
             write!(f, ":{line}")?;
         }
         write!(f, ": {}: {}; expected {}", self.whose, self.words, self.expected)?;
-        match &self.found {
-            Some(found) => write!(f, ", found {found}"),
+        if let Some(found) = &self.found {
+            write!(f, ", found {found}")?;
+        }
+        if let Some(byte) = self.byte {
+            write!(f, " wrong from byte {byte} on")?;
+        }
+        match &self.slip {
+            Some(slip) => write!(f, ": {slip}"),
             None => Ok(()),
         }
     }

@@ -20,6 +20,7 @@ mod parts;
 mod price;
 mod review;
 mod run;
+mod slip;
 mod stage;
 mod start;
 mod status;

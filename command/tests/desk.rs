@@ -348,7 +348,11 @@ fn reviews_are_those_that_the_command_prints() {
                 }
                 if let (6..=8, Some(line)) = (number, fault["line"].as_u64()) {
                     let wrong = lines(file.as_bytes())[line as usize - 1].clone();
-                    assert_eq!(piece(&added[1], &file), wrong_piece(Some(number), &wrong), "case {case}");
+                    assert_eq!(
+                        piece(&added[1], &file),
+                        wrong_piece(Some(number), &wrong),
+                        "case {case}"
+                    );
                 }
             }
         }
