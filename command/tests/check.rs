@@ -133,7 +133,7 @@ fn a_line_a_folder_and_a_total() {
     let folders = "expected a folder with a program in `given` and a list of marks in `marks`";
     let messages = format!(
         "refused/given:2: the author of the shift program: a target outside 2 to N; \
-         expected targets from 2 to 3, found `if i0 goto 9 else 3`\n\
+         expected targets from 2 to 3, found `if i0 goto 9 else 3`: `9` is outside 2 to 3\n\
          long/given: the caller: can't be read: over 65,535 bytes; \
          expected a file of at most 65,535 bytes\n\
          unmarked/marks: the caller: is read as empty: No such file or directory; \
@@ -394,8 +394,12 @@ fn refusals_in_words() {
     let long_line = format!("read i0\n{}\nwrite i0\n", "é".repeat(50));
     for (given, marks, expected) in [
         ("read i0\nskip\nrubbish\nwrite i0\n", "", format!("given:3: {misspelled}, found `rubbish`")),
-        ("read i0\nwrite i0", "", format!("given:2: {misspelled}, found `write i0`")),
-        ("read i0\n\nwrite i0\n", "", format!("given:2: {misspelled}, found ``")),
+        (
+            "read i0\nwrite i0",
+            "",
+            format!("given:2: {misspelled}, found `write i0`: its byte 10 is missing"),
+        ),
+        ("read i0\n\nwrite i0\n", "", format!("given:2: {misspelled}, found ``: it ends too early")),
         (&long_line, "", format!("given:2: {misspelled}, found `{}..`", "\\xc3\\xa9".repeat(40))),
         ("read i0\ni1 := -0\nwrite i1\n", "", format!("given:2: {misspelled}, found `i1 := -0`")),
         (
@@ -413,11 +417,15 @@ fn refusals_in_words() {
             "",
             format!(
                 "given:3: {author}: a target outside 2 to N; expected targets from 2 to 4, \
-                 found `if i0 goto 2 else 1`"
+                 found `if i0 goto 2 else 1`: `1` is outside 2 to 4"
             ),
         ),
         (good, "2: mark(rm, i0, 1)\n2: mark(rm, i0)\n", format!("marks:2: {of_mark}, found `2: mark(rm, i0)`")),
-        (good, "2: mark(rm, i0, 1)", format!("marks:1: {of_mark}, found `2: mark(rm, i0, 1)`")),
+        (
+            good,
+            "2: mark(rm, i0, 1)",
+            format!("marks:1: {of_mark}, found `2: mark(rm, i0, 1)`: its byte 10 is missing"),
+        ),
         (
             good,
             "2: mark(rpl, i0, -1)\n2: mark(rpl, i0, --1)\n",

@@ -141,7 +141,7 @@ fn refusals_in_words() {
     let (good, full) = (skips(2), skips(1_024));
     let target = "read i0\nskip\nif i0 goto 9 else 3\nwrite i0\n";
     let of_target =
-        "a target outside 2 to N; expected targets from 2 to 4, found `if i0 goto 9 else 3`";
+        "a target outside 2 to N; expected targets from 2 to 4, found `if i0 goto 9 else 3`: `9` is outside 2 to 4";
     let lines = "under 2 or over 1,024 lines; expected 2 to 1,024 lines, found";
     let count =
         "joined program of over 1,024 statements; expected at most 1,025 statements of both programs";

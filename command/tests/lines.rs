@@ -142,7 +142,10 @@ fn refused_lists_in_words() {
     let many = "1: mark(rm, i0, 1)\n".repeat(1_025);
     for (list, words) in [
         ("2: mark(rm, i0, 1)\nx\n", format!(":2: the optimiser: {misspelled}`x`")),
-        ("2: mark(rm, i0, 1)", format!(":1: the optimiser: {misspelled}`2: mark(rm, i0, 1)`")),
+        (
+            "2: mark(rm, i0, 1)",
+            format!(":1: the optimiser: {misspelled}`2: mark(rm, i0, 1)`: its byte 10 is missing"),
+        ),
         (
             &many,
             ": the optimiser: over 1,024 lines of marks; expected at most 1,024 lines, found 1,025 lines"

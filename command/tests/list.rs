@@ -194,7 +194,7 @@ fn refused_programs_in_words() {
             "read i0\nif i0 goto 9 else 3\nwrite i0\n",
             format!(
                 ":2: {author}a target outside 2 to N; expected targets from 2 to 3, \
-                 found `if i0 goto 9 else 3`"
+                 found `if i0 goto 9 else 3`: `9` is outside 2 to 3"
             ),
         ),
     ] {

@@ -179,10 +179,10 @@ fn refused_reviews_in_words() {
             many.clone(),
             format!(": {author}review of over 128 differing parts; expected at most 128 differing parts"),
         ),
-        (many + "x\n", format!(":4: {condition}: condition misspelled; expected {forms}, found `x`")),
+        (many + "x\n", format!(":4: {condition}: condition misspelled; expected {forms}, found `x` wrong from byte 1 on")),
         (
             "true\n\nx\n".to_string(),
-            format!(":2: {condition}: condition misspelled; expected {forms}, found ``"),
+            format!(":2: {condition}: condition misspelled; expected {forms}, found `` wrong from byte 1 on: it ends too early"),
         ),
         (
             "exit\ntrue".to_string(),

@@ -197,8 +197,8 @@ fn refused_conditions_in_words() {
         "`!p`, `(p & q)`, `(p | q)`, `EX p` and the like, `E[p U q]` and the like, or an atom";
     let (long, parts) = ("!".repeat(1_021) + "true", "!".repeat(64) + "true");
     for (condition, words) in [
-        ("EX (true)", format!("condition misspelled; expected {forms}, found `EX (true)`")),
-        ("", format!("condition misspelled; expected {forms}, found ``")),
+        ("EX (true)", format!("condition misspelled; expected {forms}, found `EX (true)` wrong from byte 9 on: superfluous brackets")),
+        ("", format!("condition misspelled; expected {forms}, found `` wrong from byte 1 on: it ends too early")),
         (
             &long,
             "condition longer than 1,024 bytes; expected at most 1,024 bytes, found 1,025 bytes"
