@@ -16,14 +16,22 @@ fn digits(text: &[u8], at: usize) -> (&[u8], Option<u8>) {
     (&text[begin..at + behind], begin.checked_sub(1).map(|k| text[k]))
 }
 
-/// A number that can't stand where it stands: it has a leading zero, or is out of range.
-fn number(digits: &[u8], before: Option<u8>) -> String {
+/// What is wrong with a number, if it has a leading zero or is out of range.
+fn number(digits: &[u8], before: Option<u8>) -> Option<String> {
     let text = String::from_utf8_lossy(digits);
-    match (digits, before) {
-        ([b'0', _, ..], _) => format!("`{text}` has a leading zero"),
-        (_, Some(b'i')) => format!("`i{text}` is outside i0 to i{}", VARIABLES - 1),
-        (_, Some(b'-')) => format!("`-{text}` is outside -{} to -1", LARGEST + 1),
-        _ => format!("`{text}` is outside 0 to {LARGEST}"),
+    // A number of more digits than these 64 bits hold is out of every range.
+    let value = text.parse().unwrap_or(u64::MAX);
+    match before {
+        _ if digits.len() > 1 && digits[0] == b'0' => Some(format!("`{text}` has a leading zero")),
+        Some(b'i') if value >= VARIABLES as u64 => {
+            Some(format!("`i{text}` is outside i0 to i{}", VARIABLES - 1))
+        }
+        Some(b'-') if value > LARGEST + 1 => {
+            Some(format!("`-{text}` is outside -{} to {LARGEST}", LARGEST + 1))
+        }
+        Some(b'i' | b'-') => None,
+        _ if value > LARGEST => Some(format!("`{text}` is outside 0 to {LARGEST}")),
+        _ => None,
     }
 }
 
@@ -58,7 +66,7 @@ pub fn at(text: &[u8], place: usize) -> Option<String> {
         Some(b')') if closes_one(text, place) => "superfluous brackets",
         Some(byte) if byte.is_ascii_digit() => {
             let (digits, before) = digits(text, place);
-            return if digits.len() > 1 { Some(number(digits, before)) } else { None };
+            return number(digits, before);
         }
         _ => return None,
     };

@@ -36,7 +36,10 @@ fn slips_in_programs() {
         ("i01 := 7\n", "`i01 := 7`: `01` has a leading zero"),
         ("i1 := 07\n", "`i1 := 07`: `07` has a leading zero"),
         ("i1 := 2147483648\n", "`i1 := 2147483648`: `2147483648` is outside 0 to 2147483647"),
-        ("i1 := -2147483649\n", "`i1 := -2147483649`: `-2147483649` is outside -2147483648 to -1"),
+        (
+            "i1 := -2147483649\n",
+            "`i1 := -2147483649`: `-2147483649` is outside -2147483648 to 2147483647",
+        ),
         ("i1 := i0 +\n", "`i1 := i0 +`: it ends too early"),
         ("if i0 goto 9 else 2\n", "`if i0 goto 9 else 2`: `9` is outside 2 to 5"),
         ("if i0 goto 2 else 1\n", "`if i0 goto 2 else 1`: `1` is outside 2 to 5"),
@@ -99,6 +102,11 @@ fn slips_in_conditions() {
         ),
         ("E[true U exit", "`E[true U exit` wrong from byte 14 on: it ends too early"),
         ("def()", "`def()` wrong from byte 5 on"),
+        ("stmt(i4 := -0)", "`stmt(i4 := -0)` wrong from byte 13 on"),
+        ("trans(--1)", "`trans(--1)` wrong from byte 8 on"),
+        ("node(-1)", "`node(-1)` wrong from byte 6 on"),
+        ("trans(i0 -40)", "`trans(i0 -40)` wrong from byte 11 on"),
+        ("node(99999999999999999999)", "`node(99999999999999999999)` wrong from byte 15 on: `99999999999999999999` is outside 0 to 2147483647"),
         ("(true&exit)", "`(true&exit)` wrong from byte 6 on"),
     ];
     for (condition, words) in slips {

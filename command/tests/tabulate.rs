@@ -162,10 +162,13 @@ fn a_table_below_zero() {
     assert_eq!((status(&output), printed(&output).as_str()), (0, expected));
     let expected = "parts 4 satisfied 11 first 2\n";
     assert!(printed(&run_in(&example("offset"), &["tabulate", "."])).ends_with(expected));
-    for condition in ["stmt(i4 := -0)", "trans(--1)", "node(-1)", "trans(i0 -40)"] {
+    for (condition, byte) in
+        [("stmt(i4 := -0)", 13), ("trans(--1)", 8), ("node(-1)", 6), ("trans(i0 -40)", 11)]
+    {
         let output = run_in(&example("offset"), &["tabulate", ".", "--condition", condition]);
         assert_eq!((status(&output), printed(&output).as_str()), (1, ""), "{condition}");
-        assert!(said(&output).ends_with(&format!(", found `{condition}`\n")), "{condition}");
+        let found = format!(", found `{condition}` wrong from byte {byte} on\n");
+        assert!(said(&output).ends_with(&found), "{condition}");
     }
 }
 
