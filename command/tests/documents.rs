@@ -52,3 +52,24 @@ fn examples_are_what_is_printed() {
         }
     }
 }
+
+/// The last cell of each row of a table, as code.
+fn last_cells(text: &str) -> Vec<String> {
+    let rows = text.lines().filter_map(|line| line.strip_prefix("| ")?.strip_suffix("` |"));
+    let cell = |row: &str| row.rsplit_once("| `").map(|(_, cell)| cell.replace("\\|", "|"));
+    rows.filter_map(cell).collect()
+}
+
+#[test]
+fn conditions_of_the_reference_are_taken() {
+    let root = Path::new(env!("CARGO_MANIFEST_DIR")).join("..");
+    let text = fs::read_to_string(root.join("docs/REFERENCE.md")).expect("the reference is read");
+    let (_, behind) = text.split_once("\n## Conditions\n").expect("the section");
+    let (section, _) = behind.split_once("\n## ").expect("the next section");
+    let conditions = last_cells(section);
+    assert_eq!(conditions.len(), 29);
+    for condition in conditions {
+        let output = run_in(&root, &["tabulate", "examples/p", "--condition", &condition]);
+        assert!(output.status.success(), "{condition}: {}", said(&output));
+    }
+}
