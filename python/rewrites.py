@@ -620,6 +620,38 @@ def mark_line(marks: Text, line: int) -> slice:
     return slice(begin.value, end.value)
 
 
+def _blamed(call: str, text: bytes) -> Optional[int]:
+    return getattr(_library(), "rewrites_" + call)(text, len(text)) or None
+
+
+def blame_program(program: Text) -> Optional[int]:
+    """Tells the line, counted from 1, that the refusal of a program is about, or None where it is about none, or the program is taken.
+
+    >>> blame_program('read i0\\nif i0 goto 9 else 2\\nwrite i0\\n'), blame_program('read i0\\nwrite i0\\n')
+    (2, None)
+    """
+    return _blamed("blame_program", _bytes("program", program))
+
+
+def blame_marks(marks: Text) -> Optional[int]:
+    """Tells the first line of a list, counted from 1, that isn't spelled as a mark, or None where each is.
+
+    >>> blame_marks('3: mark(rm, i2, 7)\\n3: mark(rm, i2)\\n'), blame_marks('3: mark(rm, i2, 7)\\n')
+    (2, None)
+    """
+    return _blamed("blame_marks", _bytes("marks", marks))
+
+
+def blame_condition(condition: Text) -> Optional[int]:
+    """Tells the byte, counted from 1, at which the reading of a misspelled condition stops, one past its end where it only begins a condition, or
+    None where it is spelled, or longer than a condition may be.
+
+    >>> blame_condition('EX (exit)'), blame_condition('E[true U'), blame_condition('EX exit')
+    (9, 9, None)
+    """
+    return _blamed("blame_condition", _bytes("condition", condition))
+
+
 def list(program: Text) -> Listing:
     """Lists for each variable the statements that define it and those that use it.
 
@@ -850,7 +882,13 @@ _PARAMETERS = {
     "join": _TEXT + _TEXT + [_U8, ctypes.c_size_t, _U32, _U32],
     "keep": [_U8, ctypes.c_size_t] + _TEXT + _TEXT + [_U32],
     "return": _TEXT + _TEXT + [_U8, ctypes.c_size_t, _U32],
+    "blame_program": _TEXT,
+    "blame_marks": _TEXT,
+    "blame_condition": _TEXT,
 }
+
+# What a call returns where it is no refusal.
+_RETURNED = {"our_prices": None, "blame_program": ctypes.c_uint32, "blame_marks": ctypes.c_uint32, "blame_condition": ctypes.c_uint32}
 
 
 def library_path() -> pathlib.Path:
@@ -874,7 +912,7 @@ def _library() -> ctypes.CDLL:
         for name, parameters in _PARAMETERS.items():
             function = getattr(library, "rewrites_" + name)
             function.argtypes = parameters
-            function.restype = None if name == "our_prices" else ctypes.c_uint8
+            function.restype = _RETURNED.get(name, ctypes.c_uint8)
     except (OSError, AttributeError) as error:
         raise LibraryError(f"{path}: the host program: expected the shared object that python/build makes: {error}") from None
     # Calls fill arrays of fixed sizes, so a library of other sizes mustn't be called. An empty program is refused only where the words
