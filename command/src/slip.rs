@@ -97,23 +97,40 @@ pub fn in_statement(line: &[u8]) -> Option<String> {
     }
 }
 
-/// What is wrong with a line of a list of marks that isn't spelled, where a byte alone tells it.
-pub fn in_mark(line: &[u8]) -> Option<String> {
-    let mark = line.strip_suffix(b"\n").unwrap_or(line);
-    if mark.starts_with(BYTE_ORDER_MARK) {
-        return at(mark, 0);
+/// What is wrong with a line, where a byte alone tells it: some byte, or the one that is missing behind what is whole otherwise.
+fn in_line(line: &[u8], is_whole: impl Fn(&[u8]) -> bool) -> Option<String> {
+    let text = line.strip_suffix(b"\n").unwrap_or(line);
+    if text.starts_with(BYTE_ORDER_MARK) {
+        return at(text, 0);
     }
-    let place = mark.iter().position(|byte| b"\r\t".contains(byte));
-    let double = mark.windows(2).position(|two| two == b"  ").map(|k| k + 1);
-    let outer =
-        if mark.starts_with(b" ") { Some(0) } else { mark.ends_with(b" ").then(|| mark.len() - 1) };
-    match place.or(double).or(outer) {
-        Some(place) => at(mark, place),
-        None if mark.len() == line.len() && !mark.is_empty() && mark.ends_with(b")") => {
+    let byte = text.iter().position(|byte| b"\r\t".contains(byte));
+    let double = text.windows(2).position(|two| two == b"  ").map(|k| k + 1);
+    let outer = match text {
+        [b' ', ..] => Some(0),
+        [.., b' '] => Some(text.len() - 1),
+        _ => None,
+    };
+    match byte.or(double).or(outer) {
+        Some(place) => at(text, place),
+        None if text.len() == line.len() && is_whole(text) => {
             Some("its byte 10 is missing".to_string())
         }
         None => None,
     }
+}
+
+/// What is wrong with a line of a list of marks that isn't spelled.
+pub fn in_mark(line: &[u8]) -> Option<String> {
+    in_line(line, |mark| mark.ends_with(b")"))
+}
+
+/// What is wrong with a line that isn't the number which it should be.
+pub fn in_number(line: &[u8]) -> Option<String> {
+    let is_number = |text: &[u8]| {
+        let digits = text.strip_prefix(b"-").unwrap_or(text);
+        !digits.is_empty() && digits.iter().all(u8::is_ascii_digit)
+    };
+    in_line(line, is_number)
 }
 
 /// The first target of a branch that lies outside a program.

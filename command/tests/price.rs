@@ -178,14 +178,14 @@ fn wrong_tables_in_words() {
     let wrong = "the buyer: not such a price, or without its byte 10";
     let eleven = String::from_utf8_lossy(COUNTED).into_owned();
     for (prices, words) in [
-        (eleven.trim_end().to_string(), format!(":11: {wrong}; {expected}, found `11`")),
-        (eleven.clone() + "12", format!(":12: {wrong}; {expected}, found `12`")),
+        (eleven.trim_end().to_string(), format!(":11: {wrong}; {expected}, found `11`: its byte 10 is missing")),
+        (eleven.clone() + "12", format!(":12: {wrong}; {expected}, found `12`: its byte 10 is missing")),
         (eleven.clone() + "\n", format!(":12: {wrong}; {expected}, found ``")),
         (
             eleven.replace("7\n", &format!("{digits}\n")),
             format!(":7: {wrong}; {expected}, found `{}..`", &digits[..80]),
         ),
-        (eleven.replace("7\n", "7\r\n"), format!(":7: {wrong}; {expected}, found `7\\r`")),
+        (eleven.replace("7\n", "7\r\n"), format!(":7: {wrong}; {expected}, found `7\\r`: a carriage return")),
         (
             String::new(),
             ": the buyer: other than eleven lines of prices; expected the prices of `read`, `write`, \

@@ -275,7 +275,7 @@ fn refused_starts_in_words() {
         ("", format!(": the start: under 2 lines; expected {lines}")),
         (&"1\n".repeat(67), format!(": the start: over 66 lines; expected {lines}")),
         ("1\n-1\n", format!(":2: {budget}, found `-1`")),
-        ("1\n2\n3", format!(":3: {value}, found `3`")),
+        ("1\n2\n3", format!(":3: {value}, found `3`: its byte 10 is missing")),
         ("01\n2\n", format!(":1: {value}, found `01`")),
         (
             "1\n1000001\n",

@@ -118,3 +118,20 @@ fn slips_in_conditions() {
         assert_eq!(found, words);
     }
 }
+
+#[test]
+fn slips_in_starts_and_prices() {
+    let starts = [
+        ("2\n100", "`100`: its byte 10 is missing"),
+        ("2\r\n100\n", "`2\\r`: a carriage return"),
+        ("2\n 100\n", "` 100`: a space too many"),
+        ("2\n1OO\n", "`1OO`"),
+    ];
+    for (start, words) in starts {
+        let files = [("given", GIVEN), ("start", start.as_bytes())];
+        assert_eq!(told("slips_in_starts", "run", &files), words);
+    }
+    let prices = "4\n4\n1\n3\n2\n3\n3\n9\n3\n3\n24";
+    let files = [("given", GIVEN), ("marks", &b""[..]), ("prices", prices.as_bytes())];
+    assert_eq!(told("slips_in_prices", "price", &files), "`24`: its byte 10 is missing");
+}
