@@ -449,7 +449,8 @@ uint8_t rewrites_return(const uint8_t *stages, size_t stages_len, const uint8_t 
    rewrites_blame_condition the byte at which reading stopped, for 7: what stands before it begins the
                             spelling of some condition, and with that byte it begins none. Where the whole
                             text only begins one it is the byte after the last. 0 for 6 and 8, which
-                            are about no byte: neither length nor the number of parts counts here. */
+                            are about no byte: neither length nor the number of parts counts here.
+   They take at most 256, 16 and 32 KiB of stack. */
 uint32_t rewrites_blame_program(const uint8_t *program, size_t program_len);
 uint32_t rewrites_blame_marks(const uint8_t *marks, size_t marks_len);
 uint32_t rewrites_blame_condition(const uint8_t *condition, size_t condition_len);

@@ -1,7 +1,8 @@
 /* Prints how many bytes of stack the deepest calls take. Each runs in a thread whose stack was filled
    with a pattern before; what the thread alone overwrites is not counted. Exits with 0 where `run`,
    `judge`, `tabulate`, `review`, `mark_line`, `report`, `force`, `list`, `relist`, `join`, `prices`,
-   `keep` and `return` take no more than the bytes given as arguments. */
+   `keep`, `return` and the three that tell where a text is wrong take no more than the bytes given as
+   arguments. */
 #define _POSIX_C_SOURCE 200112L
 #include "rewrites.h"
 
@@ -20,6 +21,7 @@
 #define TEXT 34816
 #define STAGES 280000
 #define PATTERN 0xa5
+#define CALLS 16
 
 static uint8_t program[TEXT], condition[1024], conditions[32 * 1025], marks[64 * MARKS];
 static size_t program_len, condition_len, conditions_len, marks_len;
@@ -84,6 +86,24 @@ static void *report(void *unused) {
 static void *mark_line(void *unused) {
     static size_t begin, end;
     number = rewrites_mark_line(marks, marks_len, MARKS - 1, &begin, &end);
+    return unused;
+}
+
+/* Where each text is wrong, in turn. */
+static uint32_t place;
+
+static void *blame_program(void *unused) {
+    place = rewrites_blame_program(program, program_len);
+    return unused;
+}
+
+static void *blame_marks(void *unused) {
+    place = rewrites_blame_marks(marks, marks_len);
+    return unused;
+}
+
+static void *blame_condition(void *unused) {
+    place = rewrites_blame_condition(condition, sizeof condition);
     return unused;
 }
 
@@ -207,11 +227,12 @@ int main(int count, char **arguments) {
         {"EX ", "true", "", 340, 8}, {"!", "true", "", 1020, 8},  {"E[", "", "", 512, 7},
         {"(", "true", "", 1020, 7},  {"(", "", "", 1024, 7},
     };
-    size_t most[13] = {ROOM, ROOM, ROOM, ROOM, ROOM, ROOM, ROOM, ROOM, ROOM, ROOM, ROOM, ROOM, ROOM};
+    size_t most[CALLS];
     size_t alone = overwritten(nothing), bytes, k;
     int fails = 0, line;
 
-    for (k = 0; k < 13 && k + 1 < (size_t)count; k++) most[k] = strtoul(arguments[k + 1], NULL, 10);
+    for (k = 0; k < CALLS; k++)
+        most[k] = k + 1 < (size_t)count ? strtoul(arguments[k + 1], NULL, 10) : ROOM;
 
     put_sums();
     bytes = overwritten(judge) - alone;
@@ -246,6 +267,20 @@ int main(int count, char **arguments) {
     bytes = overwritten(mark_line) - alone;
     printf("%7lu bytes of stack: mark_line, the last of 1,024 marks\n", (unsigned long)bytes);
     fails += number != 0 || bytes > most[4];
+    bytes = overwritten(blame_program) - alone;
+    printf("%7lu bytes of stack: blame_program\n", (unsigned long)bytes);
+    fails += place != 0 || bytes > most[13];
+    /* The last line lacks its byte 10. */
+    marks_len--;
+    bytes = overwritten(blame_marks) - alone;
+    printf("%7lu bytes of stack: blame_marks, the last of 1,024 lines\n", (unsigned long)bytes);
+    fails += place != MARKS || bytes > most[14];
+    marks_len++;
+    /* Nothing in it is wrong, and it ends too early. */
+    memset(condition, '(', sizeof condition);
+    bytes = overwritten(blame_condition) - alone;
+    printf("%7lu bytes of stack: blame_condition, 1,024 of '('\n", (unsigned long)bytes);
+    fails += place != sizeof condition + 1 || bytes > most[15];
     for (line = 0; line < 11; line++) tariff_len += sprintf((char *)tariff + tariff_len, "65535\n");
     bytes = overwritten(read_prices) - alone;
     printf("%7lu bytes of stack: prices, eleven lines\n", (unsigned long)bytes);
