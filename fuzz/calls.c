@@ -519,6 +519,17 @@ static uint8_t tabulate(struct text program, struct text condition, size_t room,
     number = rewrites_tabulate(program.bytes, program.length, condition.bytes, condition.length,
                                words, room, &places[1], &places[3], &places[5]);
     for (size_t k = 0; k < 7; k++) REQUIRE((number == 0 && k % 2 == 1) || places[k] == UNSET);
+    /* A place is told of what is refused for its line or its byte, and of nothing else. */
+    if (number != 1) {
+        uint32_t line = rewrites_blame_program(program.bytes, program.length);
+
+        REQUIRE((line != 0) == (number == 2 || number == 4 || number == 5));
+    }
+    if (number == 0 || number >= 6) {
+        uint32_t byte = rewrites_blame_condition(condition.bytes, condition.length);
+
+        REQUIRE((byte != 0) == (number == 7) && byte <= condition.length + 1);
+    }
     if (number == 0) {
         REQUIRE(places[1] >= 1 && places[1] <= 64);
         set(&tables, (uint8_t *)words, PART_WORDS * places[1] * sizeof *words);
@@ -1163,6 +1174,7 @@ static void check_lines(struct text marks, uint8_t refused, uint32_t count) {
     const uint32_t beyond[4] = {count, MARKS, 65536, UINT32_MAX};
     size_t start = 0, begin, end;
 
+    REQUIRE((rewrites_blame_marks(marks.bytes, marks.length) != 0) == (refused == 9));
     /* Of a long list some lines are asked for, since each call reads the whole of it. */
     for (uint32_t j = 0; j < count; j++) {
         const uint8_t *last = memchr(marks.bytes + start, 10, marks.length - start);

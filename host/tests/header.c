@@ -848,6 +848,37 @@ static int stages_answer(void) {
     return 0;
 }
 
+/* Where a text is wrong, and 0 where it is about no place. */
+static int blame_answers(void) {
+    uint32_t (*const program)(const uint8_t *, size_t) = rewrites_blame_program;
+    uint32_t (*const marks)(const uint8_t *, size_t) = rewrites_blame_marks;
+    uint32_t (*const condition)(const uint8_t *, size_t) = rewrites_blame_condition;
+    static const struct {
+        const char *text;
+        uint32_t line, mark, byte; /* of it as a program, a list and a condition */
+    } texts[] = {
+        {"", 0, 0, 1},
+        {P, 0, 1, 1},
+        {"read i0\nskip\nif i0 goto 9 else 2\nwrite i0\n", 3, 1, 1},
+        {"read i0\nwrite i0", 2, 1, 1},
+        {"3: mark(rm, i2, 7)\n3: mark(rm, i2)\n", 1, 2, 1},
+        {"E[true U node(05)]", 1, 1, 16},
+        {"EX (exit)", 1, 1, 9},
+        {"AF exit", 1, 1, 0},
+    };
+    size_t k;
+
+    CHECK(program(NULL, 0) == 0 && marks(NULL, 0) == 0 && condition(NULL, 0) == 1);
+    for (k = 0; k < sizeof texts / sizeof *texts; k++) {
+        const uint8_t *text = (const uint8_t *)texts[k].text;
+        const size_t length = strlen(texts[k].text);
+        CHECK(program(text, length) == texts[k].line);
+        CHECK(marks(text, length) == texts[k].mark);
+        CHECK(condition(text, length) == texts[k].byte);
+    }
+    return 0;
+}
+
 int main(void) {
     rewrites_our_prices(ours);
     return constants_answer() || run_answers() || kept_answers() || division_answers() || report_answers() || prices_answers() ||
@@ -855,5 +886,5 @@ int main(void) {
            tabulate_answers() || force_answers() || review_answers() || full_review_answers() ||
            judge_answers() ||
            below_zero_answers() || mark_line_answers() || list_answers() || join_answers() ||
-           stages_answer();
+           stages_answer() || blame_answers();
 }
