@@ -17,6 +17,9 @@ const STATEMENT_COLUMNS: usize = 32;
 const MARGIN: usize = NUMBER_COLUMNS + 2 + STATEMENT_COLUMNS + 2;
 /// The columns of a step's number.
 const STEP_COLUMNS: usize = 7;
+/// The columns of a variable that differs, and of each of its values.
+const DIFFERS_COLUMNS: usize = 7;
+const VALUE_COLUMNS: usize = 11;
 /// The most lines of a start.
 const START_LINES: usize = 2 + VALUES;
 
@@ -236,6 +239,15 @@ fn head(step: usize, at: u32, statement: &str) -> String {
     format!("{step:STEP_COLUMNS$}  {at:NUMBER_COLUMNS$}  {statement:STATEMENT_COLUMNS$}")
 }
 
+/// A name in each of the columns, of which the last has no width, on a line of their own.
+fn heads(step: &str, line: &str, columns: &[(&str, usize)]) -> String {
+    let mut text = format!("{step:>STEP_COLUMNS$}  {line:>NUMBER_COLUMNS$}");
+    for (name, width) in columns {
+        text += &format!("  {name:width$}");
+    }
+    text + "\n"
+}
+
 /// The line of a run that ended: the written value, the steps, the ticks, and the values that the unit keeps.
 fn ended(value: i32, steps: u32, ticks: u64, kept: &Kept) -> String {
     let kept: String = kept.iter().map(|&value| format!(" {}", value as i32)).collect();
@@ -265,10 +277,16 @@ pub fn run(program: &[u8], start: &[u8], trace: bool) -> String {
     let given = Program::read(program).expect("a program that ran is taken");
     let mut text = String::new();
     if trace {
-        for (k, (at, before, after)) in walk(&given, &start).iter().enumerate() {
+        text += &heads("step", "line", &[("statement", STATEMENT_COLUMNS), ("assigned", 0)]);
+        let steps = walk(&given, &start);
+        let faults = matches!(outcome, Outcome::Fault { .. });
+        for (k, (at, before, after)) in steps.iter().enumerate() {
             text += &head(k + 1, *at, &spelled(&given, *at));
-            for x in (0..VALUES).filter(|&x| before[x] != after[x]) {
-                text += &format!("  i{x} = {}", after[x] as i32);
+            let performed = !(faults && k + 1 == steps.len());
+            let assigned = given.statements()[*at as usize - 1].defined();
+            if let Some(x) = assigned.map(usize::from).filter(|_| performed) {
+                let same = if before[x] == after[x] { " (as before)" } else { "" };
+                text += &format!("  i{x} = {}{same}", after[x] as i32);
             }
             text.push('\n');
         }
@@ -307,6 +325,14 @@ pub fn compare(program: &[u8], list: &[u8], start: &[u8]) -> String {
     let given = Program::read(program).expect("a program that was judged is taken");
     let rewritten = Program::read(&new).expect("a rewritten program is taken");
     let mut text = format!("marks {count} accepted {accepted}\n");
+    let differs = [
+        ("given", STATEMENT_COLUMNS),
+        ("rewritten", STATEMENT_COLUMNS),
+        ("differs", DIFFERS_COLUMNS),
+        ("given", VALUE_COLUMNS),
+        ("rewritten", 0),
+    ];
+    text += &heads("step", "line", &differs);
     let live = Liveness::new(&given);
     let both = walk(&given, &start).into_iter().zip(walk(&rewritten, &start));
     for (k, ((at, before, one), (there, before_there, other))) in both.enumerate() {
@@ -315,7 +341,9 @@ pub fn compare(program: &[u8], list: &[u8], start: &[u8]) -> String {
         let (old, new) = (spelled(&given, at), spelled(&rewritten, there));
         text += &format!("{}  {new:STATEMENT_COLUMNS$}", head(k + 1, at, &old));
         for x in differing(&one, &other).into_iter().map(usize::from) {
-            text += &format!("  i{x} {} {}", one[x] as i32, other[x] as i32);
+            let (name, one, other) = (format!("i{x}"), one[x] as i32, other[x] as i32);
+            text += &format!("  {name:DIFFERS_COLUMNS$}");
+            text += &format!("  {one:<VALUE_COLUMNS$}  {other:<VALUE_COLUMNS$}");
         }
         text.push('\n');
     }
