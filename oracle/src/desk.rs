@@ -185,30 +185,58 @@ struct Start {
 const INTEGERS: RangeInclusive<i64> = i32::MIN as i64..=i32::MAX as i64;
 const BUDGETS: RangeInclusive<i64> = 0..=i32::MAX as i64;
 
-/// The number that a line spells exactly.
-fn number(line: &[u8], range: &RangeInclusive<i64>) -> Option<i64> {
-    let body = std::str::from_utf8(line.strip_suffix(b"\n")?).ok()?;
-    body.parse().ok().filter(|number: &i64| range.contains(number) && number.to_string() == body)
+/// The number that a text spells exactly.
+fn number(text: &[u8], range: &RangeInclusive<i64>) -> Option<u32> {
+    let body = std::str::from_utf8(text).ok()?;
+    let number: i64 = body.parse().ok()?;
+    (range.contains(&number) && number.to_string() == body).then_some(number as u32)
+}
+
+/// Which number of a start a line gives where this one is next, and what it is: 0 is the input, 1 the budget, and 2 + x the
+/// value of variable x.
+fn start_line(line: &[u8], next: usize) -> Option<(usize, u32)> {
+    let range = if next == 1 { BUDGETS } else { INTEGERS };
+    if let Some(number) = number(line, &range) {
+        return (next < START_LINES).then_some((next, number));
+    }
+    let equals = line.windows(3).position(|bytes| bytes == b" = ")?;
+    let (name, value) = (line[..equals].strip_prefix(b"i")?, &line[equals + 3..]);
+    let place = 2 + number(name, &(0..=VALUES as i64 - 1))? as usize;
+    (next >= 2 && place >= next).then_some((place, number(value, &INTEGERS)?))
 }
 
 /// The start that a text is, or what is printed of one that is wrong.
 fn read_start(text: &[u8]) -> Result<Start, String> {
-    let refused = |words: String| format!("refused start\nthe start: {words}\n");
-    let mut numbers = Vec::new();
-    for (at, line) in text.split_inclusive(|&byte| byte == b'\n').enumerate() {
-        if at == START_LINES {
-            return Err(refused(format!("over {START_LINES} lines")));
+    let refused = |words: String| Err(format!("refused start\nthe start: {words}\n"));
+    let mut numbers = [0; START_LINES];
+    let (mut next, mut count) = (0, 0);
+    for line in text.split_inclusive(|&byte| byte == b'\n') {
+        if count == START_LINES {
+            return refused(format!("over {START_LINES} lines"));
         }
-        let range = if at == 1 { BUDGETS } else { INTEGERS };
-        let (low, high) = (range.start(), range.end());
-        let wrong = || format!("line {} isn't a whole number from {low} to {high}", at + 1);
-        numbers.push(number(line, &range).ok_or_else(|| refused(wrong()))? as u32);
+        count += 1;
+        let Some((place, number)) = start_line(line.strip_suffix(b"\n").unwrap_or(line), next)
+        else {
+            let (low, high, or_named) = match count {
+                1 => (i32::MIN, i32::MAX, ""),
+                2 => (0, 1_000_000, ""),
+                _ => (i32::MIN, i32::MAX, ", alone or behind a later variable: i13 = 40"),
+            };
+            return refused(format!(
+                "line {count} isn't a whole number from {low} to {high}{or_named}"
+            ));
+        };
+        if !line.ends_with(b"\n") {
+            return refused(format!("line {count} lacks its line end, byte 10"));
+        }
+        numbers[place] = number;
+        next = place + 1;
     }
-    if numbers.len() < 2 {
-        return Err(refused("under 2 lines".into()));
+    if count < 2 {
+        return refused("under 2 lines".into());
     }
     let mut values = [0; VALUES];
-    values[..numbers.len() - 2].copy_from_slice(&numbers[2..]);
+    values.copy_from_slice(&numbers[2..]);
     Ok(Start { input: numbers[0], budget: numbers[1], values })
 }
 

@@ -92,5 +92,6 @@ pub fn outcome(program: &[u8], start: &[u8], out: &mut [u8]) -> Told
         start::Answer::Few => Told::Refused(start_refusal::write(out, answer)),
         start::Answer::Many => Told::Refused(start_refusal::write(out, answer)),
         start::Answer::Line(_) => Told::Refused(start_refusal::write(out, answer)),
+        start::Answer::Unended(_) => Told::Refused(start_refusal::write(out, answer)),
     }
 }

@@ -17,7 +17,7 @@ use Rattle.desk.specs.Refusals.{refusalText}
 use Rattle.start_refusal.specs.StartRefusal.{startText}
 use Rattle.start.specs.Start.{StartTaken, StartRead}
 use Rattle.start.specs.declared.Answer.{Answer}
-use Rattle.start.specs.declared.Answer.the-variants.{Taken, Few, Many, Line}
+use Rattle.start.specs.declared.Answer.the-variants.{Taken, Few, Many, Line, Unended}
 use Rattle.start.proofs.Unique.{answer-unique}
 use Rattle.liveness.specs.Liveness.{LiveIn}
 use Rattle.comparison.specs.Lines.{bothLines}
@@ -44,6 +44,7 @@ module _ (t m u : List ℕ) (p : Position) (w : List ℕ) (a : Answer) (input bu
   refuses-start Few n = refl
   refuses-start Many n = refl
   refuses-start (Line k) n = refl
+  refuses-start (Unended k) n = refl
 
   -- no run stands anywhere
   not-taken : {i j : ℕ} {vs : List ℕ} → StartTaken u i j vs → ⊥

@@ -20,7 +20,7 @@ use Rattle.refusal_line.specs.Blame.{Blamed}
 use Rattle.start_refusal.specs.StartRefusal.{startText}
 use Rattle.start.specs.Start.{StartTaken, StartRead}
 use Rattle.start.specs.declared.Answer as start
-use Rattle.start.specs.declared.Answer.the-variants.{Taken, Few, Many, Line}
+use Rattle.start.specs.declared.Answer.the-variants.{Taken, Few, Many, Line, Unended}
 use Rattle.liveness.specs.Liveness.{live-words, LiveRows}
 use Rattle.comparison.specs.Lines.{bothLines}
 use Rattle.comparison.specs.Stepping.{line-room, BothStand}
@@ -78,6 +78,7 @@ Refuses t m Taken budget b = CallRefused t m budget b
 Refuses t m Few budget b = b ≡ startText Few
 Refuses t m Many budget b = b ≡ startText Many
 Refuses t m (Line n) budget b = b ≡ startText (Line n)
+Refuses t m (Unended n) budget b = b ≡ startText (Unended n)
 
 -- b is all that is printed where something is refused
 pub record Refusal (t m u b : List ℕ) : Type 0 where

@@ -115,6 +115,7 @@ fn start_taken(a: start::Answer) -> bool
         start::Answer::Few => false,
         start::Answer::Many => false,
         start::Answer::Line(_) => false,
+        start::Answer::Unended(_) => false,
     }
 }
 
