@@ -295,7 +295,7 @@ fn refused_starts_in_words() {
         ("1\n-1\n", format!(":2: {budget}, found `-1`")),
         ("1\n3000000000\n", format!(":2: {budget}, found `3000000000`")),
         ("1\n2\n3", format!(":3: {end}, found `3`: its byte 10 is missing")),
-        ("1\n2\ni13 = 40", format!(":3: {end}, found `i13 = 40`: its byte 10 is missing")),
+        ("1\n2\ni13 = 40", format!(":3: {end}, found `i13 = 40`")),
         ("01\n2\n", format!(":1: {input}, found `01`")),
         ("i0 = 1\n2\n", format!(":1: {input}, found `i0 = 1`")),
         ("1\n2\n03\n", format!(":3: {value}, found `03`")),

@@ -1,5 +1,6 @@
 -- `named` meets its contract: each reader finds what its law says, or the line isn't so spelled. Assumes nothing.
 use mathlib.Core.Path.{sym, ap, _∙_}
+use Prim.Native.Nat.{_+_}
 use native.Mathlib.Omega.{arith}
 use borrow.Author.Tests.{le-leb, lt-leb}
 use Rattle.tokens.specs.Parsing.{parsedWord, parsedNumber, parsedVariable, numberEnd}
@@ -21,7 +22,7 @@ returns-2 c =
 returns-3 : tie.Need-returns-3
 unfolding parseNamed
 returns-3 c =
-    (rw (le-leb fewest _ (c .before .before .before .before .before .if1 .left), sym (c .before .before .before .before .variable .ensures .0) ∙ ap (parsedVariable _) (c .before .before .x .given .1), lt-leb _ _ (c .if2 .taken)), omega arith)
+    (rw (le-leb fewest _ (c .before .before .before .before .before .if1 .left), sym (c .before .before .before .before .variable .ensures .0) ∙ ap (parsedVariable _) (c .before .before .x .given .1), lt-leb _ (2 + c .before .before .x .given .0 .0) (c .if2 .taken)), omega arith)
 
 returns-4 : tie.Need-returns-4
 unfolding parseNamed
@@ -29,7 +30,7 @@ returns-4 c = (
   rw (
     le-leb fewest _ (c .before .before .before .before .before .before .before .before .before .if1 .left),
     sym (c .before .before .before .before .before .before .before .before .variable .ensures .0) ∙ ap (parsedVariable _) (c .before .before .before .before .before .before .x .given .1),
-    le-leb _ _ (c .before .before .before .before .if2 .left),
+    le-leb _ (2 + c .before .before .before .before .before .before .x .given .0 .0) (c .before .before .before .before .if2 .left),
     sym (c .before .before .word .ensures .0) ∙ ap (parsedWord _) (c .enum-told2 .given .1),
   ),
   omega arith,
@@ -41,7 +42,7 @@ returns-5 c = (
   rw (
     le-leb fewest _ (c .before .before .before .before .before .before .before .before .before .before .before .before .before .if1 .left),
     sym (c .before .before .before .before .before .before .before .before .before .before .before .before .variable .ensures .0) ∙ ap (parsedVariable _) (c .before .before .before .before .before .before .before .before .before .before .x .given .1),
-    le-leb _ _ (c .before .before .before .before .before .before .before .before .if2 .left),
+    le-leb _ (2 + c .before .before .before .before .before .before .before .before .before .before .x .given .0 .0) (c .before .before .before .before .before .before .before .before .if2 .left),
     sym (c .before .before .before .before .before .before .word .ensures .0) ∙ ap (parsedWord _) (c .before .before .before .before .from .given .1),
     sym (c .before .before .constant .ensures .0) ∙ ap (parsedNumber _) (c .enum-told3 .given .1),
   ),
@@ -54,7 +55,7 @@ returns-6 c = (
   rw (
     le-leb fewest _ (c .before .before .before .before .before .before .before .before .before .before .before .before .before .before .if1 .left),
     sym (c .before .before .before .before .before .before .before .before .before .before .before .before .before .variable .ensures .0) ∙ ap (parsedVariable _) (c .before .before .before .before .before .before .before .before .before .before .before .x .given .1),
-    le-leb _ _ (c .before .before .before .before .before .before .before .before .before .if2 .left),
+    le-leb _ (2 + c .before .before .before .before .before .before .before .before .before .before .before .x .given .0 .0) (c .before .before .before .before .before .before .before .before .before .if2 .left),
     sym (c .before .before .before .before .before .before .before .word .ensures .0) ∙ ap (parsedWord _) (c .before .before .before .before .before .from .given .1),
     sym (c .before .before .before .constant .ensures .0) ∙ ap (parsedNumber _) (c .before .v .given .1),
   ),
