@@ -455,6 +455,10 @@ uint32_t rewrites_blame_program(const uint8_t *program, size_t program_len);
 uint32_t rewrites_blame_marks(const uint8_t *marks, size_t marks_len);
 uint32_t rewrites_blame_condition(const uint8_t *condition, size_t condition_len);
 
+/* Returns the REWRITES_VERSION of the library that is linked. A host that loads the library while it runs
+   compares it with its header's. Nothing is lent, and nothing is refused. */
+uint32_t rewrites_version(void);
+
 #ifdef __cplusplus
 }
 #endif

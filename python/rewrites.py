@@ -885,10 +885,12 @@ _PARAMETERS = {
     "blame_program": _TEXT,
     "blame_marks": _TEXT,
     "blame_condition": _TEXT,
+    "version": [],
 }
 
 # What a call returns where it is no refusal.
 _RETURNED = {"our_prices": None, "blame_program": ctypes.c_uint32, "blame_marks": ctypes.c_uint32, "blame_condition": ctypes.c_uint32}
+_RETURNED["version"] = ctypes.c_uint32
 
 
 def library_path() -> pathlib.Path:
@@ -899,6 +901,24 @@ def library_path() -> pathlib.Path:
     here = pathlib.Path(__file__).resolve().parent
     beside = here / "librewrites.so"
     return beside if beside.exists() else here.parent / "target" / "python" / "librewrites.so"
+
+
+def _version(number: int) -> str:
+    """A version from its one number.
+
+    >>> _version(100), _version(20103)
+    ('0.1.0', '2.1.3')
+    """
+    return f"{number // 10000}.{number // 100 % 100}.{number % 100}"
+
+
+def version() -> str:
+    """The version of the library that is loaded, which is this file's: any other is refused at the first call.
+
+    >>> version() == __version__
+    True
+    """
+    return _version(_library().rewrites_version())
 
 
 @functools.lru_cache(maxsize=None)
@@ -915,6 +935,9 @@ def _library() -> ctypes.CDLL:
             function.restype = _RETURNED.get(name, ctypes.c_uint8)
     except (OSError, AttributeError) as error:
         raise LibraryError(f"{path}: the host program: expected the shared object that python/build makes: {error}") from None
+    major, minor, patch = map(int, __version__.split("."))
+    if library.rewrites_version() != major * 10000 + minor * 100 + patch:
+        raise LibraryError(f"{path}: the host program: expected a library of version {__version__}, found {_version(library.rewrites_version())}")
     # Calls fill arrays of fixed sizes, so a library of other sizes mustn't be called. An empty program is refused only where the words
     # are enough: that tells the numbers of statements and of variables.
     words, counts = _array(ctypes.c_uint64, LIST_WORDS), _array(ctypes.c_uint32, VARIABLES)

@@ -1,4 +1,4 @@
-//! A start: the input, the budget and up to 64 values, one a line, each ended by byte 10.
+//! A start: the input, the budget and up to 64 values, one a line, each ended by byte 10. A value may name its variable.
 
 use crate::blame::lines;
 use rewrites::{Outcome, Prices, Refusal, MOST_STEPS, VARIABLES};
@@ -70,26 +70,43 @@ impl Start {
 
     /// The start that a text spells.
     pub fn read(text: &[u8]) -> Result<Start, Wrong> {
-        let mut numbers = Vec::new();
-        for (at, line) in lines(text).enumerate() {
-            if at == MOST_LINES {
+        // The input, the budget and the values, and how many of these lines gave or passed over.
+        let (mut numbers, mut next) = ([0; MOST_LINES], 0);
+        let mut count = 0;
+        for line in lines(text) {
+            if count == MOST_LINES {
                 return Err(Wrong::of_count(&format!("over {MOST_LINES} lines")));
             }
-            let range = if at == 1 { BUDGETS } else { VALUES };
-            let found = line.strip_suffix(b"\n").and_then(|text| number(text, &range));
-            numbers.push(found.ok_or_else(|| Wrong::of_line(at + 1, &range))?);
-        }
-        match *numbers {
-            [input, budget, ref given @ ..] => {
-                let mut values = [0; VARIABLES];
-                for (value, &number) in values.iter_mut().zip(given) {
-                    *value = number as i32;
-                }
-                Ok(Start { input: input as i32, budget: budget as u32, values })
+            count += 1;
+            let body = line.strip_suffix(b"\n").unwrap_or(line);
+            let (place, number) = entry(body, next).ok_or_else(|| Wrong::of_line(count))?;
+            if body.len() == line.len() {
+                return Err(Wrong::of_end(count));
             }
-            _ => Err(Wrong::of_count("under 2 lines")),
+            (numbers[place], next) = (number, place + 1);
         }
+        if count < 2 {
+            return Err(Wrong::of_count("under 2 lines"));
+        }
+        let mut values = [0; VARIABLES];
+        for (value, &number) in values.iter_mut().zip(&numbers[2..]) {
+            *value = number as i32;
+        }
+        Ok(Start { input: numbers[0] as i32, budget: numbers[1] as u32, values })
     }
+}
+
+/// Which number a line gives, where this one is next, and what it is: 0 is the input, 1 the budget, 2 + x the value of ix.
+/// A value that names its variable may pass over others, and not come back to them.
+fn entry(line: &[u8], next: usize) -> Option<(usize, i64)> {
+    let range = if next == 1 { BUDGETS } else { VALUES };
+    if let Some(number) = number(line, &range) {
+        return (next < MOST_LINES).then_some((next, number));
+    }
+    let line = std::str::from_utf8(line).ok()?;
+    let (name, value) = line.split_once(" = ")?;
+    let x = (0..VARIABLES).find(|x| format!("i{x}") == name)?;
+    (next >= 2 && 2 + x >= next).then_some((2 + x, number(value.as_bytes(), &VALUES)?))
 }
 
 impl Wrong {
@@ -98,12 +115,23 @@ impl Wrong {
         Wrong { line: None, words: words.to_string(), expected }
     }
 
-    fn of_line(line: usize, range: &RangeInclusive<i64>) -> Wrong {
-        let expected = whole(range) + ", and byte 10";
+    /// A line that isn't right, whether its byte 10 is there or not.
+    fn of_line(line: usize) -> Wrong {
+        let expected = match line {
+            2 => whole(&(0..=i64::from(MOST_STEPS))),
+            1 => whole(&VALUES),
+            _ => whole(&VALUES) + ", alone or behind a later variable (i13 = 40)",
+        };
+        let words = "not such a number".into();
+        Wrong { line: Some(line), words, expected: expected + ", and byte 10" }
+    }
+
+    /// The last line, which is right but for its end.
+    fn of_end(line: usize) -> Wrong {
         Wrong {
             line: Some(line),
-            words: "not such a number, or without its byte 10".into(),
-            expected,
+            words: "without its line end".into(),
+            expected: "byte 10 behind the last line too".into(),
         }
     }
 }

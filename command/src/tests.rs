@@ -239,6 +239,9 @@ fn starts_are_as_by_the_oracle() {
             }
             Err(wrong) => {
                 let words = match wrong.line {
+                    Some(line) if wrong.words == "without its line end" => {
+                        format!("the start: line {line} lacks its line end")
+                    }
                     Some(line) => format!("the start: line {line} isn't"),
                     None => format!("the start: {}", wrong.words),
                 };

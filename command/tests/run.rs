@@ -127,6 +127,21 @@ fn runs_of_an_example() {
     }
 }
 
+/// Values by the names of their variables, between values in order.
+#[test]
+fn a_start_names_its_variables() {
+    let given = b"read i1\ni2 := i0 * 100\ni2 := i2 + i13\ni2 := i2 + i14\nwrite i2\n";
+    for (start, value) in
+        [("1\n9\n7\ni13 = 40\n2\n", 742), ("1\n9\ni14 = 3\n", 3), ("1\n9\ni0 = -2\n5\n", -200)]
+    {
+        let base = folder("named", &[("given", &given[..]), ("start", start.as_bytes())]);
+        let output = run_in(&base, &["run", "."]);
+        assert!(printed(&output).starts_with(&format!("ended {value} steps 5 ")), "{start}");
+        assert_eq!((status(&output), said(&output).as_str()), (0, ""), "{start}");
+        assert_eq!(printed(&output), desk::run(given, start.as_bytes(), false), "{start}");
+    }
+}
+
 /// A pass of the example that is held, and the next, which starts with what the first kept.
 #[test]
 fn what_one_pass_keeps_starts_the_next() {
@@ -267,16 +282,26 @@ fn both_programs_of_an_example_fault_alike() {
 #[test]
 fn refused_starts_in_words() {
     let lines = "the input, the budget and up to 64 values, one a line";
-    let number =
-        "the start: not such a number, or without its byte 10; expected a whole number from";
-    let value = format!("{number} -2147483648 to 2147483647, and byte 10");
-    let budget = format!("{number} 0 to 2147483647, and byte 10");
+    let number = "the start: not such a number; expected a whole number from";
+    let input = format!("{number} -2147483648 to 2147483647, and byte 10");
+    let budget = format!("{number} 0 to 1000000, and byte 10");
+    let value = format!(
+        "{number} -2147483648 to 2147483647, alone or behind a later variable (i13 = 40), and byte 10"
+    );
+    let end = "the start: without its line end; expected byte 10 behind the last line too";
     for (start, expected) in [
         ("", format!(": the start: under 2 lines; expected {lines}")),
         (&"1\n".repeat(67), format!(": the start: over 66 lines; expected {lines}")),
         ("1\n-1\n", format!(":2: {budget}, found `-1`")),
-        ("1\n2\n3", format!(":3: {value}, found `3`: its byte 10 is missing")),
-        ("01\n2\n", format!(":1: {value}, found `01`")),
+        ("1\n3000000000\n", format!(":2: {budget}, found `3000000000`")),
+        ("1\n2\n3", format!(":3: {end}, found `3`: its byte 10 is missing")),
+        ("1\n2\ni13 = 40", format!(":3: {end}, found `i13 = 40`")),
+        ("01\n2\n", format!(":1: {input}, found `01`")),
+        ("i0 = 1\n2\n", format!(":1: {input}, found `i0 = 1`")),
+        ("1\n2\n03\n", format!(":3: {value}, found `03`")),
+        ("1\n2\n3\ni0 = 4\n", format!(":4: {value}, found `i0 = 4`")),
+        ("1\n2\ni64 = 4\n", format!(":3: {value}, found `i64 = 4`")),
+        ("1\n2\ni63 = 4\n5\n", format!(":4: {value}, found `5`")),
         (
             "1\n1000001\n",
             ":2: the host program: budget over 1,000,000; expected at most 1,000,000, found `1000001`".into(),

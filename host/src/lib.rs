@@ -1402,6 +1402,17 @@ fn place(number: u32) -> Option<u32> {
     (number != 0).then_some(number)
 }
 
+/// The version of the library that is linked, as one number that grows with it: 10,000 for each major version, 100
+/// for each minor one, and 1 for each patch.
+///
+/// ```
+/// assert_eq!(rewrites::version(), 100);
+/// ```
+pub fn version() -> u32 {
+    // SAFETY: nothing is lent.
+    unsafe { raw::rewrites_version() }
+}
+
 /// Makes the list of a program's readers and writers: for each variable the statements that define it,
 /// `read X` or `X := E`, and those that use it.
 ///

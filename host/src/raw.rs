@@ -266,4 +266,11 @@ extern "C" {
     ///
     /// `condition` points to `condition_len` bytes; it may be null where that is 0.
     pub fn rewrites_blame_condition(condition: *const u8, condition_len: usize) -> u32;
+
+    /// See [`crate::version`] and the header.
+    ///
+    /// # Safety
+    ///
+    /// There is nothing to lend: every call is safe.
+    pub fn rewrites_version() -> u32;
 }

@@ -139,7 +139,8 @@ fn comparisons_are_as_by_the_oracle() {
         same(case, &printed(&comparer, "compare", &files, &[]), &expected, &files);
         met.met(class(&expected));
         ending(&expected).into_iter().for_each(|ending| endings.met(ending));
-        for line in expected.lines().filter(|line| line.starts_with(' ')) {
+        let is_step = |line: &&str| line.starts_with(' ') && !line.starts_with("   step");
+        for line in expected.lines().filter(is_step) {
             // Both statements fill their columns, and the last of a line without differences ends there.
             let is_alike = line.len() == STEP_BYTES;
             differences.met(if is_alike { "alike" } else { "dead variables differ" });
@@ -157,13 +158,14 @@ fn comparisons_are_as_by_the_oracle() {
 
 // Faults
 
-/// A line for the step that faults, in which nothing is changed, and the line of the outcome.
+/// A line for the step that faults, in which nothing is assigned, and the line of the outcome.
 #[test]
 fn faults_are_printed() {
     let runner = built("run_program");
     let given = b"read i0\ni1 := 10 / i0\nwrite i1\n";
     let outcome = "fault at 2 steps 2 ticks 28\n";
-    let trace = "      1     1  read i0                           i0 = 0\n\
+    let trace = "   step  line  statement                         assigned\n\
+                 \x20     1     1  read i0                           i0 = 0\n\
                  \x20     2     2  i1 := 10 / i0                   \n";
     for (start, is_traced) in [("0\n2\n7\n7\n", false), ("0\n1000000\n7\n7\n", true)] {
         let files = [("given", &given[..]), ("start", start.as_bytes())];
@@ -187,10 +189,11 @@ fn faults_are_compared() {
     let given = b"read i0\ni3 := 9\ni1 := 0\ni2 := i0 / i1\nwrite i2\n";
     let list = b"2: mark(rm, i3, 9)\n4: mark(rpl, i1, 0)\n";
     let expected = "marks 2 accepted 2\n\
+         \x20  step  line  given                             rewritten                         differs  given        rewritten\n\
          \x20     1     1  read i0                           read i0                         \n\
-         \x20     2     2  i3 := 9                           skip                              i3 9 0\n\
-         \x20     3     3  i1 := 0                           i1 := 0                           i3 9 0\n\
-         \x20     4     4  i2 := i0 / i1                     i2 := i0 / 0                      i3 9 0\n\
+         \x20     2     2  i3 := 9                           skip                              i3       9            0          \n\
+         \x20     3     3  i1 := 0                           i1 := 0                           i3       9            0          \n\
+         \x20     4     4  i2 := i0 / i1                     i2 := i0 / 0                      i3       9            0          \n\
          given fault at 4 steps 4 ticks 32\nrewritten fault at 4 steps 4 ticks 31\n\
          statements, outcome and live variables agree\n";
     for budget in ["4", "1000000"] {
@@ -234,11 +237,12 @@ fn sums_are_compared() {
     let given = b"read i0\ni1 := i0 + 1\ni2 := i0 + 1\ni3 := i2\nwrite i2\n";
     let list = b"2: mark(rm, i1, i0 + 1)\n4: mark(rm, i3, i2)\n3: mark(cse, i1, i0 + 1)\n";
     let expected = "marks 3 accepted 2\n\
+         \x20  step  line  given                             rewritten                         differs  given        rewritten\n\
          \x20     1     1  read i0                           read i0                         \n\
          \x20     2     2  i1 := i0 + 1                      i1 := i0 + 1                    \n\
          \x20     3     3  i2 := i0 + 1                      i2 := i1                        \n\
-         \x20     4     4  i3 := i2                          skip                              i3 6 0\n\
-         \x20     5     5  write i2                          write i2                          i3 6 0\n\
+         \x20     4     4  i3 := i2                          skip                              i3       6            0          \n\
+         \x20     5     5  write i2                          write i2                          i3       6            0          \n\
          given ended 6 steps 5 ticks 16 kept 0 0 0 0 0 0 0 0\n\
          rewritten ended 6 steps 5 ticks 14 kept 0 0 0 0 0 0 0 0\n\
          statements, outcome and live variables agree\n";
@@ -257,10 +261,11 @@ fn what_differs_is_dead() {
     let given = b"read i0\ni1 := i0 + 1\ni5 := i0 * 2\ni2 := i0 + 1\ni5 := i2\nwrite i5\n";
     let list = b"4: mark(cse, i1, i0 + 1)\n3: mark(rm, i5, i0 * 2)\n";
     let expected = "marks 2 accepted 2\n\
+         \x20  step  line  given                             rewritten                         differs  given        rewritten\n\
          \x20     1     1  read i0                           read i0                         \n\
          \x20     2     2  i1 := i0 + 1                      i1 := i0 + 1                    \n\
-         \x20     3     3  i5 := i0 * 2                      skip                              i5 8 0\n\
-         \x20     4     4  i2 := i0 + 1                      i2 := i1                          i5 8 0\n\
+         \x20     3     3  i5 := i0 * 2                      skip                              i5       8            0          \n\
+         \x20     4     4  i2 := i0 + 1                      i2 := i1                          i5       8            0          \n\
          \x20     5     5  i5 := i2                          i5 := i2                        \n\
          \x20     6     6  write i5                          write i5                        \n\
          given ended 5 steps 6 ticks 25 kept 0 0 0 0 0 0 0 0\n\
@@ -393,7 +398,10 @@ fn the_longest_statements_are_compared() {
         let longest = "i63 := -2147483648 + -2147483648";
         let row = match marks {
             "" => format!("\n      2     2  {longest}  {longest}\n"),
-            _ => format!("\n      2     2  {longest}  {:32}  i63 0 -2147483648\n", "skip"),
+            _ => format!(
+                "\n      2     2  {longest}  {:32}  i63      0            -2147483648\n",
+                "skip"
+            ),
         };
         assert!(expected.contains(&row));
     }

@@ -879,6 +879,13 @@ static int blame_answers(void) {
     return 0;
 }
 
+/* The library is the header's. */
+static int version_answers(void) {
+    uint32_t (*const version)(void) = rewrites_version;
+    CHECK(version() == REWRITES_VERSION);
+    return 0;
+}
+
 int main(void) {
     rewrites_our_prices(ours);
     return constants_answer() || run_answers() || kept_answers() || division_answers() || report_answers() || prices_answers() ||
@@ -886,5 +893,5 @@ int main(void) {
            tabulate_answers() || force_answers() || review_answers() || full_review_answers() ||
            judge_answers() ||
            below_zero_answers() || mark_line_answers() || list_answers() || join_answers() ||
-           stages_answer() || blame_answers();
+           stages_answer() || blame_answers() || version_answers();
 }

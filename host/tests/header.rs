@@ -213,6 +213,8 @@ fn the_headers_sizes_are_this_crates() {
     let version = ["MAJOR", "MINOR", "PATCH"]
         .map(|part| numbers[&format!("REWRITES_VERSION_{part}")].to_string());
     assert_eq!(version.join("."), env!("CARGO_PKG_VERSION"));
+    let [major, minor, patch] = version.map(|part| part.parse::<u32>().expect("a number"));
+    assert_eq!(rewrites::version(), major * 10_000 + minor * 100 + patch);
 }
 
 #[test]

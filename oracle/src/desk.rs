@@ -17,6 +17,9 @@ const STATEMENT_COLUMNS: usize = 32;
 const MARGIN: usize = NUMBER_COLUMNS + 2 + STATEMENT_COLUMNS + 2;
 /// The columns of a step's number.
 const STEP_COLUMNS: usize = 7;
+/// The columns of a variable that differs, and of each of its values.
+const DIFFERS_COLUMNS: usize = 7;
+const VALUE_COLUMNS: usize = 11;
 /// The most lines of a start.
 const START_LINES: usize = 2 + VALUES;
 
@@ -182,30 +185,58 @@ struct Start {
 const INTEGERS: RangeInclusive<i64> = i32::MIN as i64..=i32::MAX as i64;
 const BUDGETS: RangeInclusive<i64> = 0..=i32::MAX as i64;
 
-/// The number that a line spells exactly.
-fn number(line: &[u8], range: &RangeInclusive<i64>) -> Option<i64> {
-    let body = std::str::from_utf8(line.strip_suffix(b"\n")?).ok()?;
-    body.parse().ok().filter(|number: &i64| range.contains(number) && number.to_string() == body)
+/// The number that a text spells exactly.
+fn number(text: &[u8], range: &RangeInclusive<i64>) -> Option<u32> {
+    let body = std::str::from_utf8(text).ok()?;
+    let number: i64 = body.parse().ok()?;
+    (range.contains(&number) && number.to_string() == body).then_some(number as u32)
+}
+
+/// Which number of a start a line gives where this one is next, and what it is: 0 is the input, 1 the budget, and 2 + x the
+/// value of variable x.
+fn start_line(line: &[u8], next: usize) -> Option<(usize, u32)> {
+    let range = if next == 1 { BUDGETS } else { INTEGERS };
+    if let Some(number) = number(line, &range) {
+        return (next < START_LINES).then_some((next, number));
+    }
+    let equals = line.windows(3).position(|bytes| bytes == b" = ")?;
+    let (name, value) = (line[..equals].strip_prefix(b"i")?, &line[equals + 3..]);
+    let place = 2 + number(name, &(0..=VALUES as i64 - 1))? as usize;
+    (next >= 2 && place >= next).then_some((place, number(value, &INTEGERS)?))
 }
 
 /// The start that a text is, or what is printed of one that is wrong.
 fn read_start(text: &[u8]) -> Result<Start, String> {
-    let refused = |words: String| format!("refused start\nthe start: {words}\n");
-    let mut numbers = Vec::new();
-    for (at, line) in text.split_inclusive(|&byte| byte == b'\n').enumerate() {
-        if at == START_LINES {
-            return Err(refused(format!("over {START_LINES} lines")));
+    let refused = |words: String| Err(format!("refused start\nthe start: {words}\n"));
+    let mut numbers = [0; START_LINES];
+    let (mut next, mut count) = (0, 0);
+    for line in text.split_inclusive(|&byte| byte == b'\n') {
+        if count == START_LINES {
+            return refused(format!("over {START_LINES} lines"));
         }
-        let range = if at == 1 { BUDGETS } else { INTEGERS };
-        let (low, high) = (range.start(), range.end());
-        let wrong = || format!("line {} isn't a whole number from {low} to {high}", at + 1);
-        numbers.push(number(line, &range).ok_or_else(|| refused(wrong()))? as u32);
+        count += 1;
+        let Some((place, number)) = start_line(line.strip_suffix(b"\n").unwrap_or(line), next)
+        else {
+            let (low, high, or_named) = match count {
+                1 => (i32::MIN, i32::MAX, ""),
+                2 => (0, 1_000_000, ""),
+                _ => (i32::MIN, i32::MAX, ", alone or behind a later variable: i13 = 40"),
+            };
+            return refused(format!(
+                "line {count} isn't a whole number from {low} to {high}{or_named}"
+            ));
+        };
+        if !line.ends_with(b"\n") {
+            return refused(format!("line {count} lacks its line end, byte 10"));
+        }
+        numbers[place] = number;
+        next = place + 1;
     }
-    if numbers.len() < 2 {
-        return Err(refused("under 2 lines".into()));
+    if count < 2 {
+        return refused("under 2 lines".into());
     }
     let mut values = [0; VALUES];
-    values[..numbers.len() - 2].copy_from_slice(&numbers[2..]);
+    values.copy_from_slice(&numbers[2..]);
     Ok(Start { input: numbers[0], budget: numbers[1], values })
 }
 
@@ -234,6 +265,15 @@ fn spelled(program: &Program, statement: u32) -> String {
 /// The step's number, and the number and the text of its statement.
 fn head(step: usize, at: u32, statement: &str) -> String {
     format!("{step:STEP_COLUMNS$}  {at:NUMBER_COLUMNS$}  {statement:STATEMENT_COLUMNS$}")
+}
+
+/// A name in each of the columns, of which the last has no width, on a line of their own.
+fn heads(step: &str, line: &str, columns: &[(&str, usize)]) -> String {
+    let mut text = format!("{step:>STEP_COLUMNS$}  {line:>NUMBER_COLUMNS$}");
+    for (name, width) in columns {
+        text += &format!("  {name:width$}");
+    }
+    text + "\n"
 }
 
 /// The line of a run that ended: the written value, the steps, the ticks, and the values that the unit keeps.
@@ -265,10 +305,16 @@ pub fn run(program: &[u8], start: &[u8], trace: bool) -> String {
     let given = Program::read(program).expect("a program that ran is taken");
     let mut text = String::new();
     if trace {
-        for (k, (at, before, after)) in walk(&given, &start).iter().enumerate() {
+        text += &heads("step", "line", &[("statement", STATEMENT_COLUMNS), ("assigned", 0)]);
+        let steps = walk(&given, &start);
+        let faults = matches!(outcome, Outcome::Fault { .. });
+        for (k, (at, before, after)) in steps.iter().enumerate() {
             text += &head(k + 1, *at, &spelled(&given, *at));
-            for x in (0..VALUES).filter(|&x| before[x] != after[x]) {
-                text += &format!("  i{x} = {}", after[x] as i32);
+            let performed = !(faults && k + 1 == steps.len());
+            let assigned = given.statements()[*at as usize - 1].defined();
+            if let Some(x) = assigned.map(usize::from).filter(|_| performed) {
+                let same = if before[x] == after[x] { " (as before)" } else { "" };
+                text += &format!("  i{x} = {}{same}", after[x] as i32);
             }
             text.push('\n');
         }
@@ -307,6 +353,14 @@ pub fn compare(program: &[u8], list: &[u8], start: &[u8]) -> String {
     let given = Program::read(program).expect("a program that was judged is taken");
     let rewritten = Program::read(&new).expect("a rewritten program is taken");
     let mut text = format!("marks {count} accepted {accepted}\n");
+    let differs = [
+        ("given", STATEMENT_COLUMNS),
+        ("rewritten", STATEMENT_COLUMNS),
+        ("differs", DIFFERS_COLUMNS),
+        ("given", VALUE_COLUMNS),
+        ("rewritten", 0),
+    ];
+    text += &heads("step", "line", &differs);
     let live = Liveness::new(&given);
     let both = walk(&given, &start).into_iter().zip(walk(&rewritten, &start));
     for (k, ((at, before, one), (there, before_there, other))) in both.enumerate() {
@@ -315,7 +369,9 @@ pub fn compare(program: &[u8], list: &[u8], start: &[u8]) -> String {
         let (old, new) = (spelled(&given, at), spelled(&rewritten, there));
         text += &format!("{}  {new:STATEMENT_COLUMNS$}", head(k + 1, at, &old));
         for x in differing(&one, &other).into_iter().map(usize::from) {
-            text += &format!("  i{x} {} {}", one[x] as i32, other[x] as i32);
+            let (name, one, other) = (format!("i{x}"), one[x] as i32, other[x] as i32);
+            text += &format!("  {name:DIFFERS_COLUMNS$}");
+            text += &format!("  {one:<VALUE_COLUMNS$}  {other:<VALUE_COLUMNS$}");
         }
         text.push('\n');
     }

@@ -143,8 +143,23 @@ pub fn start(random: &mut Random) -> Vec<u8> {
         _ => random.below(300),
     };
     let mut text = format!("{}\n{budget}\n", generate::word(random) as i32);
-    for _ in 0..random.pick(&[0, 0, 1, 5, 32, VALUES - 1, VALUES, VALUES + 1]) {
+    let count = random.pick(&[0, 0, 1, 5, 32, VALUES - 1, VALUES, VALUES + 1]);
+    // Variables are named in about half of the starts: most after those before them, some not.
+    let names = random.pick(&[0, 0, 30, 100]);
+    let mut next = 0;
+    for _ in 0..count {
+        if random.below(100) < names {
+            next += random.pick(&[0, 0, 0, 1, 2, 20]);
+            if random.below(200) == 0 {
+                next = random.below(VALUES + 1);
+            }
+            text += &format!("i{next} = ");
+        }
         text += &format!("{}\n", generate::word(random) as i32);
+        next += 1;
+    }
+    if random.below(40) == 0 {
+        text.pop();
     }
     match random.below(10) {
         0 => generate::damage(random, text.as_bytes()),

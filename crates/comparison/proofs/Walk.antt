@@ -24,10 +24,9 @@ use Rattle.machine.specs.declared.Next.the-variants.{Goto, Finish, Fault}
 use Rattle.machine.proofs.Runs.{Stands, step-after, step-inside}
 use Rattle.lockstep.specs.Lockstep.{Agree, Side, Together}
 use Rattle.lockstep.proofs.Answers.{ended-beside}
-use Rattle.trace.specs.Trace.{valuesIn}
 use Rattle.trace.proofs.Walk.{goes-inside}
 use Rattle.liveness.specs.Liveness.{LiveRows}
-use Rattle.comparison.specs.Lines.{pairLine, bothLine, bothLines}
+use Rattle.comparison.specs.Lines.{pairLine, bothLine, bothLines, valuesIn}
 use Rattle.comparison.specs.Stepping.{line-room, InStep, BothStand, Compared, Stepped}
 use Rattle.comparison.specs.declared.Progress.{Progress}
 use Rattle.comparison.proofs.Values.{values-kept}

@@ -7,7 +7,6 @@ use mathlib.Core.Bool.{Bool, true, false}
 use Prim.Native.Nat.{ℕ, suc, _+_, _*_, _≤_, _<_}
 use lib.ListN.{length, take}
 use Rattle.language.specs.Spelling.{variables}
-use Rattle.language.specs.Room.{variable-room, constant-room}
 use Rattle.statement_writer.specs.Writing.{Put}
 use Rattle.language.specs.declared.Statement.{Statement}
 use Rattle.machine.specs.Machine.{Final, before, ended, after}
@@ -15,12 +14,12 @@ use Rattle.lockstep.specs.Lockstep.{Agree, Side, Together}
 use Rattle.desk.specs.Columns.{statement-columns}
 use Rattle.trace.specs.Stepping.{head-room}
 use Rattle.liveness.specs.Liveness.{LiveRows}
-use Rattle.comparison.specs.Lines.{bothLines}
+use Rattle.comparison.specs.Lines.{differs-columns, value-columns, bothLines}
 use Rattle.comparison.specs.declared.Progress.{Progress}
 
 -- a variable and its two values have room in this many bytes, and every line in this many
 abbrev pub pair-room : ℕ
-pair-room = 2 + (variable-room + (1 + (constant-room + (1 + constant-room))))
+pair-room = 2 + (differs-columns + (2 + (value-columns + (2 + value-columns))))
 
 abbrev pub pairs-room : ℕ
 pairs-room = variables * pair-room

@@ -3,38 +3,62 @@
 ghost use mathlib.Core.Path.{_≡_};
 ghost use Prim.Native.Nat.{_≤_, _<_, _+_};
 ghost use lib.ListN.{length};
-ghost use Rattle.language.specs.Spelling.{variables, Valid};
+ghost use Rattle.language.specs.Spelling.{variables, spellConstant, spellVariable, ValidVariable, Valid};
 ghost use Rattle.statement_writer.specs.Writing.{Put};
 ghost use Rattle.program.specs.Program.{most, Targets, WellFormed};
 ghost use Rattle.program.specs.Reading.{statements};
 ghost use Rattle.liveness.specs.Liveness.{live-words};
-ghost use Rattle.comparison.specs.Lines.{pairText, difference as differenceBytes, differences as differencesBytes, pairLine};
+ghost use Rattle.desk.specs.Columns.{padded};
+ghost use Rattle.comparison.specs.Lines.{differs-columns, value-columns, pairText, difference as differenceBytes, differences as differencesBytes, pairLine};
 ghost use Rattle.comparison.specs.Stepping.{pair-room, pairs-room, line-room, Stepped};
 use desk::columns::STATEMENT_COLUMNS;
 use language::CONSTANT_ROOM;
 use language::Statement;
-use language::VARIABLE_ROOM;
 use machine::VALUES;
 use program::Program;
 use trace::HEAD_ROOM;
 use trace::Onward;
 
+// The columns of a variable that differs, and of a value.
+const DIFFERS_COLUMNS: usize = 7;
+
+const VALUE_COLUMNS: usize = CONSTANT_ROOM;
 // A variable and its two values have room in this many bytes, and a line in this many.
-const PAIR_ROOM: usize = 2 + VARIABLE_ROOM + 1 + CONSTANT_ROOM + 1 + CONSTANT_ROOM;
+const PAIR_ROOM: usize = 2 + DIFFERS_COLUMNS + 2 + VALUE_COLUMNS + 2 + VALUE_COLUMNS;
 
 pub const LINE_ROOM: usize = HEAD_ROOM + 2 + STATEMENT_COLUMNS + VALUES * PAIR_ROOM + 1;
 
-// `  i2 7 0`
+// The variable's name, filled with spaces to its columns.
+fn variable(out: &mut [u8], at: usize, x: u8) -> usize
+    requires { ⌜ ValidVariable x ⌝ }
+    requires { ⌜ at + differs-columns ≤ length (now out) ⌝ }
+    ensures { λ r. ⌜ Put (now (out .entry)) at (padded differs-columns (spellVariable x)) (now (out .exit)) r × (r ≡ at + differs-columns) ⌝ }
+{
+    let k = statement_writer::variable(out, at, x);
+    desk::columns::spaces(out, k, at + DIFFERS_COLUMNS - k)
+}
+
+// The same of a value.
+fn value(out: &mut [u8], at: usize, v: u32) -> usize
+    requires { ⌜ at + value-columns ≤ length (now out) ⌝ }
+    ensures { λ r. ⌜ Put (now (out .entry)) at (padded value-columns (spellConstant v)) (now (out .exit)) r × (r ≡ at + value-columns) ⌝ }
+{
+    let k = statement_writer::constant(out, at, v);
+    desk::columns::spaces(out, k, at + VALUE_COLUMNS - k)
+}
+
+// Its value in the given program, then in the rewritten one.
 fn pair(out: &mut [u8], at: usize, x: u8, v: u32, w: u32) -> usize
-    requires { ⌜ at + length (pairText x v w) ≤ length (now out) ⌝ }
+    requires { ⌜ ValidVariable x ⌝ }
+    requires { ⌜ at + pair-room ≤ length (now out) ⌝ }
     ensures { λ r. ⌜ Put (now (out .entry)) at (pairText x v w) (now (out .exit)) r ⌝ }
 {
     let k1 = desk::columns::spaces(out, at, 2);
-    let k2 = statement_writer::variable(out, k1, x);
-    let k3 = statement_writer::byte(out, k2, b' ');
-    let k4 = statement_writer::constant(out, k3, v);
-    let k5 = statement_writer::byte(out, k4, b' ');
-    statement_writer::constant(out, k5, w)
+    let k2 = variable(out, k1, x);
+    let k3 = desk::columns::spaces(out, k2, 2);
+    let k4 = value(out, k3, v);
+    let k5 = desk::columns::spaces(out, k4, 2);
+    value(out, k5, w)
 }
 
 fn difference(out: &mut [u8], at: usize, x: usize, a: &[u32; VALUES], b: &[u32; VALUES]) -> usize

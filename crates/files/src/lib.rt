@@ -202,7 +202,7 @@ fn read_argument(i: usize, default: &[u8], words: &[u8], buffer: &mut [u8]) -> F
 pub fn read(i: usize, default: &[u8], buffer: &mut [u8]) -> FileRead
     ensures { λ r. ⌜ Reads (now (buffer .entry)) (now (buffer .exit)) r ⌝ }
 {
-    read_argument(i, default, b"", buffer)
+    read_argument(i, default, b" can't be opened", buffer)
 }
 
 // The same for a program that takes a file that can't be opened for an empty one, and says so.

@@ -2,9 +2,9 @@
 use mathlib.Core.Path.{_≡_, refl, ap}
 use mathlib.Core.Logic.{inl, inr}
 use mathlib.Core.List.{List}
-use Prim.Native.Nat.{ℕ, _≤_, _<_, _^_}
+use Prim.Native.Nat.{ℕ, _+_, _≤_, _<_, _^_}
 use native.Mathlib.Omega.{arith}
-use lib.ListN.{length}
+use lib.ListN.{length, length-append}
 use Rattle.statement_writer.specs.Writing.{Put}
 use Rattle.language.proofs.Lengths.{number-most}
 use Rattle.run.specs.Run.{most-steps, budget-number}
@@ -14,13 +14,20 @@ use Rattle.judge.specs.declared.JudgeAnswer.the-variants.{Refused, Finished}
 use Rattle.report.specs.Report.{countsLine}
 use Rattle.report.proofs.Lines.{counts-length}
 use Rattle.report.proofs.Reports.{answer-refused, answer-finished}
-use Rattle.desk.specs.Refusals.{refusalText, refusal-room}
+use Rattle.desk.specs.Refusals.{refusalText}
 use Rattle.refusal_line.specs.Blame.{Blamed}
 use Rattle.refusal_line.proofs.Blames.{blamed, no-number}
-use Rattle.heading.specs.Heading.{HeadRefused, HeadJudged}
+use Rattle.heading.specs.Heading.{columnHeads, headingText, heading-room, HeadRefused, HeadJudged}
 
-pub counts-most : (m a : ℕ) → m < 2 ^ 32 → a < 2 ^ 32 → length (countsLine m a) ≤ refusal-room
-counts-most m a h k = omega (arith, counts-length m a, number-most m h, number-most a k)
+heading-length : (m a : ℕ) → length (headingText m a) ≡ length (countsLine m a) + 115
+unfolding headingText columnHeads
+heading-length m a = length-append (countsLine m a) columnHeads
+
+pub heading-most : (m a : ℕ) → m < 2 ^ 32 → a < 2 ^ 32 → length (headingText m a) ≤ heading-room
+heading-most m a h k = omega (arith, heading-length m a, counts-length m a, number-most m h, number-most a k)
+
+pub counts-most : (m a : ℕ) → m < 2 ^ 32 → a < 2 ^ 32 → length (countsLine m a) + 115 ≤ heading-room
+counts-most m a h k = omega (arith, heading-length m a, heading-most m a h k)
 
 pub budget-refused : {t u o q : List ℕ} {budget n : ℕ} → most-steps < budget → length (refusalText budget-number 0) ≤ length o
     → Put o 0 (refusalText budget-number 0) q n → HeadRefused t u budget o q n
@@ -40,7 +47,7 @@ module _ (t u : List ℕ) (budget : ℕ) (lent left : Lent) {r : JudgeAnswer} (a
   head-refused m line is room about fits put =
       (record { n = m; line = line; refused = inr (allowed, answer-refused t u lent left a is room); blamed = about; fits = fits; put = put }, ap (λ (x : Lent). x .new) ((rw is at a) .1))
 
-  pub head-judged : (count accepted bytes : ℕ) → r ≡ Finished count accepted bytes → length (countsLine count accepted) ≤ length o → Put o 0 (countsLine count accepted) q n
+  pub head-judged : (count accepted bytes : ℕ) → r ≡ Finished count accepted bytes → length (headingText count accepted) ≤ length o → Put o 0 (headingText count accepted) q n
       → HeadJudged t u budget (lent .new) (left .new) o q n bytes
   head-judged count accepted bytes is fits put =
       record {

@@ -1,18 +1,34 @@
-// What is printed before the steps of two runs side by side: the refusal in words, or the counts of the marks.
-ghost use Rattle.heading.specs.Heading.{Heads};
+// What is printed before the steps of two runs side by side: the refusal in words, or the counts of the marks and the line over the columns.
+ghost use Prim.Native.Nat.{_≤_};
+ghost use lib.ListN.{length};
+ghost use Rattle.statement_writer.specs.Writing.{Put};
+ghost use Rattle.heading.specs.Heading.{headingText, heading-room, Heads};
 use judge::JudgeAnswer;
 use judge::TEXT_BYTES;
 use run::BUDGET_NUMBER;
 use run::MOST_STEPS;
 
 // Every heading has room in this many bytes.
-const HEADING_ROOM: usize = desk::refusals::REFUSAL_ROOM;
+const HEADING_ROOM: usize = 160;
 
 // Refused and Judged: the number of bytes of the heading, and of the rewritten program's text. NoRoom: too few bytes are lent.
 pub enum Heading {
     Refused(usize),
     Judged(usize, usize),
     NoRoom,
+}
+
+// The counts, and the line over the columns.
+fn judged(out: &mut [u8], count: u32, accepted: u32) -> usize
+    requires { ⌜ heading-room ≤ length (now out) ⌝ }
+    ensures { λ r. ⌜ Put (now (out .entry)) 0 (headingText count accepted) (now (out .exit)) r ⌝ }
+{
+    let k = report::write_counts(out, count, accepted);
+    statement_writer::word(
+        out,
+        k,
+        b"   step  line  given                             rewritten                         differs  given        rewritten\n",
+    )
 }
 
 // Judges the marks, and puts the rewritten program's text at the front of `new` and the heading at the front of `out`.
@@ -36,7 +52,7 @@ pub fn write(program: &[u8], marks: &[u8], budget: u32, new: &mut [u8], out: &mu
             Heading::Refused(desk::refusals::refusal(out, 0, n, line))
         }
         JudgeAnswer::Finished(count, accepted, bytes) => {
-            Heading::Judged(report::write_counts(out, count, accepted), bytes as usize)
+            Heading::Judged(judged(out, count, accepted), bytes as usize)
         }
     }
 }

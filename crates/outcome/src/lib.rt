@@ -14,7 +14,7 @@ use trace::VALUE_ROOM;
 // The line of a value has room in this many bytes, and every outcome in this many.
 const VALUE_LINE_ROOM: usize = VALUE_ROOM + 1;
 
-const OUTCOME_ROOM: usize = SPENT_ROOM + VALUES * VALUE_LINE_ROOM;
+pub const OUTCOME_ROOM: usize = SPENT_ROOM + VALUES * VALUE_LINE_ROOM;
 
 // The number of bytes: Written, of a result; Refused, of a refusal's text. NoRoom: under OUTCOME_ROOM bytes are lent.
 pub enum Told {
@@ -92,5 +92,6 @@ pub fn outcome(program: &[u8], start: &[u8], out: &mut [u8]) -> Told
         start::Answer::Few => Told::Refused(start_refusal::write(out, answer)),
         start::Answer::Many => Told::Refused(start_refusal::write(out, answer)),
         start::Answer::Line(_) => Told::Refused(start_refusal::write(out, answer)),
+        start::Answer::Unended(_) => Told::Refused(start_refusal::write(out, answer)),
     }
 }

@@ -274,3 +274,13 @@ pub extern "C" fn rewrites_blame_condition(condition: &[u8]) -> u32
 {
     condition_blame::byte_of(condition)
 }
+
+// The header's REWRITES_VERSION: 10,000 for each major version, 100 for each minor one, and 1 for each patch.
+const VERSION: u32 = 100;
+
+#[no_mangle]
+pub extern "C" fn rewrites_version() -> u32
+    ensures { λ r. ⌜ r ≡ 100 ⌝ }
+{
+    VERSION
+}

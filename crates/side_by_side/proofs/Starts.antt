@@ -12,17 +12,16 @@ use Rattle.machine.proofs.Runs.{stands-first}
 use Rattle.marks.proofs.Lists.{taken-unique}
 use Rattle.rewriting.specs.Verdicts.{acceptedCount}
 use Rattle.judge.specs.Judge.{Lent, JudgeFinished}
-use Rattle.report.specs.Report.{countsLine}
 use Rattle.priced.proofs.Reports.{new-within}
 use Rattle.desk.specs.Refusals.{refusalText}
 use Rattle.start_refusal.specs.StartRefusal.{startText}
 use Rattle.start.specs.Start.{StartTaken, StartRead}
 use Rattle.start.specs.declared.Answer.{Answer}
-use Rattle.start.specs.declared.Answer.the-variants.{Taken, Few, Many, Line}
+use Rattle.start.specs.declared.Answer.the-variants.{Taken, Few, Many, Line, Unended}
 use Rattle.start.proofs.Unique.{answer-unique}
 use Rattle.liveness.specs.Liveness.{LiveIn}
 use Rattle.comparison.specs.Lines.{bothLines}
-use Rattle.heading.specs.Heading.{HeadRefused, HeadJudged}
+use Rattle.heading.specs.Heading.{headingText, HeadRefused, HeadJudged}
 use Rattle.side_by_side.specs.SideBySide.{Refuses, atStage, HandedAt, aheadAt, stays, Kept, Prints}
 use Rattle.side_by_side.specs.declared.Stage.{Stage}
 use Rattle.side_by_side.specs.declared.Stage.the-variants.{Begin, Steps, Closing, Ended, Refused}
@@ -45,6 +44,7 @@ module _ (t m u : List ℕ) (p : Position) (w : List ℕ) (a : Answer) (input bu
   refuses-start Few n = refl
   refuses-start Many n = refl
   refuses-start (Line k) n = refl
+  refuses-start (Unended k) n = refl
 
   -- no run stands anywhere
   not-taken : {i j : ℕ} {vs : List ℕ} → StartTaken u i j vs → ⊥
@@ -109,9 +109,9 @@ firstStep values bytes live = record { stage = Steps; at = 0; done = 0; values =
 module _ (t m u : List ℕ) {w v o q : List ℕ} {n bytes input budget : ℕ} {values : List ℕ} (start : StartTaken u input budget values)
     (h : HeadJudged t m budget w v o q n bytes) {live : List ℕ} (found : LiveIn t live) where
   abbrev marked : List ℕ
-  marked = countsLine (length (h .judged .demand .ms)) (acceptedCount (h .judged .demand .ms) (h .left .verdicts))
+  marked = headingText (length (h .judged .demand .ms)) (acceptedCount (h .judged .demand .ms) (h .left .verdicts))
 
-  counts-told : countsLine (h .count) (h .accepted) ≡ marked
+  counts-told : headingText (h .count) (h .accepted) ≡ marked
   counts-told =
       let f = h .judged in
       let e = taken-unique (f .marks) (f .demand .listed) in

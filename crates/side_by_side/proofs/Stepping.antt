@@ -17,7 +17,7 @@ use Rattle.program.proofs.RoundTrip.{taken-unique}
 use Rattle.machine.specs.Machine.{Final, ended, after}
 use Rattle.machine.proofs.Unique.{ended-stays}
 use Rattle.rewriting.specs.Verdicts.{acceptedCount}
-use Rattle.report.specs.Report.{countsLine}
+use Rattle.heading.specs.Heading.{headingText}
 use Rattle.start.specs.Start.{StartTaken}
 use Rattle.start.proofs.Unique.{start-unique}
 use Rattle.comparison.specs.Lines.{bothLines}
@@ -90,7 +90,7 @@ module _ (t m u : List ℕ) (p : Position) (w : List ℕ) {o q : List ℕ} {P Q 
         let d = s .runs .demand in
         let v = s .runs .values in
         let i = s .runs .input in
-        join (countsLine (length (d .ms)) (acceptedCount (d .ms) (s .runs .verdicts)))
+        join (headingText (length (d .ms)) (acceptedCount (d .ms) (s .runs .verdicts)))
         (bothLines (d .P) (d .Q) v i 0 (p .done)) (bothLines (d .P) (d .Q) v i (p .done) (c .n))
         (s .text) (put-front (c .put) (omega (arith, c .put .after, kept-within (walk .kept))))
         (lines-append (d .P) (d .Q) v i (p .done) (c .n) ∙ ap (bothLines (d .P) (d .Q) v i 0) (sym (c .counted)))

@@ -15,17 +15,16 @@ use Rattle.pricing.specs.Prices.{ours}
 use Rattle.run.specs.Run.{most-steps, RunFinished}
 use Rattle.judge.specs.Judge.{text-bytes}
 use Rattle.demand.specs.Demand.{Demand3}
-use Rattle.report.specs.Report.{countsLine}
 use Rattle.desk.specs.Refusals.{refusalText}
 use Rattle.refusal_line.specs.Blame.{Blamed}
 use Rattle.start_refusal.specs.StartRefusal.{startText}
 use Rattle.start.specs.Start.{StartTaken, StartRead}
 use Rattle.start.specs.declared.Answer as start
-use Rattle.start.specs.declared.Answer.the-variants.{Taken, Few, Many, Line}
+use Rattle.start.specs.declared.Answer.the-variants.{Taken, Few, Many, Line, Unended}
 use Rattle.liveness.specs.Liveness.{live-words, LiveRows}
 use Rattle.comparison.specs.Lines.{bothLines}
 use Rattle.comparison.specs.Stepping.{line-room, BothStand}
-use Rattle.heading.specs.Heading.{RefusedWith}
+use Rattle.heading.specs.Heading.{headingText, RefusedWith}
 use Rattle.closing.specs.Closing.{closingText}
 use Rattle.side_by_side.specs.declared.Stage.{Stage}
 use Rattle.side_by_side.specs.declared.Stage.the-variants.{Begin, Steps, Closing, Ended, Refused}
@@ -42,13 +41,13 @@ pub record Runs (t m u x : List ℕ) : Type 0 where
   pub verdicts : List ℕ
   pub demand : Demand3 t m verdicts x
 
--- the counts of the marks, and the lines of the first n steps of both runs
+-- the counts of the marks, the line over the columns, and the lines of the first n steps of both runs
 abbrev pub linesText : {t m u x : List ℕ} → Runs t m u x → ℕ → List ℕ
 linesText r n =
-    countsLine (length (r .demand .ms)) (acceptedCount (r .demand .ms) (r .verdicts))
+    headingText (length (r .demand .ms)) (acceptedCount (r .demand .ms) (r .verdicts))
     ++ bothLines (r .demand .P) (r .demand .Q) (r .values) (r .input) 0 n
 
--- b is all that is printed where nothing is refused: the counts, the lines of all steps within the budget, and both outcomes, which agree and
+-- b is all that is printed where nothing is refused: the counts, the line over the columns, the lines of all steps within the budget, and both outcomes, which agree and
 -- keep the same; before each step every variable that the given program may still use before defining it holds the same value in both
 pub record Comparison (t m u b : List ℕ) : Type 0 where
   pub x : List ℕ
@@ -79,6 +78,7 @@ Refuses t m Taken budget b = CallRefused t m budget b
 Refuses t m Few budget b = b ≡ startText Few
 Refuses t m Many budget b = b ≡ startText Many
 Refuses t m (Line n) budget b = b ≡ startText (Line n)
+Refuses t m (Unended n) budget b = b ≡ startText (Unended n)
 
 -- b is all that is printed where something is refused
 pub record Refusal (t m u b : List ℕ) : Type 0 where

@@ -335,5 +335,6 @@ pub fn next(
         Answer::Few => refused(answer, from, out),
         Answer::Many => refused(answer, from, out),
         Answer::Line(_) => refused(answer, from, out),
+        Answer::Unended(_) => refused(answer, from, out),
     }
 }

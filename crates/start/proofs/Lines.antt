@@ -1,132 +1,192 @@
 -- Lines after lines: what the text of a start says while it is read. Assumes nothing.
 use mathlib.Core.Path.{_≡_, refl, ap, sym, _∙_}
-use mathlib.Core.List.{List, [], _∷_, _++_, append-assoc}
+use mathlib.Core.List.{List, [], _∷_, _++_, append-assoc, append-nil}
 use Prim.Native.Nat.{ℕ, suc, _+_, _-_, _≤_, _<_}
-use native.Mathlib.Decide.{decLt}
 use native.Mathlib.Omega.{arith}
-use lib.ListN.{length, getD, set, drop, length-append, length-drop, length-set, length-replicate, replicate, getD-replicate, drop-of-length-le, List·getD-append, List·getD-eq-default}
+use native.Mathlib.Numerals.{add-one}
+use lib.ListN.{length, getD, set, drop, length-append, length-drop, length-set, length-replicate, replicate, drop-of-length-le}
 use borrow.Author.Count.{below-more}
-use lib.Seq.{getD-set-same, getD-set-other, getD-append-seam}
-use Rattle.lines.specs.Lines.{LineOf}
-use Rattle.lines.proofs.Walk.{line-further}
+use lib.Seq.{getD-set-same, getD-set-other}
 use Rattle.language.specs.Spelling.{variables}
-use Rattle.tokens.specs.declared.NumberRead.{NumberRead}
-use Rattle.tokens.specs.declared.NumberRead.the-variants.{Found, Misspelled}
-use Rattle.start.specs.Start.{spellLine, RightLine, startLines, AllRight, fewest, most, Begins, StartTaken, WrongLine, LineRead}
+use Rattle.tokens.specs.Parsing.{found, misspelled, parseWord, digitOf}
+use Rattle.tokens.proofs.Numbers.{NoDigit}
+use Rattle.tokens.proofs.Parse.{skip-sound}
+use Rattle.start.specs.Start.{fewest, most, place, value, spellLine, RightLine, startLines, AllRight, reached, filled, numbersOf, Begins, StartTaken, NoRight, WrongLine, UnendedLine}
+use Rattle.start.specs.Parsing.{parseField}
+use Rattle.start.specs.declared.Entry.{Entry}
+use Rattle.start.specs.declared.Entry.the-variants.{Plain, Named}
+use Rattle.start.proofs.Values.{field-sound, field-complete}
 
-lines-append : (k : ℕ) (ls : List ℕ) (v : ℕ) → startLines k (ls ++ v ∷ []) ≡ startLines k ls ++ (spellLine (k + length ls) v ++ 10 ∷ [])
+-- one line more
+lines-append : (k : ℕ) (ls : List Entry) (e : Entry) → startLines k (ls ++ e ∷ []) ≡ startLines k ls ++ (spellLine (reached k ls) e ++ 10 ∷ [])
 unfolding startLines
-lines-append k [] v = let e : k + 0 ≡ k = omega arith in rw e
-lines-append k (l ∷ ls) v =
-    let e : suc k + length ls ≡ k + suc (length ls) = omega arith in
-    rw (lines-append (suc k) ls v, e) (sym (append-assoc (spellLine k l) (10 ∷ startLines (suc k) ls) (spellLine (k + suc (length ls)) v ++ 10 ∷ [])))
+lines-append k [] e = refl
+lines-append k (l ∷ ls) e =
+    rw (lines-append (suc (place k l)) ls e)
+    (sym (append-assoc (spellLine k l) (10 ∷ startLines (suc (place k l)) ls) (spellLine (reached (suc (place k l)) ls) e ++ 10 ∷ [])))
 
-right-append : (k : ℕ) (ls : List ℕ) (v : ℕ) → AllRight k ls → RightLine (k + length ls) v → AllRight k (ls ++ v ∷ [])
-right-append k [] v a r = let e : k + 0 ≡ k = omega arith in (rw e at r, tt)
-right-append k (l ∷ ls) v a r =
-    let e : k + suc (length ls) ≡ suc k + length ls = omega arith in
-    (a .0, right-append (suc k) ls v (a .1) (rw e at r))
+right-append : (k : ℕ) (ls : List Entry) (e : Entry) → AllRight k ls → RightLine (reached k ls) e → AllRight k (ls ++ e ∷ [])
+right-append k [] e a r = (r, tt)
+right-append k (l ∷ ls) e a r = (a .0, right-append (suc (place k l)) ls e (a .1) r)
 
--- k lines are read, up to the position, and their numbers stand in ns, with zeros behind them
-pub record SoFar (t ns : List ℕ) (at k : ℕ) : Type 0 where
-  pub ls : List ℕ
+reached-append : (k : ℕ) (ls : List Entry) (e : Entry) → reached k (ls ++ e ∷ []) ≡ suc (place (reached k ls) e)
+reached-append k [] e = refl
+reached-append k (l ∷ ls) e = reached-append (suc (place k l)) ls e
+
+filled-append : (k : ℕ) (ls : List Entry) (e : Entry) (ns : List ℕ) → filled k (ls ++ e ∷ []) ns ≡ set (filled k ls ns) (place (reached k ls) e) (value e)
+unfolding filled
+filled-append k [] e ns = refl
+filled-append k (l ∷ ls) e ns = filled-append (suc (place k l)) ls e (set ns (place k l) (value l))
+
+-- the number of a right line is there, and comes after those before it
+pub place-right : (k : ℕ) (e : Entry) → RightLine k e → (k ≤ place k e) × (place k e < most)
+place-right k (Plain v) r = (omega arith, r .0)
+place-right k (Named x v) r = (r .1, omega (arith, r .2))
+
+pub reached-right : (k : ℕ) (ls : List Entry) → AllRight k ls → k ≤ most → (k + length ls ≤ reached k ls) × (reached k ls ≤ most)
+reached-right k [] a h = (omega arith, h)
+reached-right k (l ∷ ls) a h =
+    let p = place-right k l (a .0) in
+    let r = reached-right (suc (place k l)) ls (a .1) (omega (arith, p .1)) in
+    (omega (arith, p .0, r .0), r .1)
+
+-- n lines are read, up to the position, number k is next, and the numbers so far stand in ns
+pub record SoFar (t ns : List ℕ) (at k n : ℕ) : Type 0 where
+  pub ls : List Entry
   pub begins : Begins t ls (drop at t)
-  pub counted : k ≡ length ls
-  pub few : k ≤ most
+  pub counted : n ≡ length ls
+  pub next : k ≡ reached 0 ls
   pub room : length ns ≡ most
-  pub kept : (j : ℕ) → getD ns j 0 ≡ getD ls j 0
+  pub kept : ns ≡ numbersOf ls
 
-pub none-read : (t : List ℕ) {ns : List ℕ} → ns ≡ replicate most 0 → SoFar t ns 0 0
-unfolding startLines
-none-read t {ns} e =
+pub none-read : (t : List ℕ) {ns : List ℕ} → ns ≡ replicate most 0 → SoFar t ns 0 0 0
+unfolding startLines filled
+none-read t e =
     record {
       ls = [];
       begins = record { lines = refl; right = tt };
       counted = refl;
-      few = omega arith;
+      next = refl;
       room = ap length e ∙ length-replicate {A = ℕ} most 0;
-      kept = λ j. go j (decLt j most);
+      kept = e;
     }
-  where
-    go : (j : ℕ) → Dec (j < most) → getD ns j 0 ≡ 0
-    go j (yes h) = rw e (getD-replicate most j 0 0 h)
-    go j (no h) = List·getD-eq-default ns 0 {n = j} (omega (arith, ap length e, length-replicate {A = ℕ} most 0))
 
-module _ {t ns : List ℕ} {at k : ℕ} (i : SoFar t ns at k) where
-  pub too-many : {X : Type 0} → k ≡ most → at < length t → X → (ls : List ℕ) × (rest : List ℕ) × Begins t ls rest × (length ls ≡ most) × (0 < length rest) × X
+-- where a reader finds no right line
+module _ (k : ℕ) (l : List ℕ) where
+  pub no-field : parseField k l ≡ misspelled → NoRight k l
+  unfolding digitOf
+  no-field e =
+      record {
+        no-line = λ f u r p. clash (sym e ∙ ap (parseField k) p ∙ field-complete k f (10 ∷ u) r refl);
+        no-last = λ f r p. clash (sym e ∙ ap (parseField k) (p ∙ sym (append-nil (spellLine k f))) ∙ field-complete k f [] r tt);
+      }
+    where
+      clash : {f : Entry} {u : List ℕ} → misspelled ≡ found f u → ⊥
+      clash x = let z : _≡_ {A = ℕ} 0 1 = cc in omega arith
+
+  -- it is followed by something other than byte 10
+  no-end : (e : Entry) (u : List ℕ) → parseField k l ≡ found e u → parseWord (10 ∷ []) u ≡ misspelled → 0 < length u → NoRight k l
+  unfolding parseWord digitOf
+  no-end e u is other some =
+      record {
+        no-line = λ f w r p.
+            let x : found e u ≡ found f (10 ∷ w) = sym is ∙ ap (parseField k) p ∙ field-complete k f (10 ∷ w) r refl in
+            let y : u ≡ 10 ∷ w = cc in
+            let q : found tt w ≡ misspelled = sym (ap (parseWord (10 ∷ [])) y) ∙ other in
+            let z : _≡_ {A = ℕ} 0 1 = cc in
+            omega arith;
+        no-last = λ f r p.
+            let x : found e u ≡ found f [] = sym is ∙ ap (parseField k) (p ∙ sym (append-nil (spellLine k f))) ∙ field-complete k f [] r tt in
+            let y : u ≡ [] = cc in
+            omega (arith, ap length y);
+      }
+
+module _ {t ns : List ℕ} {at k n : ℕ} (i : SoFar t ns at k n) where
+  pub bounds : (n ≤ k) × (k ≤ most)
+  bounds = let r = reached-right 0 (i .ls) (i .begins .right) (omega arith) in (omega (arith, i .counted, i .next, r .0), omega (arith, i .next, r .1))
+
+  pub too-many : {X : Type 0} → n ≡ most → at < length t → X
+      → (ls : List Entry) × (rest : List ℕ) × Begins t ls rest × (length ls ≡ most) × (0 < length rest) × X
   too-many e h z = (i .ls, drop at t, i .begins, omega (arith, i .counted), rw (length-drop at t) (omega arith), z)
 
-  module _ {r : NumberRead} where
-    pub wrong-line : (k ≡ most → ⊥) → at < length t → r ≡ Misspelled → LineRead t at k r → WrongLine t (k + 1)
-    wrong-line m h is l =
+  pub wrong-line : (n ≡ most → ⊥) → at < length t → NoRight k (drop at t) → WrongLine t (n + 1)
+  wrong-line m h w =
+      record {
+        ls = i .ls;
+        rest = drop at t;
+        begins = i .begins;
+        counted = omega (arith, i .counted);
+        within = omega (arith, bounds .0, bounds .1);
+        some = rw (length-drop at t) (omega arith);
+        wrong = rw (i .next) at w;
+      }
+
+  module _ {e : Entry} {u : List ℕ} (is : parseField k (drop at t) ≡ found e u) where
+    sound : (drop at t ≡ spellLine k e ++ u) × RightLine k e
+    sound = field-sound k (drop at t) e u is
+
+    -- all that is left, or something other than byte 10 comes after it
+    pub unended : {end : ℕ} → u ≡ drop end t → length t ≤ end → UnendedLine t (n + 1)
+    unended {end} from past =
+        let none : u ≡ [] = from ∙ drop-of-length-le t past in
+        let s : drop at t ≡ spellLine (reached 0 (i .ls)) e = rw (none, append-nil (spellLine k e), i .next) at (sound .0) in
         record {
           ls = i .ls;
-          rest = drop at t;
-          begins = i .begins;
+          last = e;
+          begins = record { lines = i .begins .lines ∙ ap (λ (w : List ℕ). startLines 0 (i .ls) ++ w) s; right = i .begins .right };
           counted = omega (arith, i .counted);
-          within = omega (arith, i .few);
-          some = rw (length-drop at t) (omega arith);
-          wrong = rw (i .counted) at (rw is at l);
+          right = rw (i .next) at (sound .1);
         }
 
-    module _ {v next : ℕ} (is : r ≡ Found v next) (l : LineRead t at k r) where
-      here : LineOf (spellLine k) (RightLine k) t at v next
-      here = rw is at l
+    pub other-end : {end : ℕ} → u ≡ drop end t → parseWord (10 ∷ []) u ≡ misspelled → end < length t → (n ≡ most → ⊥) → at < length t → WrongLine t (n + 1)
+    other-end {end} from other within m h = wrong-line m h (no-end k (drop at t) e u is other (rw (from, length-drop end t) (omega arith)))
+
+    pub inside : place k e < most
+    inside = place-right k e (sound .1) .1
+
+    module _ {next : ℕ} (ends : u ≡ 10 ∷ drop next t) (within : next ≤ length t) where
+      text : drop at t ≡ spellLine k e ++ 10 ∷ drop next t
+      text = sound .0 ∙ ap (λ (w : List ℕ). spellLine k e ++ w) ends
 
       pub further : length t - next < length t - at
-      further = line-further here
+      further =
+          let x : length t - at ≡ length (spellLine k e) + suc (length t - next) = simp (length-append, length-drop) at (ap length text) in
+          omega (arith, within)
 
-      pub one-more : (k ≡ most → ⊥) → SoFar t (set ns k v) next (k + 1)
-      one-more m =
+      pub one-more : SoFar t (set ns (place k e) (value e)) next (place k e + 1) (n + 1)
+      one-more =
           record {
-            ls = i .ls ++ v ∷ [];
-            begins = record { lines = text; right = right-append 0 (i .ls) v (i .begins .right) (rw (← n) (here .valid)) };
-            counted = omega (arith, i .counted, length-append (i .ls) (v ∷ []));
-            few = omega (arith, i .few);
-            room = length-set ns k v ∙ i .room;
-            kept = λ j. held j (decLt j k) (decLt k j);
+            ls = i .ls ++ e ∷ [];
+            begins = record {
+              lines =
+                  i .begins .lines ∙ ap (λ (w : List ℕ). startLines 0 (i .ls) ++ w) text
+                  ∙ rw (lines-append 0 (i .ls) e, ← i .next) (simp append-assoc);
+              right = right-append 0 (i .ls) e (i .begins .right) (rw (i .next) at (sound .1));
+            };
+            counted = omega (arith, i .counted, length-append (i .ls) (e ∷ []));
+            next = rw (add-one, reached-append 0 (i .ls) e, ← i .next);
+            room = length-set ns (place k e) (value e) ∙ i .room;
+            kept = rw (filled-append 0 (i .ls) e (replicate most 0), ← i .next, ← i .kept);
           }
-        where
-          n : k ≡ 0 + length (i .ls)
-          n = omega (arith, i .counted)
-
-          text : t ≡ startLines 0 (i .ls ++ v ∷ []) ++ drop next t
-          text =
-              i .begins .lines ∙ ap (λ (u : List ℕ). startLines 0 (i .ls) ++ u) (here .stands)
-              ∙ rw (lines-append 0 (i .ls) v, ← n) (simp append-assoc)
-
-          held : (j : ℕ) → Dec (j < k) → Dec (k < j) → getD (set ns k v) j 0 ≡ getD (i .ls ++ v ∷ []) j 0
-          held j (yes h) d =
-              let x : j < length (i .ls) = omega (arith, i .counted) in
-              getD-set-other ns k j v 0 (λ e. omega arith) ∙ i .kept j ∙ sym (List·getD-append (i .ls) (v ∷ []) 0 j x)
-          held j (no h) (no d) =
-              let e : j ≡ k = omega arith in
-              let x : k < length ns = omega (arith, i .few, i .room) in
-              let y : k ≡ length (i .ls) = i .counted in
-              rw e (getD-set-same ns k v 0 x ∙ sym (rw y (getD-append-seam (i .ls) v [] 0)))
-          held j (no h) (yes d) =
-              let x : length (i .ls) ≤ j = omega (arith, i .counted) in
-              let y : length (i .ls ++ v ∷ []) ≤ j = omega (arith, i .counted, length-append (i .ls) (v ∷ [])) in
-              getD-set-other ns k j v 0 (λ e. omega arith) ∙ i .kept j ∙ List·getD-eq-default (i .ls) 0 {n = j} x ∙ sym (List·getD-eq-default (i .ls ++ v ∷ []) 0 {n = j} y)
 
   -- no text is left
   module _ (h : length t ≤ at) where
     all-read : Begins t (i .ls) []
     all-read = rw (drop-of-length-le t h) at (i .begins)
 
-    pub too-few : {X : Type 0} → k < fewest → X → (ls : List ℕ) × Begins t ls [] × (length ls < fewest) × X
+    pub too-few : {X : Type 0} → n < fewest → X → (ls : List Entry) × Begins t ls [] × (length ls < fewest) × X
     too-few f z = (i .ls, all-read, omega (arith, i .counted), z)
 
-    pub taken : (vs : List ℕ) → fewest ≤ k → (length vs ≡ variables) × ((x : ℕ) → x < variables → getD vs x 0 ≡ getD ns (2 + x) 0) → StartTaken t (getD ns 0 0) (getD ns 1 0) vs
+    pub taken : (vs : List ℕ) → fewest ≤ n → (length vs ≡ variables) × ((x : ℕ) → x < variables → getD vs x 0 ≡ getD ns (2 + x) 0) → StartTaken t (getD ns 0 0) (getD ns 1 0) vs
     taken vs f v =
         record {
           ls = i .ls;
           begins = all-read;
-          counted = (omega (arith, i .counted), omega (arith, i .counted, i .few));
-          first = i .kept 0;
-          second = i .kept 1;
+          counted = omega (arith, i .counted);
+          first = ap (λ (l : List ℕ). getD l 0 0) (i .kept);
+          second = ap (λ (l : List ℕ). getD l 1 0) (i .kept);
           size = v .0;
-          others = λ x l. v .1 x l ∙ i .kept (2 + x);
+          others = λ x l. v .1 x l ∙ ap (λ (l : List ℕ). getD l (2 + x) 0) (i .kept);
         }
 
 -- the numbers from the third on are copied, up to value x

@@ -1,13 +1,14 @@
-// A start: the input, the budget and up to 64 starting values, one a line, read from any bytes.
+// A start: the input, the budget and up to 64 starting values, one a line, read from any bytes. A value may name its variable.
 ghost use mathlib.Core.Path.{_≡_};
 ghost use Prim.Native.Nat.{ℕ, _≤_, _<_, _+_};
 ghost use lib.ListN.{length, getD, drop, replicate};
 ghost use Rattle.language.specs.Spelling.{variables};
 ghost use Rattle.tokens.specs.Parsing.{parsedNumber, numberEnd};
-ghost use Rattle.start.specs.Start.{StartRead, Nothing, LineRead, most};
-ghost use Rattle.start.specs.Parsing.{parseField, parseStartLine};
+ghost use Rattle.start.specs.Start.{StartRead, Nothing, place as placeOf, value as valueOf, most};
+ghost use Rattle.start.specs.Parsing.{parseNumberOf, parseNamed, parseField, parsedEntry, entryEnd};
 use machine::VALUES;
 use tokens::NumberRead;
+use tokens::VariableRead;
 use tokens::WordRead;
 
 // A start has at least the input and the budget, and at most a value for each variable behind them.
@@ -15,12 +16,25 @@ pub const FEWEST: usize = 2;
 
 pub const MOST: usize = 2 + VALUES;
 
-// Few: under FEWEST lines. Many: more text after MOST right lines. Line: the number of the first line that is wrong.
+// Few: under FEWEST lines. Many: more text after MOST right lines. Line: the number of the first line that is wrong. Unended: that of the
+// last line, which is right but for its byte 10.
 pub enum Answer {
     Taken,
     Few,
     Many,
     Line(u32),
+    Unended(u32),
+}
+
+// What a line has: the number that is next, or a variable's value.
+pub enum Entry {
+    Plain(u32),
+    Named(u8, u32),
+}
+
+pub enum EntryRead {
+    Found(Entry, usize),
+    Misspelled,
 }
 
 // The input, the budget and the values are what was read where the answer is `Taken`.
@@ -31,9 +45,9 @@ pub struct Start {
     pub values: [u32; VALUES],
 }
 
-// The number that line k has, without its byte 10.
-fn field(s: &[u8], at: usize, k: usize) -> NumberRead
-    ensures { λ r. ⌜ parsedNumber (now (s .entry)) r ≡ parseField k (drop at (now (s .entry))) ⌝ }
+// Number k by itself.
+fn number(s: &[u8], at: usize, k: usize) -> NumberRead
+    ensures { λ r. ⌜ parsedNumber (now (s .entry)) r ≡ parseNumberOf k (drop at (now (s .entry))) ⌝ }
     ensures { λ r. ⌜ numberEnd r ≤ length (now (s .entry)) ⌝ }
 {
     if k == 1 {
@@ -42,24 +56,60 @@ fn field(s: &[u8], at: usize, k: usize) -> NumberRead
     tokens::constant(s, at)
 }
 
-fn ended_field(s: &[u8], at: usize, k: usize) -> NumberRead
-    ensures { λ r. ⌜ parsedNumber (now (s .entry)) r ≡ parseStartLine k (drop at (now (s .entry))) ⌝ }
-    ensures { λ r. ⌜ numberEnd r ≤ length (now (s .entry)) ⌝ }
+// `i13 = 40`, for a variable that has no value yet where number k is next.
+fn named(s: &[u8], at: usize, k: usize) -> EntryRead
+    ensures { λ r. ⌜ parsedEntry (now (s .entry)) r ≡ parseNamed k (drop at (now (s .entry))) ⌝ }
+    ensures { λ r. ⌜ entryEnd r ≤ length (now (s .entry)) ⌝ }
 {
-    let NumberRead::Found(v, end) = field(s, at, k) else {
-        return NumberRead::Misspelled;
+    if k < FEWEST {
+        return EntryRead::Misspelled;
+    }
+    let VariableRead::Found(x, to) = tokens::variable(s, at) else {
+        return EntryRead::Misspelled;
     };
-    let WordRead::Found(next) = tokens::word(s, end, b"\n") else {
-        return NumberRead::Misspelled;
+    if 2 + (x as usize) < k {
+        return EntryRead::Misspelled;
+    }
+    let WordRead::Found(from) = tokens::word(s, to, b" = ") else {
+        return EntryRead::Misspelled;
     };
-    NumberRead::Found(v, next)
+    let NumberRead::Found(v, end) = tokens::constant(s, from) else {
+        return EntryRead::Misspelled;
+    };
+    EntryRead::Found(Entry::Named(x, v), end)
 }
 
-// Line k, counted from 0, at the position.
-fn line(s: &[u8], at: usize, k: usize) -> NumberRead
-    ensures { λ r. ⌜ LineRead (now (s .entry)) at k r ⌝ }
+// What a line has where number k is next, without its byte 10.
+fn field(s: &[u8], at: usize, k: usize) -> EntryRead
+    ensures { λ r. ⌜ parsedEntry (now (s .entry)) r ≡ parseField k (drop at (now (s .entry))) ⌝ }
+    ensures { λ r. ⌜ entryEnd r ≤ length (now (s .entry)) ⌝ }
 {
-    ended_field(s, at, k)
+    if MOST <= k {
+        return named(s, at, k);
+    }
+    let NumberRead::Found(v, end) = number(s, at, k) else {
+        return named(s, at, k);
+    };
+    EntryRead::Found(Entry::Plain(v), end)
+}
+
+// Which number it is, where number k is next.
+fn place(k: usize, e: Entry) -> usize
+    ensures { λ r. ⌜ r ≡ placeOf k e ⌝ }
+{
+    match e {
+        Entry::Plain(_) => k,
+        Entry::Named(x, _) => 2 + (x as usize),
+    }
+}
+
+fn value(e: Entry) -> u32
+    ensures { λ r. ⌜ r ≡ valueOf e ⌝ }
+{
+    match e {
+        Entry::Plain(v) => v,
+        Entry::Named(_, v) => v,
+    }
 }
 
 fn no_numbers() -> [u32; MOST]
@@ -100,25 +150,34 @@ fn refused(a: Answer) -> Start
     }
 }
 
-// The start whose lines the text is, or what is wrong with it.
+// The start whose lines the text is, or what is wrong with it. Number k is next after n lines.
 pub fn read(s: &[u8]) -> Start
     ensures { λ r. ⌜ StartRead (now (s .entry)) (r .answer) (r .input) (r .budget) (r .values) ⌝ }
 {
     let mut numbers = no_numbers();
     let mut at: usize = 0;
     let mut k: usize = 0;
+    let mut n: usize = 0;
     while at < s.len() {
-        if k == MOST {
+        if n == MOST {
             return refused(Answer::Many);
         }
-        let NumberRead::Found(v, next) = line(s, at, k) else {
-            return refused(Answer::Line((k + 1) as u32));
+        let EntryRead::Found(e, end) = field(s, at, k) else {
+            return refused(Answer::Line((n + 1) as u32));
         };
-        numbers[k] = v;
-        k += 1;
+        let WordRead::Found(next) = tokens::word(s, end, b"\n") else {
+            if end == s.len() {
+                return refused(Answer::Unended((n + 1) as u32));
+            }
+            return refused(Answer::Line((n + 1) as u32));
+        };
+        let p = place(k, e);
+        numbers[p] = value(e);
+        k = p + 1;
+        n += 1;
         at = next;
     }
-    if k < FEWEST {
+    if n < FEWEST {
         return refused(Answer::Few);
     }
     Start {

@@ -19,7 +19,7 @@ use Rattle.machine.specs.Answer.{stateOf}
 use Rattle.machine.specs.declared.Next.{Next}
 use Rattle.machine.specs.declared.Next.the-variants.{Goto}
 use Rattle.machine.proofs.Runs.{Stands, perform-inside, step-after, step-inside}
-use Rattle.trace.specs.Trace.{lineText, valuesIn, stepLine, stepLines}
+use Rattle.trace.specs.Trace.{assignment, assignedIn, lineText, stepLine, stepLines}
 use Rattle.trace.specs.Stepping.{line-room, Goes, Traced}
 use Rattle.trace.specs.declared.Progress.{Progress}
 
@@ -62,34 +62,34 @@ not-before (inr x) = omega arith
 -- one step more, where `told` is what `step` says of its answer and the values us that it leaves
 module _ (p : Program) (input s : ℕ) (vs us : List ℕ) (next : Next) (told : stateOf next us ≡ perform (held (p .entries) s) input s vs) where
   module _ {start : List ℕ} {k j : ℕ} {w : List ℕ} (i : SoFar (statements p) start input k j s vs w) where
-    -- the line of the step is that by the values which its state has
-    line-more : (ws : List ℕ) → valuesIn (stateOf next us) vs ≡ ws → w ++ lineText (j + 1) s (held (p .entries) s) vs ws ≡ stepLines (statements p) start input k (i .n + 1)
+    -- the line of the step tells what its state says was assigned
+    line-more : (a : List ℕ) → assignedIn (held (p .entries) s) vs (stateOf next us) ≡ a → w ++ lineText (j + 1) s (held (p .entries) s) a ≡ stepLines (statements p) start input k (i .n + 1)
     unfolding stepLines
-    line-more ws e =
+    line-more a e =
         let P = statements p in
         let h = at-held (p .entries) (p .count) s (i .stands .inside) in
         let c : k + i .n ≡ j = sym (i .counted) in
-        let line : stepLine P input (j + 1) (before s vs) ≡ lineText (j + 1) s (held (p .entries) s) vs ws = rw (h, ← told, e) in
-        let more : stepLine P input (suc (k + i .n)) (after P start input (k + i .n)) ≡ lineText (j + 1) s (held (p .entries) s) vs ws =
+        let line : stepLine P input (j + 1) (before s vs) ≡ lineText (j + 1) s (held (p .entries) s) a = rw (h, ← told, e) in
+        let more : stepLine P input (suc (k + i .n)) (after P start input (k + i .n)) ≡ lineText (j + 1) s (held (p .entries) s) a =
         rw (c, i .stands .state, ← add-one j) line in
         rw (add-one (i .n), more, i .lines)
 
-    goes-on : (t : ℕ) → WellFormed (statements p) → next ≡ Goto t → SoFar (statements p) start input k (j + 1) t us (w ++ lineText (j + 1) s (held (p .entries) s) vs us)
+    goes-on : (t : ℕ) → WellFormed (statements p) → next ≡ Goto t → SoFar (statements p) start input k (j + 1) t us (w ++ lineText (j + 1) s (held (p .entries) s) (assignment (held (p .entries) s) vs us))
     goes-on t well e =
         record {
           n = i .n + 1;
           counted = omega (arith, i .counted);
-          lines = line-more us (ap (λ (x : Next). valuesIn (stateOf x us) vs) e);
+          lines = line-more (assignment (held (p .entries) s) vs us) (ap (λ (x : Next). assignedIn (held (p .entries) s) vs (stateOf x us)) e);
           stands = step-inside p start input j s vs us next (i .stands) told t well e;
         }
 
     goes-over : (v : Final) (b : Progress) → b .done ≡ j + 1 → b .at ≡ s → b .ended ≡ true → stateOf next us ≡ ended v
-        → Goes (statements p) start input k (w ++ lineText (j + 1) s (held (p .entries) s) vs vs) vs b
+        → Goes (statements p) start input k (w ++ lineText (j + 1) s (held (p .entries) s) []) vs b
     goes-over v b d a z e =
         record {
           n = i .n + 1;
           counted = omega (arith, d, i .counted);
-          lines = line-more vs (ap (λ (x : State). valuesIn x vs) e);
+          lines = line-more [] (ap (λ (x : State). assignedIn (held (p .entries) s) vs x) e);
           left = rw (z, d, a)
               (record {
                 final = v;
@@ -115,10 +115,10 @@ module _ (p : Program) (input s : ℕ) (vs us : List ℕ) (next : Next) (told : 
   module _ {budget k s₀ j : ℕ} {vs₀ o q r : List ℕ} {to end : ℕ} (i : Going p input budget k s₀ vs₀ o q vs s j to) (h : j < budget)
       (room : to + line-room ≤ length o) (short : end ≤ to + line-room) where
     pub going-more : (t : ℕ) → WellFormed (statements p) → next ≡ Goto t
-        → Put q to (lineText (j + 1) s (held (p .entries) s) vs us) r end → Going p input budget k s₀ vs₀ o r us t (j + 1) end
+        → Put q to (lineText (j + 1) s (held (p .entries) s) (assignment (held (p .entries) s) vs us)) r end → Going p input budget k s₀ vs₀ o r us t (j + 1) end
     going-more t w e l =
         record {
-          w = i .w ++ lineText (j + 1) s (held (p .entries) s) vs us;
+          w = i .w ++ lineText (j + 1) s (held (p .entries) s) (assignment (held (p .entries) s) vs us);
           put = put-then (i .put) l;
           inside = goes-inside t w (i .inside) e;
           same = put-length l ∙ i .same;
@@ -129,11 +129,11 @@ module _ (p : Program) (input s : ℕ) (vs us : List ℕ) (next : Next) (told : 
         }
 
     pub ends : (v : Final) (b : Progress) → b .done ≡ j + 1 → b .bytes ≡ end → b .at ≡ s → b .ended ≡ true → stateOf next us ≡ ended v
-        → Put q to (lineText (j + 1) s (held (p .entries) s) vs vs) r end → Traced (statements p) input budget k s₀ vs₀ o r vs b
+        → Put q to (lineText (j + 1) s (held (p .entries) s) []) r end → Traced (statements p) input budget k s₀ vs₀ o r vs b
     ends v b d y a z e l =
         let whole = put-then (i .put) l in
         record {
-          w = i .w ++ lineText (j + 1) s (held (p .entries) s) vs vs;
+          w = i .w ++ lineText (j + 1) s (held (p .entries) s) [];
           put = rw y whole;
           fits = omega (arith, whole .after);
           goes = λ start x. goes-over (i .told start x) v b d a z e;

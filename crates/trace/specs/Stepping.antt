@@ -3,9 +3,8 @@ use mathlib.Core.Path.{_≡_}
 use mathlib.Core.Logic.{_⊎_}
 use mathlib.Core.List.{List}
 use mathlib.Core.Bool.{Bool, true, false}
-use Prim.Native.Nat.{ℕ, _+_, _*_, _≤_, _<_}
+use Prim.Native.Nat.{ℕ, _+_, _≤_, _<_}
 use lib.ListN.{length}
-use Rattle.language.specs.Spelling.{variables}
 use Rattle.language.specs.Room.{number-digits, variable-room, constant-room}
 use Rattle.statement_writer.specs.Writing.{Put}
 use Rattle.language.specs.declared.Statement.{Statement}
@@ -19,23 +18,23 @@ use Rattle.trace.specs.declared.Onward.{Onward}
 use Rattle.trace.specs.declared.Onward.the-variants.{To, Ended}
 use Rattle.trace.specs.declared.Progress.{Progress}
 
--- what stands before the changed values has room in this many bytes: a step's number may have more digits than its columns
+-- what stands before the assigned value has room in this many bytes: a step's number may have more digits than its columns
 abbrev pub head-room : ℕ
 head-room = number-digits + (2 + (number-columns + (2 + statement-columns)))
 
--- a value: the variable, ` = ` and the number; a changed one: two spaces more
+-- a value: the variable, ` = ` and the number; an assigned one: two spaces more, and the words for the same value
 abbrev pub value-room : ℕ
 value-room = variable-room + (3 + constant-room)
 
-abbrev pub change-room : ℕ
-change-room = 2 + value-room
+abbrev pub assigned-room : ℕ
+assigned-room = 2 + (value-room + 12)
 
-abbrev pub changes-room : ℕ
-changes-room = variables * change-room
-
--- every line: up to the statement's text, the changed values, and byte 10
+-- every line: up to the statement's text, the assigned value, and byte 10; and the line over the columns
 abbrev pub line-room : ℕ
-line-room = head-room + (changes-room + 1)
+line-room = head-room + (assigned-room + 1)
+
+abbrev pub heads-room : ℕ
+heads-room = 58
 
 -- a step leads to a place; or it ends the run, whatever the values are that it leaves
 abbrev pub Leads : Next → Onward → Type 0

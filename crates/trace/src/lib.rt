@@ -1,12 +1,13 @@
 // Traces: the lines of a run's steps, as many at a time as the lent bytes have room for.
+ghost use mathlib.Core.List.{[]};
 ghost use Prim.Native.Nat.{_≤_, _<_, _+_};
 ghost use lib.ListN.{length};
-ghost use Rattle.language.specs.Spelling.{variables, Valid};
+ghost use Rattle.language.specs.Spelling.{ValidVariable, Valid};
 ghost use Rattle.statement_writer.specs.Writing.{Put};
 ghost use Rattle.program.specs.Program.{most, Targets, WellFormed};
 ghost use Rattle.program.specs.Reading.{statements};
-ghost use Rattle.trace.specs.Trace.{valueText as valueBytes, change as changeBytes, changes as changesBytes, stepHead, lineText};
-ghost use Rattle.trace.specs.Stepping.{Leads, Traced, change-room, changes-room, line-room};
+ghost use Rattle.trace.specs.Trace.{valueText as valueBytes, columnHeads, assigned as assignedBytes, assignment as assignmentBytes, stepHead, lineText};
+ghost use Rattle.trace.specs.Stepping.{Leads, Traced, assigned-room, line-room, heads-room};
 use desk::columns::NUMBER_COLUMNS;
 use desk::columns::STATEMENT_COLUMNS;
 use language::CONSTANT_ROOM;
@@ -19,14 +20,26 @@ use program::Program;
 
 // The columns of a step's number.
 const STEP_COLUMNS: usize = 7;
-// What stands before the changed values has room in this many bytes: a step's number may have more digits than its columns.
+// What stands before the assigned value has room in this many bytes: a step's number may have more digits than its columns.
 pub const HEAD_ROOM: usize = NUMBER_DIGITS + 2 + NUMBER_COLUMNS + 2 + STATEMENT_COLUMNS;
-// A value, a changed value, and a line.
+// A value, an assigned value with the words for the same value, and a line.
 pub const VALUE_ROOM: usize = VARIABLE_ROOM + 3 + CONSTANT_ROOM;
 
-const CHANGE_ROOM: usize = 2 + VALUE_ROOM;
+const ASSIGNED_ROOM: usize = 2 + VALUE_ROOM + 12;
 
-pub const LINE_ROOM: usize = HEAD_ROOM + VALUES * CHANGE_ROOM + 1;
+const LINE_ROOM: usize = HEAD_ROOM + ASSIGNED_ROOM + 1;
+
+// The line over the columns, at the front of the lent bytes.
+pub fn heads(out: &mut [u8]) -> usize
+    requires { ⌜ heads-room ≤ length (now out) ⌝ }
+    ensures { λ r. ⌜ Put (now (out .entry)) 0 columnHeads (now (out .exit)) r ⌝ }
+{
+    statement_writer::word(
+        out,
+        0,
+        b"   step  line  statement                         assigned\n",
+    )
+}
 
 // `i3 = 9`
 pub fn value(out: &mut [u8], at: usize, x: u8, v: u32) -> usize
@@ -38,30 +51,40 @@ pub fn value(out: &mut [u8], at: usize, x: u8, v: u32) -> usize
     statement_writer::constant(out, k2, v)
 }
 
-// Two spaces and the new value, where it differs from the old one.
-fn change(out: &mut [u8], at: usize, x: usize, old: &[u32; VALUES], new: &[u32; VALUES]) -> usize
-    requires { ⌜ x < variables ⌝ }
-    requires { ⌜ at + change-room ≤ length (now out) ⌝ }
-    ensures { λ r. ⌜ Put (now (out .entry)) at (changeBytes x (now (old .entry)) (now (new .entry))) (now (out .exit)) r ⌝ }
+// Two spaces and the variable's new value, and whether it is the old one.
+fn assigned(out: &mut [u8], at: usize, x: u8, old: &[u32; VALUES], new: &[u32; VALUES]) -> usize
+    requires { ⌜ ValidVariable x ⌝ }
+    requires { ⌜ at + assigned-room ≤ length (now out) ⌝ }
+    ensures { λ r. ⌜ Put (now (out .entry)) at (assignedBytes x (now (old .entry)) (now (new .entry))) (now (out .exit)) r ⌝ }
 {
-    if old[x] == new[x] {
-        return at;
+    let i = x as usize;
+    let k1 = desk::columns::spaces(out, at, 2);
+    let k2 = value(out, k1, x, new[i]);
+    if old[i] == new[i] {
+        return statement_writer::word(out, k2, b" (as before)");
     }
-    let k = desk::columns::spaces(out, at, 2);
-    value(out, k, x as u8, new[x])
+    k2
 }
 
-fn changes(out: &mut [u8], at: usize, old: &[u32; VALUES], new: &[u32; VALUES]) -> usize
-    requires { ⌜ at + changes-room ≤ length (now out) ⌝ }
-    ensures { λ r. ⌜ Put (now (out .entry)) at (changesBytes variables (now (old .entry)) (now (new .entry))) (now (out .exit)) r ⌝ }
+// The same of the variable that the statement assigns, if it does.
+fn assignment(
+    out: &mut [u8],
+    at: usize,
+    s: Statement,
+    old: &[u32; VALUES],
+    new: &[u32; VALUES],
+) -> usize
+    requires { ⌜ Valid s ⌝ }
+    requires { ⌜ at + assigned-room ≤ length (now out) ⌝ }
+    ensures { λ r. ⌜ Put (now (out .entry)) at (assignmentBytes s (now (old .entry)) (now (new .entry))) (now (out .exit)) r ⌝ }
 {
-    let mut to = at;
-    let mut x: usize = 0;
-    while x < VALUES {
-        to = change(out, to, x, old, new);
-        x += 1;
+    match s {
+        Statement::Read(x) => assigned(out, at, x, old, new),
+        Statement::Write(_) => at,
+        Statement::Assign(x, _) => assigned(out, at, x, old, new),
+        Statement::Branch(_, _, _) => at,
+        Statement::Skip => at,
     }
-    to
 }
 
 // Step k performs the statement s, which stands at the place.
@@ -91,11 +114,23 @@ fn line(
     requires { ⌜ Targets most s ⌝ }
     requires { ⌜ place < most ⌝ }
     requires { ⌜ at + line-room ≤ length (now out) ⌝ }
-    ensures { λ r. ⌜ Put (now (out .entry)) at (lineText k place s (now (old .entry)) (now (new .entry))) (now (out .exit)) r × (r ≤ at + line-room) ⌝ }
+    ensures { λ r. ⌜ Put (now (out .entry)) at (lineText k place s (assignmentBytes s (now (old .entry)) (now (new .entry)))) (now (out .exit)) r × (r ≤ at + line-room) ⌝ }
 {
     let k1 = head(out, at, k, place, s);
-    let k2 = changes(out, k1, old, new);
+    let k2 = assignment(out, k1, s, old, new);
     statement_writer::byte(out, k2, 10)
+}
+
+// The line of a step that ends the run.
+fn last_line(out: &mut [u8], at: usize, k: u32, place: u32, s: Statement) -> usize
+    requires { ⌜ Valid s ⌝ }
+    requires { ⌜ Targets most s ⌝ }
+    requires { ⌜ place < most ⌝ }
+    requires { ⌜ at + line-room ≤ length (now out) ⌝ }
+    ensures { λ r. ⌜ Put (now (out .entry)) at (lineText k place s []) (now (out .exit)) r × (r ≤ at + line-room) ⌝ }
+{
+    let k1 = head(out, at, k, place, s);
+    statement_writer::byte(out, k1, 10)
 }
 
 // Where a run stands after a step, if it goes on.
@@ -163,7 +198,7 @@ pub fn steps(
                 place = t;
             }
             Onward::Ended => {
-                to = line(out, to, k, place, s, &*values, &*values);
+                to = last_line(out, to, k, place, s);
                 return Progress {
                     bytes: to,
                     at: place,

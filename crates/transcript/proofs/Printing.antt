@@ -1,13 +1,14 @@
 -- What each piece adds to the text that was handed out before it. Assumes nothing.
 use mathlib.Core.Path.{_≡_, refl, ap, sym, subst, _∙_}
 use mathlib.Core.Logic.{_⊎_, inl, inr}
-use mathlib.Core.List.{List, [], _++_, append-nil}
+use mathlib.Core.List.{List, [], _++_, append-nil, append-assoc}
 use mathlib.Core.Bool.{Bool, true, false, _&&_}
 use Prim.Native.Nat.{ℕ, _+_, _-_, _≤_, _<_}
 use native.Mathlib.Omega.{arith}
 use lib.Dec.{ltb}
 use lib.ListN.{length}
 use borrow.Author.Tests.{ltb-true, ltb-false}
+use Rattle.statement_writer.specs.Writing.{Put}
 use Rattle.statement_writer.proofs.Puts.{put-within, put-length}
 use Rattle.language.specs.declared.Statement.{Statement}
 use Rattle.program.specs.Reading.{Held, statements}
@@ -15,10 +16,11 @@ use Rattle.program.specs.declared.Program.{Program}
 use Rattle.program.proofs.Held.{length-held}
 use Rattle.machine.proofs.Runs.{stands-first}
 use Rattle.run.specs.Run.{most-steps}
-use Rattle.trace.specs.Trace.{stepLines}
+use Rattle.trace.specs.Trace.{columnHeads, stepLines}
 use Rattle.trace.specs.Stepping.{Left, Traced}
 use Rattle.trace.specs.declared.Progress.{Progress}
 use Rattle.trace.proofs.Lines.{lines-then, lines-whole}
+use Rattle.trace.proofs.Room.{heads-length}
 use Rattle.outcome.specs.Outcome.{Runs, Result, Refusal}
 use Rattle.transcript.specs.Transcript.{traceLines, Lines, HandedAt, Handed, isOver, atStage, pieces, left, transcript-room, Moves, Rest, Hands}
 use Rattle.transcript.specs.Pieces.{RunRead, stageAfter, ToldAt, Tells}
@@ -49,7 +51,7 @@ ready-refused t u b none e =
     record { result = λ r. absurd (none (r .run .finished .P) (r .values) (r .input) (r .budget) (result-runs r)); refusal = λ f. e }
 
 ready-lines : {t u : List ℕ} {P : List Statement} {vs : List ℕ} {input budget : ℕ} {trace : Bool} (b : List ℕ) → Runs t u P vs input budget → trace ≡ true
-    → b ≡ stepLines P vs input 0 budget → Ready t u trace b
+    → b ≡ columnHeads ++ stepLines P vs input 0 budget → Ready t u trace b
 ready-lines b a e lines =
     record {
       result = λ r. let same = runs-unique (result-runs r) a in lines ∙ rw (e, same .0, same .1, same .2, same .3);
@@ -60,13 +62,13 @@ ready-lines b a e lines =
 pub ready-over : {t u : List ℕ} {trace : Bool} {k s : ℕ} {ws b : List ℕ} → (trace ≡ true) × Lines t u true k s ws b → Ready t u trace b
 ready-over {k = k} {b = b} (e, l) =
     let o = l .left in
-    ready-lines b (l .runs) e (l .lines ∙ lines-whole (l .P) (l .values) (l .input) k (l .budget) (o .final) (o .ends .over) (l .within))
+    ready-lines b (l .runs) e (l .lines ∙ ap (λ (x : List ℕ). columnHeads ++ x) (lines-whole (l .P) (l .values) (l .input) k (l .budget) (o .final) (o .ends .over) (l .within)))
 
 -- and of one whose budget is spent
 pub ready-spent : {t u : List ℕ} {trace : Bool} {k s : ℕ} {ws b : List ℕ} (h : (trace ≡ true) × Lines t u false k s ws b) → h .1 .budget ≤ k → Ready t u trace b
 ready-spent {k = k} {b = b} (e, l) spent =
     let same : k ≡ l .budget = omega (arith, l .within) in
-    ready-lines b (l .runs) e (l .lines ∙ ap (stepLines (l .P) (l .values) (l .input) 0) same)
+    ready-lines b (l .runs) e (l .lines ∙ ap (λ (n : ℕ). columnHeads ++ stepLines (l .P) (l .values) (l .input) 0 n) same)
 
 -- the run that was read has a further step, by the test of it
 pub record Further (t u : List ℕ) (run : Run) (p : Position) : Type 0 where
@@ -151,19 +153,30 @@ module _ {t u : List ℕ} {trace : Bool} {p : Position} {o q : List ℕ} {r : Pi
             rest = rw n refl;
           }
 
--- the run before its first statement
-pub begin-hands : {t u o : List ℕ} {p : Position} {P : List Statement} {vs : List ℕ} {input budget : ℕ} → p .stage ≡ Begin → Runs t u P vs input budget
-    → transcript-room ≤ length o → Hands t u true p o o (record { bytes = 0; next = record { stage = Steps; at = 0; done = 0; values = vs } })
+-- the run before its first statement, after the line over the columns
+pub begin-hands : {t u o q : List ℕ} {p : Position} {P : List Statement} {vs : List ℕ} {input budget n : ℕ} → p .stage ≡ Begin → Runs t u P vs input budget
+    → transcript-room ≤ length o → Put o 0 columnHeads q n → Hands t u true p o q (record { bytes = n; next = record { stage = Steps; at = 0; done = 0; values = vs } })
 unfolding stepLines
-begin-hands {p = p} {P = P} {vs = vs} {input = input} {budget = budget} e a room =
+begin-hands {p = p} {P = P} {vs = vs} {input = input} {budget = budget} e a room put =
     let first = stands-first P vs input (a .taken .program) in
     record {
-      w = [];
-      put = record { text = refl; after = refl };
-      fits = omega arith;
+      w = columnHeads;
+      put = put;
+      fits = omega (arith, heads-length);
       reached = λ b h.
-          let none : b ≡ [] = rw e at h in
-          (refl, record { P = P; values = vs; input = input; budget = budget; runs = a; within = omega arith; lines = rw none; left = (first .inside, first .state) });
+          let none : b ≡ [] = rw e at h in (
+            refl,
+            record {
+              P = P;
+              values = vs;
+              input = input;
+              budget = budget;
+              runs = a;
+              within = omega arith;
+              lines = rw none (sym (append-nil columnHeads));
+              left = (first .inside, first .state);
+            },
+          );
       moves = λ l. moves-on p _ (ap isOver e) (let z : left p ≡ 3 + most-steps = ap (λ (s : Stage). pieces s (p .done)) e in omega arith);
       stays = λ l. absurd (omega arith);
       rest = tt;
@@ -197,12 +210,13 @@ nothing-hands t u o trace p r e why =
 
 -- lines that were handed out are of the run that the texts ask for
 lines-of : {t u : List ℕ} {e : Bool} {k s : ℕ} {ws b : List ℕ} {P : List Statement} {vs : List ℕ} {input budget : ℕ} (l : Lines t u e k s ws b) → Runs t u P vs input budget
-    → (b ≡ stepLines P vs input 0 k) × Left P vs input k e s ws
+    → (b ≡ columnHeads ++ stepLines P vs input 0 k) × Left P vs input k e s ws
 lines-of {e = e} {k = k} {s = s} {ws = ws} {b = b} {P = P} {vs = vs} {input = input} l a =
     let same = runs-unique (l .runs) a in
     go (l .P) (l .values) (l .input) (l .lines) (l .left) (same .0) (same .1) (same .2)
   where
-    go : (Q : List Statement) (us : List ℕ) (j : ℕ) → b ≡ stepLines Q us j 0 k → Left Q us j k e s ws → Q ≡ P → us ≡ vs → j ≡ input → (b ≡ stepLines P vs input 0 k) × Left P vs input k e s ws
+    go : (Q : List Statement) (us : List ℕ) (j : ℕ) → b ≡ columnHeads ++ stepLines Q us j 0 k → Left Q us j k e s ws → Q ≡ P → us ≡ vs → j ≡ input
+        → (b ≡ columnHeads ++ stepLines P vs input 0 k) × Left P vs input k e s ws
     go Q us j x y f g h = rw (← f, ← g, ← h) (x, y)
 
 -- lines of further steps of a run that isn't refused
@@ -219,13 +233,15 @@ module _ {t u o q us : List ℕ} (trace : Bool) {P : List Statement} {vs : List 
         budget = budget;
         runs = a;
         within = x .within (omega arith);
-        lines = rw (old .0, y .lines, y .counted) (lines-then P vs input (p .done) (y .n));
+        lines = rw (old .0, y .lines, y .counted)
+            (append-assoc columnHeads (stepLines P vs input 0 (p .done)) (stepLines P vs input (p .done) (y .n))
+            ∙ ap (λ (l : List ℕ). columnHeads ++ l) (lines-then P vs input (p .done) (y .n)));
         left = y .left;
       }
 
   lines-moves : (e : Bool) → g .ended ≡ e → pieces (stageAfter e) (g .done) < 2 + (most-steps - p .done)
   lines-moves true e = omega arith
-  lines-moves false e = omega (arith, x .further room more, a .allowed)
+  lines-moves false e = omega (arith, x .further (omega arith) more, a .allowed)
 
   lines-handed : (e : Bool) → g .ended ≡ e → trace ≡ true → (b : List ℕ) → Lines t u e (g .done) (g .at) us b
       → HandedAt (stageAfter e) t u trace (record { stage = stageAfter e; at = g .at; done = g .done; values = us }) b

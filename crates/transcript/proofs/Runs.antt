@@ -14,7 +14,7 @@ use Rattle.program.proofs.Unique.{taken-refused}
 use Rattle.run.specs.Run.{most-steps}
 use Rattle.start.specs.Start.{StartRead}
 use Rattle.start.specs.declared.Answer.{Answer}
-use Rattle.start.specs.declared.Answer.the-variants.{Few, Many, Line}
+use Rattle.start.specs.declared.Answer.the-variants.{Few, Many, Line, Unended}
 use Rattle.start.specs.declared.Answer.the-variants as start
 use Rattle.start.proofs.Unique.{start-unique}
 use Rattle.outcome.proofs.Unique.{runs-start}
@@ -33,3 +33,4 @@ module _ (t u : List ℕ) (p : Program) (input budget : ℕ) (vs : List ℕ) (x 
   run-read Few d s r = λ P ws i n a. let e = runs-start a Few input budget vs s in let z : _≡_ {A = ℕ} 0 1 = cc in omega arith
   run-read Many d s r = λ P ws i n a. let e = runs-start a Many input budget vs s in let z : _≡_ {A = ℕ} 0 1 = cc in omega arith
   run-read (Line k) d s r = λ P ws i n a. let e = runs-start a (Line k) input budget vs s in let z : _≡_ {A = ℕ} 0 1 = cc in omega arith
+  run-read (Unended k) d s r = λ P ws i n a. let e = runs-start a (Unended k) input budget vs s in let z : _≡_ {A = ℕ} 0 1 = cc in omega arith

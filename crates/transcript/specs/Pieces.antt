@@ -8,7 +8,7 @@ use Rattle.program.specs.Reading.{Held, statements}
 use Rattle.program.specs.declared.Answer as program
 use Rattle.program.specs.declared.Answer.the-variants as read
 use Rattle.start.specs.declared.Answer as start
-use Rattle.start.specs.declared.Answer.the-variants.{Taken, Few, Many, Line}
+use Rattle.start.specs.declared.Answer.the-variants.{Taken, Few, Many, Line, Unended}
 use Rattle.outcome.specs.Outcome.{Runs, Printed, Result, Refusal}
 use Rattle.transcript.specs.Transcript.{atStage}
 use Rattle.transcript.specs.declared.Stage.{Stage}
@@ -22,6 +22,7 @@ startTaken Taken = true
 startTaken Few = false
 startTaken Many = false
 startTaken (Line n) = false
+startTaken (Unended n) = false
 
 abbrev pub programTaken : program.Answer → Bool
 programTaken read.Taken = true

@@ -9,17 +9,18 @@ use Rattle.language.specs.Spelling.{variables}
 use Rattle.statement_writer.specs.Writing.{Put}
 use Rattle.language.specs.declared.Statement.{Statement}
 use Rattle.run.specs.Run.{most-steps}
-use Rattle.trace.specs.Trace.{stepLines}
-use Rattle.trace.specs.Stepping.{line-room, Left}
-use Rattle.outcome.specs.Outcome.{Runs, Result, Refusal}
+use Rattle.trace.specs.Trace.{columnHeads, stepLines}
+use Rattle.trace.specs.Stepping.{Left}
+use Rattle.outcome.specs.Outcome.{Runs, Result, Refusal, outcome-room}
 use Rattle.transcript.specs.declared.Stage.{Stage}
 use Rattle.transcript.specs.declared.Stage.the-variants.{Begin, Steps, Outcome, Ended, Refused}
 use Rattle.transcript.specs.declared.Position.{Position}
 use Rattle.transcript.specs.declared.Piece.{Piece}
 
--- the lines of the run's steps within the budget, where a trace is asked for; once the run has ended there are no further ones
+-- the line over the columns and those of the run's steps within the budget, where a trace is asked for; once the run has ended there are no
+-- further ones
 abbrev pub traceLines : Bool → List Statement → List ℕ → ℕ → ℕ → List ℕ
-traceLines true P vs input budget = stepLines P vs input 0 budget
+traceLines true P vs input budget = columnHeads ++ stepLines P vs input 0 budget
 traceLines false P vs input budget = []
 
 -- b is those lines and then how the run of the program text t from the start text u went
@@ -32,7 +33,7 @@ pub record Whole (t u : List ℕ) (trace : Bool) (b : List ℕ) : Type 0 where
 abbrev pub Output : List ℕ → List ℕ → Bool → List ℕ → Type 0
 Output t u trace b = Whole t u trace b ⊎ Refusal t u b
 
--- b is the lines of the run's first k steps; it ended with the last of them, or stands before place s with the values ws
+-- b is the line over the columns and those of the run's first k steps; it ended with the last of them, or stands before place s with the values ws
 pub record Lines (t u : List ℕ) (ended : Bool) (k s : ℕ) (ws b : List ℕ) : Type 0 where
   pub P : List Statement
   pub values : List ℕ
@@ -40,7 +41,7 @@ pub record Lines (t u : List ℕ) (ended : Bool) (k s : ℕ) (ws b : List ℕ) :
   pub budget : ℕ
   pub runs : Runs t u P values input budget
   pub within : k ≤ budget
-  pub lines : b ≡ stepLines P values input 0 k
+  pub lines : b ≡ columnHeads ++ stepLines P values input 0 k
   pub left : Left P values input k ended s ws
 
 -- printing stands at the position p after the text b was handed out
@@ -81,9 +82,9 @@ pieces Refused k = 0
 abbrev pub left : Position → ℕ
 left p = pieces (p .stage) (p .done)
 
--- room for a line of a trace, and for every outcome
+-- room for every outcome, and for a line of a trace
 abbrev pub transcript-room : ℕ
-transcript-room = line-room
+transcript-room = outcome-room
 
 abbrev pub Stays : Position → Piece → Type 0
 Stays p r = (r .bytes ≡ 0) × (r .next ≡ p)

@@ -7,14 +7,14 @@ ghost use lib.ListN.{length};
 ghost use Rattle.transcript.specs.Transcript.{isOver, beginning, atStage, transcript-room, Hands};
 ghost use Rattle.transcript.specs.Pieces.{startTaken, programTaken, RunRead, stageAfter, Tells};
 use machine::VALUES;
+use outcome::OUTCOME_ROOM;
 use outcome::Told;
 use program::Program;
-use trace::LINE_ROOM;
 
-// A piece needs this many bytes: those of a trace's longest line, or of the longest outcome.
-pub const TRANSCRIPT_ROOM: usize = LINE_ROOM;
+// A piece needs this many bytes: those of the longest outcome, in which a trace's longest line has room too.
+pub const TRANSCRIPT_ROOM: usize = OUTCOME_ROOM;
 
-// Begin: nothing was handed out. Steps: lines of the run's steps were. Outcome: the lines of all its steps were, and it ended. Ended: all
+// Begin: nothing was handed out. Steps: the line over the columns was, and lines of the run's steps. Outcome: the lines of all its steps were, and it ended. Ended: all
 // was, of a result. Refused: all was, of a refusal.
 pub enum Stage {
     Begin,
@@ -115,6 +115,7 @@ fn start_taken(a: start::Answer) -> bool
         start::Answer::Few => false,
         start::Answer::Many => false,
         start::Answer::Line(_) => false,
+        start::Answer::Unended(_) => false,
     }
 }
 
@@ -146,7 +147,7 @@ fn run_of(program: &[u8], start: &[u8]) -> Run
     }
 }
 
-// The run stands before its first statement; one that is refused is told at once.
+// The line over the columns, where the run stands before its first statement; one that is refused is told at once.
 fn begin(program: &[u8], start: &[u8], from: Position, out: &mut [u8]) -> Piece
     requires { ⌜ from .stage ≡ Stage.Begin ⌝ }
     requires { ⌜ transcript-room ≤ length (now out) ⌝ }
@@ -158,7 +159,7 @@ fn begin(program: &[u8], start: &[u8], from: Position, out: &mut [u8]) -> Piece
     }
     let values = run.values;
     Piece {
-        bytes: 0,
+        bytes: trace::heads(out),
         next: Position {
             stage: Stage::Steps,
             at: 0,

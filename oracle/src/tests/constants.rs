@@ -315,14 +315,16 @@ fn columns_of_the_desk() {
     );
     assert_eq!(
         desk::run(text.as_bytes(), b"-5\n9\n", true),
-        "      1     1  read i0                           i0 = -5\n\
-         \x20     2     2  i10 := -2147483648 + -2147483648\n\
+        "   step  line  statement                         assigned\n\
+         \x20     1     1  read i0                           i0 = -5\n\
+         \x20     2     2  i10 := -2147483648 + -2147483648  i10 = 0 (as before)\n\
          \x20     3     3  write i10                       \n\
          ended 0 steps 3 ticks 11 kept 0 0 0 0 0 0 0 0\n"
     );
     assert_eq!(
         desk::compare(text.as_bytes(), b"2: mark(rm, i10, -2147483648)\n", b"-5\n2\n"),
         "marks 1 accepted 0\n\
+         \x20  step  line  given                             rewritten                         differs  given        rewritten\n\
          \x20     1     1  read i0                           read i0                         \n\
          \x20     2     2  i10 := -2147483648 + -2147483648  i10 := -2147483648 + -2147483648\n\
          given spent at 3 ticks 7\nrewritten spent at 3 ticks 7\nstatements, outcome and live variables agree\n"

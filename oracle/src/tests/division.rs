@@ -327,7 +327,8 @@ fn desk_lines_tell_of_faults() {
     assert_eq!(run("3\n9\n", false), "ended 3 steps 3 ticks 32 kept 0 0 0 0 0 0 0 0\n");
     assert_eq!(
         run("0\n9\n7\n7\n", true),
-        "      1     1  read i0                           i0 = 0\n\
+        "   step  line  statement                         assigned\n\
+         \x20     1     1  read i0                           i0 = 0\n\
          \x20     2     2  i1 := 10 / i0                   \n\
          fault at 2 steps 2 ticks 28\n"
     );
@@ -336,10 +337,11 @@ fn desk_lines_tell_of_faults() {
     assert_eq!(
         desk::compare(given.as_bytes(), list, b"5\n100\n"),
         "marks 2 accepted 2\n\
+         \x20  step  line  given                             rewritten                         differs  given        rewritten\n\
          \x20     1     1  read i0                           read i0                         \n\
-         \x20     2     2  i3 := 9                           skip                              i3 9 0\n\
-         \x20     3     3  i1 := 0                           i1 := 0                           i3 9 0\n\
-         \x20     4     4  i2 := i0 / i1                     i2 := i0 / 0                      i3 9 0\n\
+         \x20     2     2  i3 := 9                           skip                              i3       9            0          \n\
+         \x20     3     3  i1 := 0                           i1 := 0                           i3       9            0          \n\
+         \x20     4     4  i2 := i0 / i1                     i2 := i0 / 0                      i3       9            0          \n\
          given fault at 4 steps 4 ticks 32\nrewritten fault at 4 steps 4 ticks 31\nstatements, outcome and live variables agree\n"
     );
     assert!(desk::compare(given.as_bytes(), list, b"5\n3\n").ends_with(

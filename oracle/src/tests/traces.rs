@@ -155,7 +155,7 @@ fn a_sum_and_a_dropped_product() {
         ended(25),
         ended(16)
     )));
-    assert_eq!(compared.matches("  i5 8 0\n").count(), 2);
+    assert_eq!(compared.matches("  i5       8            0          \n").count(), 2);
 }
 
 /// Both fault; the variable that differs before is dead.

@@ -1,10 +1,8 @@
 -- `difference` meets its contract: nothing where the values are the same, else both. Assumes nothing.
 use mathlib.Core.Path.{refl}
 use native.Mathlib.Omega.{arith}
-use lib.ListN.{getD}
 use borrow.Author.Tests.{eq-eqb, ne-eqb}
 use Rattle.comparison.specs.Lines.{difference}
-use Rattle.comparison.proofs.Room.{pair-most}
 use borrow.Author.Needs.{needs}
 use Rattle.comparison.proofs.difference.Statement.{statement}
 use Rattle.comparison.proofs.difference.Tie as tie
@@ -16,7 +14,7 @@ returns c = rw (eq-eqb _ _ (c .if1 .taken)) (record { text = refl; after = omega
 pair-requires : tie.Need-pair-requires
 pair-requires c κs =
     let s = c .before .before .before .before .before .before .before in
-    omega (arith, pair-most (s .args .x) (getD (s .args .a .now) (s .args .x) 0) (getD (s .args .b .now) (s .args .x) 0) (s .pre .0))
+    (s .pre .0, s .pre .1)
 
 returns-2 : tie.Need-returns-2
 unfolding difference

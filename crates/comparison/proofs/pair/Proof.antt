@@ -2,54 +2,41 @@
 use native.Mathlib.Omega.{arith}
 use Rattle.statement_writer.proofs.Puts.{put-then}
 use Rattle.comparison.specs.Lines.{pairText}
-use Rattle.comparison.proofs.Room.{pair-length}
 use borrow.Author.Needs.{needs}
 use Rattle.comparison.proofs.pair.Statement.{statement}
 use Rattle.comparison.proofs.pair.Tie as tie
 
-spaces-requires : tie.Need-spaces-requires
-spaces-requires c κs = omega (arith, pair-length (c .before .before .args .x) (c .before .before .args .v) (c .before .before .args .w))
-
 variable-requires : tie.Need-variable-requires
-variable-requires c κs =
-    let s = c .before .before .before .before .before .before in
-    omega (arith, pair-length (s .args .x) (s .args .v) (s .args .w))
+variable-requires c κs = (c .before .before .before .before .before .before .pre .0, omega (arith, c .before .before .before .before .before .before .pre .1))
 
-byte-requires : tie.Need-byte-requires
-byte-requires c κs =
-    let s = c .before .before .before .before .before .before .before .before .before .before in
-    omega (arith, pair-length (s .args .x) (s .args .v) (s .args .w))
+spaces-requires-2 : tie.Need-spaces-requires-2
+spaces-requires-2 c κs = omega (arith, c .before .before .before .variable .ensures .1)
 
-constant-requires : tie.Need-constant-requires
-constant-requires c κs =
-    let s = c .before .before .before .before .before .before .before .before .before .before .before .before .before .before in
-    omega (arith, pair-length (s .args .x) (s .args .v) (s .args .w))
+value-requires : tie.Need-value-requires
+value-requires c κs = omega (arith, c .before .before .before .before .before .before .before .variable .ensures .1)
 
-byte-requires-2 : tie.Need-byte-requires-2
-byte-requires-2 c κs =
-    let s = c .before .before .before .before .before .before .before .before .before .before .before .before .before .before .before .before .before .before in
-    omega (arith, pair-length (s .args .x) (s .args .v) (s .args .w))
+spaces-requires-3 : tie.Need-spaces-requires-3
+spaces-requires-3 c κs = omega (arith, c .before .before .before .value .ensures .1, c .before .before .before .before .before .before .before .before .before .before .before .variable .ensures .1)
 
-constant-requires-2 : tie.Need-constant-requires-2
-constant-requires-2 c κs =
-    let s = c .before .before .before .before .before .before .before .before .before .before .before .before .before .before .before .before .before .before .before .before .before .before in
-    omega (arith, pair-length (s .args .x) (s .args .v) (s .args .w))
+value-requires-2 : tie.Need-value-requires-2
+value-requires-2 c κs = omega (arith, c .before .before .before .before .before .before .before .value .ensures .1, c .before .before .before .before .before .before .before .before .before .before .before .before .before .before .before .variable .ensures .1)
 
 returns : tie.Need-returns
 unfolding pairText
 returns c =
-    put-then (c .before .before .before .before .before .before .before .before .before .before .before .before .before .before .before .before .before .before .before .before .before .before .spaces .ensures) (put-then (c .before .before .before .before .before .before .before .before .before .before .before .before .before .before .before .before .before .before .variable .ensures) (put-then (c .before .before .before .before .before .before .before .before .before .before .before .before .before .before .byte .ensures)
-    (put-then (c .before .before .before .before .before .before .before .before .before .before .constant .ensures) (put-then (c .before .before .before .before .before .before .byte2 .ensures) (c .before .before .constant2 .ensures)))))
+    let two = c .before .before .before .before .before .before .before .before .before .before .before .before .before .before in
+    put-then (two .before .before .before .before .before .before .before .before .spaces .ensures) (put-then (two .before .before .before .before .variable .ensures .0) (put-then (two .spaces2 .ensures)
+    (put-then (c .before .before .before .before .before .before .before .before .before .before .value .ensures .0) (put-then (c .before .before .before .before .before .before .spaces3 .ensures) (c .before .before .value2 .ensures .0)))))
 
 pub pair-spec : {M : Type 1} → statement M
 pair-spec =
     tie.close
     (tie.spec
-    spaces-requires
+    (λ c κs. search needs)
     variable-requires
-    byte-requires
-    constant-requires
-    byte-requires-2
-    constant-requires-2
+    spaces-requires-2
+    value-requires
+    spaces-requires-3
+    value-requires-2
     (λ c. search needs)
     returns)

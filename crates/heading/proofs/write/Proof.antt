@@ -6,7 +6,7 @@ use native.Mathlib.Omega.{arith}
 use Rattle.run.specs.Run.{budget-number}
 use Rattle.refusal_line.proofs.Blames.{blamed}
 use Rattle.desk.proofs.Rooms.{refusal-most}
-use Rattle.heading.proofs.Headings.{counts-most, budget-refused, head-refused, head-judged}
+use Rattle.heading.proofs.Headings.{heading-most, budget-refused, head-refused, head-judged}
 use borrow.Author.Needs.{needs}
 use Rattle.heading.proofs.write.Statement.{statement}
 use Rattle.heading.proofs.write.Tie as tie
@@ -30,11 +30,9 @@ refusal-requires-2 c κs =
     let t = c .before .before .before .before .before .before .before .before .before .before .before .before .before .before in
     omega (arith, refusal-most (c .before .before .before .answer .given .0 .0) (c .before .line-of-number .result) (search needs) (search needs), t .if1 .left)
 
-write-counts-requires : tie.Need-write-counts-requires
-write-counts-requires c κs =
-    let k = c .before .before .answer2 .given in
-    let t = c .before .before .before .before .before .before .before .before .before .before .before .before .before in
-    omega (arith, counts-most (k .0 .0) (k .0 .1 .0) (search needs) (search needs), t .if1 .left)
+judged-requires : tie.Need-judged-requires
+judged-requires c κs =
+    c .before .before .before .before .before .before .before .before .before .before .before .before .before .if1 .left
 
 returns-4 : tie.Need-returns-4
 returns-4 c =
@@ -63,7 +61,7 @@ returns-5 c =
     (record { verdicts = j .before .before .before .verdict-buffer .result; new = s .args .new .now })
     (record { verdicts = j .judge .last .1 .1 .0; new = j .judge .last .1 .1 .1 .0 })
     (j .judge .ensures) (j .before .before .before .before .if3 .left) m a _ (k .answer2 .given .1)
-    (omega (arith, counts-most m a (search needs) (search needs), j .before .before .before .before .before .before .if1 .left)) (c .before .before .write-counts .ensures)
+    (omega (arith, heading-most m a (search needs) (search needs), j .before .before .before .before .before .before .if1 .left)) (c .before .before .judged .ensures)
 
 pub write-spec : {M : Type 1} → statement M
 write-spec =
@@ -81,7 +79,7 @@ write-spec =
     (λ c κs. search needs)
     refusal-requires-2
     (λ c. search needs)
-    write-counts-requires
+    judged-requires
     (λ c. search needs)
     (λ c. search needs)
     (λ c. search needs)

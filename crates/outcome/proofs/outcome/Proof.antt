@@ -31,10 +31,18 @@ returns-5 c =
     let text = c .before .before .write3 .ensures in
     start-output _ _ _ _ _ _ _ (told .before .before .read .ensures) (λ e. let is = told .enum-told4 .given .1 in let z : _≡_ {A = ℕ} 0 1 = cc in omega arith) (text .0) (omega (arith, text .1))
 
+returns-6 : tie.Need-returns-6
+returns-6 c =
+    let told = c .before .before .before .before in
+    let text = c .before .before .write4 .ensures in
+    start-output _ _ _ _ _ _ _ (told .before .before .read .ensures) (λ e. let is = told .enum-told5 .given .1 in let z : _≡_ {A = ℕ} 0 1 = cc in omega arith) (text .0) (omega (arith, text .1))
+
 pub outcome-spec : {M : Type 1} → statement M
 outcome-spec =
     tie.close
     (tie.spec
+    (λ c. search needs)
+    (λ c κs. search needs)
     (λ c. search needs)
     (λ c κs. search needs)
     (λ c. search needs)
@@ -52,4 +60,6 @@ outcome-spec =
     (λ c. search needs)
     returns-4
     (λ c. search needs)
-    returns-5)
+    returns-5
+    (λ c. search needs)
+    returns-6)

@@ -30,6 +30,10 @@ refused-requires-3 : tie.Need-refused-requires-3
 refused-requires-3 c κs =
     (c .before .before .before .before .before .if1 .left, λ e. let is = c .before .enum-told4 .given .1 in let z : _≡_ {A = ℕ} 0 1 = cc in omega arith)
 
+refused-requires-4 : tie.Need-refused-requires-4
+refused-requires-4 c κs =
+    (c .before .before .before .before .before .if1 .left, λ e. let is = c .before .enum-told5 .given .1 in let z : _≡_ {A = ℕ} 0 1 = cc in omega arith)
+
 returns-3 : tie.Need-returns-3
 returns-3 c =
     let k = c .before .before .before .before .before .before .before .before .before .before in
@@ -54,6 +58,12 @@ returns-6 c =
     let s = k .read .result in
     with-room (k .before .before .if1 .left) (k .before .if2 .left) (c .before .before .refused3 .ensures _ _ _ _ (s .input) (s .budget) (s .values) (k .read .ensures))
 
+returns-7 : tie.Need-returns-7
+returns-7 c =
+    let k = c .before .before .before .before .before .before in
+    let s = k .read .result in
+    with-room (k .before .before .if1 .left) (k .before .if2 .left) (c .before .before .refused4 .ensures _ _ _ _ (s .input) (s .budget) (s .values) (k .read .ensures))
+
 pub next-spec : {M : Type 1} → statement M
 next-spec =
     tie.close
@@ -72,6 +82,8 @@ next-spec =
     (λ c. search needs)
     refused-requires-3
     (λ c. search needs)
+    refused-requires-4
+    (λ c. search needs)
     (λ c. search needs)
     returns-3
     (λ c. search needs)
@@ -79,4 +91,6 @@ next-spec =
     (λ c. search needs)
     returns-5
     (λ c. search needs)
-    returns-6)
+    returns-6
+    (λ c. search needs)
+    returns-7)

@@ -9,14 +9,16 @@ use Rattle.start_refusal.proofs.words.Statement.{statement}
 use Rattle.start_refusal.proofs.words.Tie as tie
 
 number-requires : tie.Need-number-requires
-number-requires c κs =
-    let n = c .before .before .before .before .before .before .before .a .given .0 .0 in
-    omega (arith, number-most n (search needs))
+number-requires c κs = omega (arith, number-most (c .before .before .before .before .before .before .before .a .given .0 .0) (search needs))
 
 line-range-requires : tie.Need-line-range-requires
-line-range-requires c κs =
-    let n = c .before .before .before .before .before .before .before .before .before .before .before .a .given .0 .0 in
-    omega (arith, number-most n (search needs))
+line-range-requires c κs = omega (arith, number-most (c .before .before .before .before .before .before .before .before .before .before .before .a .given .0 .0) (search needs))
+
+number-requires-2 : tie.Need-number-requires-2
+number-requires-2 c κs = omega (arith, number-most (c .before .before .before .before .before .before .before .a2 .given .0 .0) (search needs))
+
+word-requires-5 : tie.Need-word-requires-5
+word-requires-5 c κs = omega (arith, number-most (c .before .before .before .before .before .before .before .before .before .before .before .before .a2 .given .0 .0) (search needs))
 
 returns : tie.Need-returns
 unfolding startWords
@@ -46,6 +48,18 @@ returns-4 c =
       omega (arith, word .ensures .after, number .ensures .after, range .ensures .1, number-most (a .given .0 .0) (search needs)),
     )
 
+returns-5 : tie.Need-returns-5
+unfolding startWords
+returns-5 c =
+    let last = c .before .before .word5 in
+    let number = c .before .before .before .before .before .before .before .number2 in
+    let word = c .before .before .before .before .before .before .before .before .before .before .before .word4 in
+    let a = c .before .before .before .before .before .before .before .before .before .before .before .before .before .before .before .a2 in
+    rw (a .given .1) (
+      put-then (word .ensures) (put-then (number .ensures) (last .ensures)),
+      omega (arith, word .ensures .after, number .ensures .after, last .ensures .after, number-most (a .given .0 .0) (search needs)),
+    )
+
 pub words-spec : {M : Type 1} → statement M
 words-spec =
     tie.close
@@ -62,10 +76,18 @@ words-spec =
     (λ c κs. search needs)
     number-requires
     line-range-requires
+    (λ c. search needs)
+    (λ c. search needs)
+    (λ c κs. search needs)
+    number-requires-2
+    (λ c. search needs)
+    word-requires-5
     returns
     (λ c. search needs)
     returns-2
     (λ c. search needs)
     returns-3
     (λ c. search needs)
-    returns-4)
+    returns-4
+    (λ c. search needs)
+    returns-5)

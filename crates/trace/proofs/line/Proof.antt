@@ -1,10 +1,8 @@
--- `line` meets its contract: the head, the changes and byte 10. Assumes nothing.
+-- `line` meets its contract: the head, what is assigned and byte 10. Assumes nothing.
 use native.Mathlib.Omega.{arith}
-use Rattle.language.specs.Spelling.{variables}
 use Rattle.statement_writer.proofs.Puts.{put-then}
-use Rattle.trace.specs.Trace.{lineText}
-use Rattle.trace.proofs.Room.{head-most, changes-parts, line-most}
-use Rattle.statement_writer.proofs.Series.{parts-most}
+use Rattle.trace.specs.Trace.{assignment, lineText}
+use Rattle.trace.proofs.Room.{head-most, assignment-most, line-most}
 use borrow.Author.Needs.{needs}
 use Rattle.trace.proofs.line.Statement.{statement}
 use Rattle.trace.proofs.line.Tie as tie
@@ -14,10 +12,10 @@ head-requires c κs =
     let s = c .before .before in
     (s .pre .1 .1 .0, omega (arith, head-most (s .args .k) (s .args .place) (s .args .s) (search needs) (s .pre .1 .1 .0) (s .pre .0) (s .pre .1 .0)))
 
-changes-requires : tie.Need-changes-requires
-changes-requires c κs =
+assignment-requires : tie.Need-assignment-requires
+assignment-requires c κs =
     let s = c .before .before .before .before .before .before in
-    omega (arith, head-most (s .args .k) (s .args .place) (s .args .s) (search needs) (s .pre .1 .1 .0) (s .pre .0) (s .pre .1 .0))
+    (s .pre .0, omega (arith, head-most (s .args .k) (s .args .place) (s .args .s) (search needs) (s .pre .1 .1 .0) (s .pre .0) (s .pre .1 .0)))
 
 byte-requires : tie.Need-byte-requires
 byte-requires c κs =
@@ -25,7 +23,7 @@ byte-requires c κs =
     omega (
       arith,
       head-most (s .args .k) (s .args .place) (s .args .s) (search needs) (s .pre .1 .1 .0) (s .pre .0) (s .pre .1 .0),
-      parts-most (changes-parts (s .args .old .now) (s .args .new .now)) variables (omega arith),
+      assignment-most (s .args .s) (s .args .old .now) (s .args .new .now) (s .pre .0),
     )
 
 returns : tie.Need-returns
@@ -33,16 +31,23 @@ unfolding lineText
 returns c =
     let s = c .before .before .before .before .before .before .before .before .before .before .before .before .before in
     let head = c .before .before .before .before .before .before .before .before .before .before .head in
-    let changes = c .before .before .before .before .before .before .changes in
-    let p = put-then (head .ensures) (put-then (changes .ensures) (c .before .before .byte .ensures)) in
-    (p, omega (arith, p .after, line-most (s .args .k) (s .args .place) (s .args .s) (s .args .old .now) (s .args .new .now) (search needs) (s .pre .1 .1 .0) (s .pre .0) (s .pre .1 .0)))
+    let assigned = c .before .before .before .before .before .before .assignment in
+    let p = put-then (head .ensures) (put-then (assigned .ensures) (c .before .before .byte .ensures)) in (
+      p,
+      omega (
+        arith,
+        p .after,
+        line-most (s .args .k) (s .args .place) (s .args .s) (assignment (s .args .s) (s .args .old .now) (s .args .new .now)) (search needs) (s .pre .1 .1 .0) (s .pre .0) (s .pre .1 .0)
+            (assignment-most (s .args .s) (s .args .old .now) (s .args .new .now) (s .pre .0)),
+      ),
+    )
 
 pub line-spec : {M : Type 1} → statement M
 line-spec =
     tie.close
     (tie.spec
     head-requires
-    changes-requires
+    assignment-requires
     byte-requires
     (λ c. search needs)
     returns)

@@ -63,28 +63,28 @@ loop-again c =
     going-more (l .before .before .args .t1) _ _ _ _ _ (step .step .ensures) i (step .before .before .before .before .before .loop-test .taken)
     (omega (arith, step .before .before .before .before .if1 .left, i .fits, i .same)) (line .ensures .1) _ (l .before .before .pre .0) goes (line .ensures .0)
 
-line-requires-2 : tie.Need-line-requires-2 Inv-loop μ-loop
-line-requires-2 c κs =
-    let l = c .before .before .before .before .before .before .before .before .before .before .before in
+last-line-requires : tie.Need-last-line-requires Inv-loop μ-loop
+last-line-requires c κs =
+    let l = c .before .before .before .before .before .before .before .before .before .before in
     let i = l .loop .inv in
     let p = l .before .before .args .t1 in
     let w = l .before .before .pre .0 in (
       held-valid (p .entries) (p .count) _ (i .inside) w,
       (
         held-targets (p .entries) (p .count) _ (i .inside) w,
-        (omega (arith, i .inside, w .counted .1), omega (arith, c .before .before .before .before .before .before .before .before .before .if1 .left, i .fits, i .same)),
+        (omega (arith, i .inside, w .counted .1), omega (arith, c .before .before .before .before .before .before .before .before .if1 .left, i .fits, i .same)),
       ),
     )
 
 same-length-2 : tie.Need-same-length-2 Inv-loop μ-loop
 same-length-2 c =
-    let loop = c .before .before .before .before .before .before .before .before .before .before .before .before .before .before .loop in
-    put-length (c .before .before .line2 .ensures .0) ∙ loop .inv .same
+    let loop = c .before .before .before .before .before .before .before .before .before .before .before .before .before .loop in
+    put-length (c .before .before .last-line .ensures .0) ∙ loop .inv .same
 
 returns-2 : tie.Need-returns-2 Inv-loop μ-loop
 returns-2 c =
-    let line = c .before .before .line2 in
-    let next = c .before .before .before .before .before in
+    let line = c .before .before .last-line in
+    let next = c .before .before .before .before in
     let step = next .before .before .before in
     let l = step .before .before .before .before .before .before in
     let i = l .loop .inv in
@@ -120,7 +120,7 @@ steps-spec =
     (λ c. search needs)
     loop-again
     (λ c. search needs)
-    line-requires-2
+    last-line-requires
     same-length-2
     returns-2
     same-length-3
