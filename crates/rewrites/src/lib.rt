@@ -13,6 +13,7 @@ ghost use Rattle.host_report.specs.Places.{ReportExported};
 ghost use Rattle.host_listing.specs.Exports.{ListExported, RelistExported};
 ghost use Rattle.host_keep.specs.Places.{KeepExported};
 ghost use Rattle.host_return.specs.Places.{ReturnExported};
+ghost use Rattle.host_witness.specs.Places.{WitnessExported};
 ghost use Rattle.blame.specs.Blame.{TextBlamed};
 ghost use Rattle.mark_blame.specs.Blame.{LineTold};
 ghost use Rattle.condition_blame.specs.Blame.{Blamed};
@@ -252,6 +253,31 @@ pub extern "C" fn rewrites_return(
     ensures { λ r. ⌜ ReturnExported (now (stages .entry)) (now (name .entry)) (now (text .entry)) (now (text .exit)) r (now (bytes .entry)) (now (bytes .exit)) ⌝ }
 {
     host_return::export(stages, name, text, bytes)
+}
+
+#[no_mangle]
+pub extern "C" fn rewrites_witness(
+    program: &[u8],
+    condition: &[u8],
+    part: u32,
+    statement: u32,
+    path: &mut [u32],
+    length: &mut u32,
+    turn: &mut u32,
+    truth: &mut u32,
+) -> u8
+    ensures { λ r. ⌜ WitnessExported (now (program .entry)) (now (condition .entry)) part statement (now (path .entry)) (now (path .exit)) r (record { length = now (length .entry); turn = now (turn .entry); truth = now (truth .entry) }) (record { length = now (length .exit); turn = now (turn .exit); truth = now (truth .exit) }) ⌝ }
+{
+    host_witness::export(
+        program,
+        condition,
+        part,
+        statement,
+        path,
+        length,
+        turn,
+        truth,
+    )
 }
 
 #[no_mangle]
