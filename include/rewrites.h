@@ -43,6 +43,7 @@
 #define REWRITES_PARTS 64              /* the most parts of a condition */
 #define REWRITES_PART_WORDS 16         /* the words of a part: a bit for each of the most statements */
 #define REWRITES_TABLE_WORDS 1024      /* a table: the words of the most parts */
+#define REWRITES_PATH_WORDS 1025       /* a path: a word for each of the most statements, and one */
 #define REWRITES_REVIEW_LINES 32       /* the most lines of a review */
 #define REWRITES_REVIEW_TABLES 128     /* the most differing parts of a review */
 #define REWRITES_REVIEW_WORDS 2048     /* the table of a review */
@@ -222,6 +223,40 @@ uint8_t rewrites_review(const uint8_t *program, size_t program_len, const uint8_
                         uint32_t parts[REWRITES_REVIEW_LINES],
                         uint32_t satisfied[REWRITES_REVIEW_LINES],
                         uint32_t first[REWRITES_REVIEW_LINES]);
+
+/* Tells a path that shows why part k of a condition, counted from 0 as with rewrites_tabulate, is true at
+   a statement, counted from 1, or why it is false. Negations before a path operator are looked through:
+   the path is about the operator below them. It bears out E of that operator, or speaks against A of it:
+   X, Y     two statements, the last of which has what is asked for, or hasn't.
+   F, U, R, S of E; G, W, M, B of A
+            a way, to the statement that settles it. It is the shortest that there is, and the path goes on
+            behind it by any steps that exist.
+   G, M of E; F, R of A
+            a path that goes round for ever, in at most as many statements as the program has.
+   W, B of E; U, S of A
+            either of the two.
+   Forward operators follow the program's steps, `write` stepping to itself; backward ones follow them the
+   other way, a statement that nothing steps to, as the first, stepping to itself. Where E is true, or A
+   false, there is such a path and it is told; else there is none. A part that has no path operator outside has
+   none. Takes at most 384 KiB of stack, most where brackets stand within one another.
+
+   Returns 0, and sets
+   path       with a path: the first *length words to its statements, from the one that was asked for on.
+              All further words are kept, and all words without one.
+   *length    with a path: how many statements it has, 1 to as many as the program; else 0.
+   *turn      with a path that goes round: the word, counted from 1, to whose statement the last one steps
+              back; else 0.
+   *truth     without a path: 1 where the part is true at the statement, with all its negations, else 0;
+              0 too for a part that the condition hasn't, or a statement that the program hasn't. With a path
+              *truth is kept.
+
+   Returns the number of a refusal, and keeps all:
+    1: the path has under 1,025 words.
+    2 to 5: the program, as with rewrites_run.
+    6 to 8: the condition, as with rewrites_tabulate. */
+uint8_t rewrites_witness(const uint8_t *program, size_t program_len, const uint8_t *condition,
+                         size_t condition_len, uint32_t part, uint32_t statement, uint32_t *path,
+                         size_t path_len, uint32_t *length, uint32_t *turn, uint32_t *truth);
 
 /* Tells what a driver can force. The list, empty or with single spaces between, names the variables
    that are his: at an `if` on one of them he picks the arm, at every other the unit does, without

@@ -202,6 +202,9 @@ pub const PARTS: usize = 64;
 /// The words that a table must have: [`PART_WORDS`] for each of the most parts.
 pub const TABLE_WORDS: usize = PARTS * PART_WORDS;
 
+/// The words that there must be for a path: one for each of the most statements, and one more.
+pub const PATH_WORDS: usize = STATEMENTS + 1;
+
 /// The most differing parts of a review.
 pub const REVIEW_TABLES: usize = 128;
 
@@ -465,6 +468,54 @@ pub struct Reviewed {
     pub satisfied: [u32; REVIEW_LINES],
     /// The first of them, numbered from 1; 0 if none.
     pub first: [u32; REVIEW_LINES],
+}
+
+/// A path through a program: the statements that it comes by, counted from 1, and how it goes on.
+#[derive(Clone, Debug, PartialEq, Eq, Hash)]
+pub struct Path {
+    /// The statements, from the one that was asked for on; at least one.
+    pub statements: Vec<u32>,
+    /// Where the path goes round for ever: the entry of `statements`, counted from 1, to which the last one steps
+    /// back. Else it goes on by any steps that exist: what it shows is settled by then.
+    pub turn: Option<u32>,
+}
+
+impl Path {
+    /// The statements that the path goes round by, none where it has no turn.
+    ///
+    /// ```
+    /// use rewrites::{witness, Witnessed};
+    ///
+    /// // Statement 2 may go round for ever.
+    /// let program = b"read i0\nif i0 goto 2 else 3\nwrite i0\n";
+    /// match witness(program, b"AF exit", 1, 1)? {
+    ///     Witnessed::Path(path) => assert_eq!((&path.statements[..], path.round()), (&[1, 2][..], &[2][..])),
+    ///     other => panic!("{:?}", other),
+    /// }
+    /// # Ok::<(), rewrites::Refusal>(())
+    /// ```
+    pub fn round(&self) -> &[u32] {
+        self.turn.map_or(&[], |turn| &self.statements[turn as usize - 1..])
+    }
+}
+
+/// What [`witness`] answers.
+#[derive(Clone, Debug, PartialEq, Eq, Hash)]
+pub enum Witnessed {
+    /// A path that bears out E of the part's path operator, or speaks against A of it.
+    Path(Path),
+    /// There is none. Tells whether the part is true at the statement; false for one that doesn't exist.
+    None(bool),
+}
+
+impl Witnessed {
+    /// The path, if there is one.
+    pub fn path(self) -> Option<Path> {
+        match self {
+            Witnessed::Path(path) => Some(path),
+            Witnessed::None(_) => None,
+        }
+    }
 }
 
 /// An arm of an `if`.
@@ -766,8 +817,8 @@ impl fmt::Display for Refusal {
     fn fmt(&self, f: &mut fmt::Formatter<'_>) -> fmt::Result {
         f.write_str(match self {
             Refusal::Buffer => {
-                "table under 1,024 words, or 2,048 of a review or a list, verdicts under 1,024 bytes, \
-                 new text under 34,816 bytes or stages under 280,000 bytes"
+                "table under 1,024 words, or 2,048 of a review or a list, path under 1,025 words, verdicts \
+                 under 1,024 bytes, new text under 34,816 bytes or stages under 280,000 bytes"
             }
             Refusal::Budget => "budget over 1,000,000",
             Refusal::Misspelled => {
@@ -1033,6 +1084,75 @@ pub fn review(program: &[u8], conditions: &[u8], table: &mut [u64]) -> Result<Re
         return Err(Refusal::returned(number));
     }
     Ok(reviewed)
+}
+
+/// Tells a path that shows why a part of a condition, counted from 0 as in [`tabulate`]'s table, is true at a
+/// statement, counted from 1, or why it is false.
+///
+/// Negations before a path operator are looked through: the path is about the operator below them. It bears out E
+/// of that operator, or speaks against A of it. What a finite way settles, as for `EF`, `E[p U q]` or against `AG`,
+/// gets the shortest one that there is. Against `AF`, and for `EG`, the path goes round for ever: [`Path::turn`] tells
+/// where. `E[p W q]`, and against `A[p U q]`, may get either. Past operators have paths that go backward.
+///
+/// Where E is true or A false there is such a path, and it is told. Else there is none, as for a part without a path
+/// operator outside: [`Witnessed::None`] has the truth of the part, with all its negations.
+///
+/// Takes at most 384 KiB of stack, most where brackets stand within one another.
+///
+/// # Errors
+///
+/// For the program, [`Refusal::Misspelled`], [`Refusal::LineCount`], [`Refusal::Placement`] or
+/// [`Refusal::Target`]; else, for the condition, [`Refusal::ConditionLength`],
+/// [`Refusal::ConditionMisspelled`] or [`Refusal::ConditionParts`].
+///
+/// ```
+/// use rewrites::{witness, Path, Witnessed};
+///
+/// let program = b"read i0\ni1 := 7\nif i0 goto 2 else 4\nwrite i1\n";
+///
+/// // Part 2 is the whole. Statement 2 comes to the end by 3; statement 1 defines no i1.
+/// let answer = witness(program, b"E[def(i1) U use(i0)]", 2, 2)?;
+/// assert_eq!(answer, Witnessed::Path(Path { statements: vec![2, 3], turn: None }));
+/// assert_eq!(witness(program, b"E[def(i1) U use(i0)]", 2, 1)?, Witnessed::None(false));
+///
+/// // From 1 some path never ends: it goes round from 3 to the second statement of these.
+/// let answer = witness(program, b"!AF exit", 2, 1)?;
+/// assert_eq!(answer, Witnessed::Path(Path { statements: vec![1, 2, 3], turn: Some(2) }));
+/// # Ok::<(), rewrites::Refusal>(())
+/// ```
+pub fn witness(
+    program: &[u8],
+    condition: &[u8],
+    part: u32,
+    statement: u32,
+) -> Result<Witnessed, Refusal> {
+    let mut words = vec![0; PATH_WORDS];
+    let (mut length, mut turn, mut truth) = (0, 0, 0);
+    // SAFETY: the pointers come from references, so none is null, and those that are written
+    // through are the only ones to their places.
+    let number = unsafe {
+        raw::rewrites_witness(
+            program.as_ptr(),
+            program.len(),
+            condition.as_ptr(),
+            condition.len(),
+            part,
+            statement,
+            words.as_mut_ptr(),
+            words.len(),
+            &mut length,
+            &mut turn,
+            &mut truth,
+        )
+    };
+    if number != 0 {
+        return Err(Refusal::returned(number));
+    }
+    if length == 0 {
+        return Ok(Witnessed::None(truth == 1));
+    }
+    words.truncate(length as usize);
+    Ok(Witnessed::Path(Path { statements: words, turn: place(turn) }))
 }
 
 /// Tells what a driver can force on a program. The list, empty or with single spaces between, names the
@@ -1397,7 +1517,7 @@ pub fn blame_condition(condition: &[u8]) -> Option<u32> {
     place(unsafe { raw::rewrites_blame_condition(condition.as_ptr(), condition.len()) })
 }
 
-/// What one of the calls above returned: 0 is no place.
+/// A place that is counted from 1, as a call tells it: 0 is none.
 fn place(number: u32) -> Option<u32> {
     (number != 0).then_some(number)
 }

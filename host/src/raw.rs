@@ -66,6 +66,27 @@ extern "C" {
         first: *mut [u32; REVIEW_LINES],
     ) -> u8;
 
+    /// See [`crate::witness`] and the header.
+    ///
+    /// # Safety
+    ///
+    /// `program` points to `program_len` bytes, `condition` to `condition_len` bytes and `path` to
+    /// `path_len` words; each of them may be null where its length is 0. No other pointer is null.
+    /// Places that the call writes overlap no other place lent to it.
+    pub fn rewrites_witness(
+        program: *const u8,
+        program_len: usize,
+        condition: *const u8,
+        condition_len: usize,
+        part: u32,
+        statement: u32,
+        path: *mut u32,
+        path_len: usize,
+        length: *mut u32,
+        turn: *mut u32,
+        truth: *mut u32,
+    ) -> u8;
+
     /// See [`crate::force`] and the header.
     ///
     /// # Safety

@@ -190,6 +190,7 @@ fn the_headers_sizes_are_this_crates() {
         ("PARTS", rewrites::PARTS),
         ("PART_WORDS", rewrites::PART_WORDS),
         ("TABLE_WORDS", rewrites::TABLE_WORDS),
+        ("PATH_WORDS", rewrites::PATH_WORDS),
         ("REVIEW_LINES", rewrites::REVIEW_LINES),
         ("REVIEW_TABLES", rewrites::REVIEW_TABLES),
         ("REVIEW_WORDS", rewrites::REVIEW_WORDS),
