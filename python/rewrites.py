@@ -68,6 +68,7 @@ CONDITION_BYTES = 1024
 PARTS = 64
 PART_WORDS = 16
 TABLE_WORDS = 1024
+PATH_WORDS = 1025
 REVIEW_LINES = 32
 REVIEW_TABLES = 128
 REVIEW_WORDS = 2048
@@ -357,6 +358,27 @@ class Tabulated:
 
 
 @dataclass(frozen=True)
+class Path:
+    """The statements that a path comes by, and where it goes round for ever the entry of them, counted from 1, to which the last one steps back.
+    Where turn is None it goes on by any steps that exist."""
+
+    statements: Tuple[int, ...]
+    turn: Optional[int]
+
+    @property
+    def round(self) -> Tuple[int, ...]:
+        """The statements that the path goes round by, none where it has no turn."""
+        return self.statements[self.turn - 1 :] if self.turn else ()
+
+
+@dataclass(frozen=True)
+class NoPath:
+    """No path shows what is asked for; and whether it is true."""
+
+    truth: bool
+
+
+@dataclass(frozen=True)
 class Reviewed:
     """The number of tables and of lines; for each line its table, its number of parts, how many statements satisfy it, and the first of
     them, 0 if none."""
@@ -542,6 +564,31 @@ def review(program: Text, conditions: Text) -> Reviewed:
     _call("review", text, len(text), conditions, len(conditions), words, REVIEW_WORDS, tables, lines, *of_lines)
     told = (tuple(entries[: lines.value]) for entries in of_lines)
     return Reviewed(tables.value, lines.value, *told, _table(words, tables.value))
+
+
+def witness(program: Text, condition: Text, part: int, statement: int) -> Union[Path, NoPath]:
+    """Tells a path that shows why a part of a condition, counted from 0 as in its table, is true at a statement, counted from 1, or why it is
+    false: one that bears out E of the part's path operator, or speaks against A of it. Negations before the operator are looked through. Where
+    E is false, A true, or the part has no path operator outside, the part's truth is told, and so for a part or a statement that doesn't exist.
+
+    >>> program = 'read i0\\ni1 := 7\\nif i0 goto 2 else 4\\nwrite i1\\n'
+    >>> witness(program, 'EF exit', 1, 1)
+    Path(statements=(1, 2, 3, 4), turn=None)
+    >>> answer = witness(program, 'AF exit', 1, 1)
+    >>> answer, answer.round
+    (Path(statements=(1, 2, 3), turn=2), (2, 3))
+    >>> witness(program, 'AF exit', 1, 4), witness(program, '!EF exit', 2, 5)
+    (NoPath(truth=True), NoPath(truth=False))
+    """
+    text, condition = _bytes("program", program), _bytes("condition", condition)
+    _within("part", part, 0, 2**32 - 1, ValueError)
+    _within("statement", statement, 0, 2**32 - 1, ValueError)
+    words = _array(ctypes.c_uint32, PATH_WORDS)
+    length, turn, truth = ctypes.c_uint32(), ctypes.c_uint32(), ctypes.c_uint32()
+    _call("witness", text, len(text), condition, len(condition), part, statement, words, PATH_WORDS, length, turn, truth)
+    if length.value:
+        return Path(tuple(words[: length.value]), turn.value or None)
+    return NoPath(truth.value == 1)
 
 
 def force(program: Text, driver: Text, condition: Text) -> Forced:
@@ -873,6 +920,7 @@ _PARAMETERS = {
     "prices": _TEXT + [_U32],
     "tabulate": _TEXT + _TEXT + [_U64, ctypes.c_size_t, _U32, _U32, _U32],
     "review": _TEXT + _TEXT + [_U64, ctypes.c_size_t, _U32, _U32, _U32, _U32, _U32, _U32],
+    "witness": _TEXT + _TEXT + [ctypes.c_uint32, ctypes.c_uint32, _U32, ctypes.c_size_t, _U32, _U32, _U32],
     "force": _TEXT + _TEXT + _TEXT + [_U64, ctypes.c_size_t, _U32, _U32, _U32, _U32, _U8],
     "judge": _TEXT + _TEXT + [_U8, ctypes.c_size_t, _U8, ctypes.c_size_t, _U32, _U32, _U32],
     "report": _TEXT + _TEXT + [_U32, _U32, _U32, _U32, _U32, _U32, _I32],
