@@ -252,6 +252,13 @@ impl Fault {
         }
     }
 
+    /// An option names one of a kind that there isn't: there are so many.
+    pub fn no_such(option: &str, kind: &str, number: u32, most: u32) -> Fault {
+        let words = format!("no such {kind}");
+        let found = Some(number.to_string());
+        Fault { found, ..Fault::of_file(Path::new(option), words, &format!("1 to {most}")) }
+    }
+
     /// A file can't be read.
     pub fn unread(path: &Path, why: &Unread) -> Fault {
         let expected = "a file of at most 65,535 bytes";

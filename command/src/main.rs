@@ -17,6 +17,7 @@ mod list;
 mod marks;
 mod output;
 mod parts;
+mod path;
 mod price;
 mod review;
 mod run;
