@@ -15,6 +15,10 @@
      nearer to 0 than the divisor, and 0 or of the dividend's sign, but at the end of the range;
    - `use` holds at the last statement of what is written and of what the unit keeps, i24 to i31;
    - `!` in front of a condition complements its row and keeps the others;
+   - a path for a part of a condition at a statement starts there and goes by the program's steps, and its turn is one of
+     them. There is one where the row of the operator has E true, or A false, and no other; each statement but
+     the last has the same row's truth, and without a path the truth is the part's own. Whatever part and statement are asked
+     for, the refusals are those of the table;
    - a review is refused for its first line that is refused alone, its tables are those of its lines'
      parts alone, and there is one for each part that is spelled differently, in the order of endings;
    - a driver's list is refused exactly where it isn't names with single spaces between, or has one twice;
@@ -78,6 +82,7 @@
 #define SET_WORDS (2 * PART_WORDS)
 #define LIST_WORDS (VARIABLES * SET_WORDS)
 #define LONGEST 1024
+#define PATH_WORDS (STATEMENTS + 1)
 #define VERDICT_BYTES MARKS
 #define TEXT_BYTES (34 * STATEMENTS)
 #define MOST_READERS 20
@@ -544,8 +549,131 @@ static uint8_t tabulate(struct text program, struct text condition, size_t room,
 
 static int holds(const uint64_t *row, size_t n) { return row[(n - 1) / 64] >> (n - 1) % 64 & 1; }
 
+/* Paths */
+
+/* Whether one statement of a program steps to another; backward, whether the other does, or nothing steps to the one
+   and it is the other too. */
+static int steps_to(struct text program, size_t from, size_t to) {
+    unsigned tested, then, other;
+    char line[64];
+
+    copy_line(program, from, line);
+    if (sscanf(line, "if i%u goto %u else %u", &tested, &then, &other) == 3) return to == then || to == other;
+    return to == from + (strncmp(line, "write", 5) != 0);
+}
+
+static int steps_back(struct text program, size_t from, size_t to) {
+    size_t lines = lines_of(program);
+
+    if (from != to) return to < lines && steps_to(program, to, from);
+    for (size_t n = 1; n < lines; n++)
+        if (steps_to(program, n, from)) return from < lines && steps_to(program, from, from);
+    return 1;
+}
+
+struct path {
+    uint32_t length, turn, truth, statements[PATH_WORDS];
+};
+
+static uint8_t witness(struct text program, struct text condition, uint32_t part, uint32_t statement,
+                       size_t room, struct path *answer) {
+    uint32_t places[7];
+    uint32_t *words = (uint32_t *)(void *)lend(&tables, room * sizeof *words);
+    uint8_t number;
+
+    unset(places, 7);
+    number = rewrites_witness(program.bytes, program.length, condition.bytes, condition.length, part,
+                              statement, words, room, &places[1], &places[3], &places[5]);
+    for (size_t k = 0; k < 7; k++) REQUIRE((number == 0 && k % 2 == 1) || places[k] == UNSET);
+    if (number == 0) {
+        answer->length = places[1];
+        answer->turn = places[3];
+        answer->truth = places[5];
+        /* A path keeps the truth. */
+        REQUIRE(answer->length == 0 ? answer->truth <= 1 && answer->turn == 0 : answer->truth == UNSET);
+        REQUIRE(answer->length <= STATEMENTS && answer->turn <= answer->length);
+        set(&tables, (uint8_t *)words, answer->length * sizeof *words);
+        memcpy(answer->statements, words, answer->length * sizeof *words);
+    }
+    require_kept(&tables);
+    return number;
+}
+
+/* The path of a part, whose text ends where the condition does where it is the last, at a statement. */
+static void check_path(struct text program, struct text condition, const struct table *table, uint32_t part,
+                       uint32_t statement) {
+    static struct path answer;
+    const uint64_t *row = table->words + PART_WORDS * part;
+    size_t lines = lines_of(program), depth = 0;
+    int is_back, is_all, is_true;
+    const uint8_t *text = condition.bytes;
+
+    REQUIRE(witness(program, condition, part, statement, PATH_WORDS, &answer) == 0);
+    if (statement < 1 || statement > lines || part >= table->parts) {
+        REQUIRE(answer.length == 0 && answer.truth == 0);
+        return;
+    }
+    is_true = holds(row, statement);
+    if (answer.length == 0) REQUIRE(answer.truth == (uint32_t)is_true);
+    met(OF_CALLS, 1500 + (answer.length > 0) + 2 * (answer.turn > 0) + 4 * (answer.length > 8));
+    if (part + 1 < table->parts) return;
+
+    /* Of the whole condition the operator is known by its text: `!` before it are looked through. */
+    while (depth < condition.length && text[depth] == '!') depth++;
+    if (depth == condition.length || (text[depth] != 'E' && text[depth] != 'A')) {
+        REQUIRE(answer.length == 0);
+        return;
+    }
+    is_all = text[depth] == 'A';
+    REQUIRE((answer.length > 0) == (((is_true + depth) % 2 != 0) != is_all));
+    if (answer.length == 0) return;
+    if (text[depth + 1] == '[') {
+        /* The letter between the operands, at the depth of this bracket. */
+        size_t open = 0, at = depth + 1;
+
+        for (;; at++) {
+            open += text[at] == '[' || text[at] == '(';
+            open -= text[at] == ']' || text[at] == ')';
+            if (open == 1 && text[at] == ' ' && strchr("UWSB", text[at + 1]) && text[at + 2] == ' ') break;
+        }
+        is_back = text[at + 1] == 'S' || text[at + 1] == 'B';
+    } else {
+        is_back = strchr("YRM", text[depth + 1]) != NULL;
+    }
+    REQUIRE(answer.statements[0] == statement);
+    for (size_t k = 0; k < answer.length; k++) {
+        size_t from = answer.statements[k];
+        size_t next = k + 1 < answer.length ? k + 1 : answer.turn > 0 ? answer.turn - 1 : k;
+
+        REQUIRE(from >= 1 && from <= lines);
+        /* From each statement the rest of the path shows the operator, but for that of X and Y. */
+        if (!strchr("XY", text[depth + 1])) REQUIRE(holds(row, from) == is_true);
+        if (next != k || answer.turn == answer.length) {
+            size_t to = answer.statements[next];
+
+            REQUIRE(to >= 1 && to <= lines);
+            REQUIRE(is_back ? steps_back(program, from, to) : steps_to(program, from, to));
+        }
+    }
+}
+
+static void check_paths(struct text program, struct text condition, const struct table *table) {
+    static struct path answer;
+    const uint32_t lines = (uint32_t)lines_of(program), last = table->parts - 1;
+
+    REQUIRE(witness(program, condition, last, 1, PATH_WORDS - 1, &answer) == 1);
+    for (uint32_t n = 0; n <= lines + 1; n += lines > 40 && n > 4 ? lines / 8 : 1) {
+        check_path(program, condition, table, last, n);
+        check_path(program, condition, table, n % table->parts, n);
+    }
+    check_path(program, condition, table, last, lines);
+    check_path(program, condition, table, table->parts, 1);
+    check_path(program, condition, table, UINT32_MAX, UINT32_MAX);
+}
+
 static uint8_t check_condition(struct text program, struct text condition, uint8_t refused) {
     static struct table answer, opposite;
+    static struct path path;
     static uint8_t longer[1025];
     size_t lines = lines_of(program), count = 0, first = 0;
     uint8_t number = tabulate(program, condition, TABLE_WORDS, &answer);
@@ -553,6 +681,7 @@ static uint8_t check_condition(struct text program, struct text condition, uint8
 
     REQUIRE(tabulate(program, condition, TABLE_WORDS - 1, &opposite) == 1);
     met(OF_CALLS, 16 + number);
+    REQUIRE(witness(program, condition, 0, 1, PATH_WORDS, &path) == number);
     if (refused != 0) {
         REQUIRE(number == refused);
         return number;
@@ -560,6 +689,7 @@ static uint8_t check_condition(struct text program, struct text condition, uint8
     REQUIRE((condition.length > 1024) == (number == 6));
     REQUIRE(number == 0 || (number >= 6 && number <= 8));
     if (number != 0) return number;
+    check_paths(program, condition, &answer);
     met(OF_CALLS, 512 + answer.parts);
     met_text(OF_CONDITIONS, condition.bytes, condition.length);
     for (size_t k = 0; k < answer.parts; k++)
