@@ -99,18 +99,22 @@ function led(path, turn) {
   return path.join(' \u2192 ') + (turn === null ? '' : ' \u2192 ' + path[turn - 1] + ' and so on for ever');
 }
 
-// Shows the places of a path in the last cells of rows, a row for each statement.
+// Shows the places of a path in a last column of a table with a row for each statement; without a path there is no such column.
 function lay(rows, places) {
+  const head = rows[0].closest('table').tHead.rows[0];
+  if (head.lastChild.className === 'step') [head, ...rows].forEach(tr => tr.lastChild.remove());
+  rows.forEach(tr => tr.classList.toggle('path', false));
+  if (places.size === 0) return;
+  make('th', 'path', head, 'step').scope = 'col';
   rows.forEach((tr, i) => {
     const text = places.get(i + 1) ?? '';
-    tr.lastChild.textContent = text;
+    make('td', text, tr, 'step');
     tr.classList.toggle('path', text !== '');
   });
-  rows[0].closest('table').classList.toggle('pathed', places.size > 0);
 }
 
-// A table with a row for each statement and a column for each of the columns, the leading one first. The last column has the places of a
-// path: one is asked for where a row of a column is chosen.
+// A table with a row for each statement and a column for each of the columns, the leading one first. A path is asked for where
+// a row of a column is chosen.
 function marked(at, list, source, columns, lead, caption) {
   const table = make('table', null, null, 'marked' + (lead ? ' led' : '') + (columns.length > 20 ? ' many' : ''));
   make('caption', caption, table);
@@ -127,7 +131,6 @@ function marked(at, list, source, columns, lead, caption) {
   if (lead) head(columns[sorted[0]], 'whole');
   for (const [text, name] of [['n', 'number'], ['statement', 'text']]) { make('th', text, row, name).scope = 'col'; }
   for (const k of lead ? sorted.slice(1) : sorted) head(columns[k]);
-  make('th', 'path', row, 'step').scope = 'col';
   const held = columns.map(column => new Set(column.statements));
   const body = make('tbody', null, table), rows = [];
   source.forEach((text, i) => {
@@ -140,7 +143,6 @@ function marked(at, list, source, columns, lead, caption) {
     const statement = make('th', text, tr, 'text');
     statement.scope = 'row';
     for (const k of lead ? sorted.slice(1) : sorted) cell(k);
-    make('td', '', tr, 'step');
     rows.push(tr);
   });
   at.replaceChildren(table);
