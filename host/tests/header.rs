@@ -102,7 +102,7 @@ fn snippet_program() -> String {
             program += &format!("if (!({})) return {checks};\n", held(told));
         }
     }
-    assert_eq!((calls, checks), (13, 13));
+    assert_eq!((calls, checks), (14, 14));
     program + "return refused ? 100 : 0;\n}\n"
 }
 
@@ -113,6 +113,9 @@ fn held(told: &str) -> &'static str {
             "ended == REWRITES_ENDED && value == 9 && steps == 12 && ticks == 36"
         }
         "4, 4, 4" => "parts == 4 && satisfied == 4 && first == 4",
+        "5 6 7 4, turn 0" => {
+            "path_length == 4 && path[0] == 5 && path[1] == 6 && path[2] == 7 && path[3] == 4 && turn == 0"
+        }
         "5, 3" => "tables == 5 && lines == 3",
         "1, 1, 8" => "parts == 1 && satisfied == 1 && first == 8",
         "2, 1, 100" => "marks == 2 && accepted == 1 && bytes == 100",
