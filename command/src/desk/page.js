@@ -147,12 +147,13 @@ function marked(at, list, source, columns, lead, caption) {
   });
   at.replaceChildren(table);
 
-  let fixed = -1;
+  let fixed = -1, found = null; // the column that is held, and what is told of the path that is shown
   function show(k, n) {
     columns.forEach((_, j) => { items[j].parentNode.className = j === k ? 'on' : ''; });
     heads.forEach((th, j) => th.classList.toggle('on', sorted[j] === k));
     rows.forEach((tr, i) => { tr.classList.toggle('on', k >= 0 && held[k].has(i + 1)); });
     if (k < 0) return;
+    if (found && found.k === k && (n === undefined || n === found.n)) { by('told').textContent = found.words; return; }
     const here = n === undefined ? '' : ' Statement ' + n + ': ' + (held[k].has(n) ? 'true.' : 'false.');
     by('told').textContent = columns[k].label + '  ' + columns[k].text + ': true at ' + columns[k].satisfied + ' of ' + source.length + '.' + here;
   }
@@ -168,22 +169,31 @@ function marked(at, list, source, columns, lead, caption) {
     const at = rows.indexOf(element.closest('tr'));
     return at < 0 ? undefined : at + 1;
   }
-  table.addEventListener('mouseover', e => { const k = column(e.target); if (k >= 0) show(k, statement(e.target)); });
+  // A table that grows under a pointer at rest tells nothing new.
+  let rest = '';
+  table.addEventListener('mousemove', e => { rest = e.screenX + ' ' + e.screenY; });
+  table.addEventListener('mouseover', e => {
+    const k = column(e.target), place = e.screenX + ' ' + e.screenY;
+    if (k >= 0 && place !== rest) show(k, statement(e.target));
+    rest = place;
+  });
   table.addEventListener('mouseleave', () => show(fixed));
   table.addEventListener('focusin', e => { const k = column(e.target); if (k >= 0) show(k); });
-  function hold(k) { fixed = fixed === k ? -1 : k; lay(rows, new Map()); show(k); }
+  function hold(k) { fixed = fixed === k ? -1 : k; found = null; lay(rows, new Map()); show(k); }
   // Asks for the path of a column at a statement. Of two that are asked for the later is shown.
   let asked = 0;
   async function lead_to(k, n) {
     const mine = ++asked;
     fixed = k;
+    found = null;
     show(k, n);
     try {
       const answer = await ask('witness', { condition: columns[k].condition, part: columns[k].part, statement: n });
       if (mine !== asked || !('truth' in answer)) return;
       lay(rows, answer.path ? order(answer.path, answer.turn) : new Map());
       const shown = answer.path ? 'as this path shows: ' + led(answer.path, answer.turn) : 'no path shows it';
-      by('told').textContent = columns[k].label + '  ' + columns[k].text + ': ' + answer.truth + ' at ' + n + ', ' + shown + '.';
+      found = { k, n, words: columns[k].label + '  ' + columns[k].text + ': ' + answer.truth + ' at ' + n + ', ' + shown + '.' };
+      show(k, n);
     } catch (error) {
       if (mine === asked) trouble(error.message);
     }
