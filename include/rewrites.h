@@ -95,6 +95,16 @@ enum rewrites_verdict {
     REWRITES_MAY_FAULT = 18   /* it drops a division that may fault */
 };
 
+/* What the last statement of a path does that rewrites_why tells, as *culprit. */
+enum rewrites_culprit {
+    REWRITES_NO_CULPRIT = 0,
+    REWRITES_USED = 1,              /* it uses the variable */
+    REWRITES_USED_BY_CSE = 2,       /* an accepted `cse` of the list makes it use the variable */
+    REWRITES_REDEFINED = 3,         /* it defines the variable otherwise */
+    REWRITES_OPERAND_REDEFINED = 4, /* it defines a variable of A or E */
+    REWRITES_NOTHING_COPIED = 5     /* it is statement 1: nothing was copied yet */
+};
+
 /* What rewrites_run puts into *ended. */
 enum rewrites_outcome { REWRITES_SPENT = 0, REWRITES_ENDED = 1, REWRITES_FAULT = 2 };
 
@@ -336,6 +346,33 @@ uint8_t rewrites_force(const uint8_t *program, size_t program_len, const uint8_t
 uint8_t rewrites_judge(const uint8_t *program, size_t program_len, const uint8_t *marks,
                        size_t marks_len, uint8_t *verdicts, size_t verdicts_len, uint8_t *text,
                        size_t text_len, uint32_t *mark_count, uint32_t *accepted, uint32_t *bytes);
+
+/* Tells why a mark of a list gets verdict 14: a path from its statement n on that speaks against its
+   condition. The list is judged as by rewrites_judge; line j, counted from 0, is the one whose verdict
+   fills byte j.
+   rm       forward, by at least one step, to a statement that uses X, none between defining X. A use that
+            an accepted `cse` of the list adds counts.
+   rpl, cse backward, by at least one step, to a statement that defines X or a variable of A or E, or to
+            statement 1, with no copy `X := A` on the way, or no `T := E` that leaves E as it was. A statement
+            that nothing steps to, as the first, steps back to itself.
+   No path that does so is shorter. Takes at most 512 KiB of stack.
+
+   Returns 0, and sets
+   *verdict   the verdict of the line, 11 for one that the list hasn't.
+   path       with verdict 14: the first *length words to the path's statements, n first. All further words are
+              kept, and all words with another verdict.
+   *length    with verdict 14: how many statements the path has, 2 to 1,025; else 0.
+   *culprit   with verdict 14: what the last of them does, the first that applies of an enum rewrites_culprit;
+              else 0.
+
+   Returns the number of a refusal, and keeps all:
+    1: the path has under 1,025 words.
+    2 to 5: the program, as with rewrites_run.
+    9: some line of the marks is misspelled, or the last is without its byte 10.
+   10: the marks have over 1,024 lines. */
+uint8_t rewrites_why(const uint8_t *program, size_t program_len, const uint8_t *marks, size_t marks_len,
+                     uint32_t line, uint32_t *path, size_t path_len, uint32_t *verdict, uint32_t *length,
+                     uint32_t *culprit);
 
 /* Tells the price of each statement in ticks, before and after the accepted marks of a list are made,
    and the totals. The list is judged as by rewrites_judge, and the prices are those of the table that

@@ -701,6 +701,68 @@ impl fmt::Display for Verdict {
     }
 }
 
+/// What the last statement of a path does that speaks against a mark.
+#[derive(Clone, Copy, Debug, PartialEq, Eq, Hash)]
+#[repr(u8)]
+pub enum Culprit {
+    /// It uses the variable that an `rm` would leave unset.
+    Used = 1,
+    /// An accepted `cse` of the list makes it use that variable.
+    UsedByCse = 2,
+    /// It defines the variable of an `rpl` or a `cse` otherwise.
+    Redefined = 3,
+    /// It defines a variable of A or E.
+    OperandRedefined = 4,
+    /// It is statement 1: nothing was copied yet.
+    NothingCopied = 5,
+}
+
+impl Culprit {
+    /// Every culprit, in the order of their numbers.
+    pub const ALL: [Culprit; 5] = [
+        Culprit::Used,
+        Culprit::UsedByCse,
+        Culprit::Redefined,
+        Culprit::OperandRedefined,
+        Culprit::NothingCopied,
+    ];
+
+    /// The number by which the library names the culprit.
+    pub fn number(self) -> u8 {
+        self as u8
+    }
+}
+
+impl fmt::Display for Culprit {
+    fn fmt(&self, f: &mut fmt::Formatter<'_>) -> fmt::Result {
+        f.write_str(match self {
+            Culprit::Used => "the last statement uses the variable",
+            Culprit::UsedByCse => "an accepted cse makes the last statement use the variable",
+            Culprit::Redefined => "the last statement defines the variable",
+            Culprit::OperandRedefined => "the last statement defines a variable of the right side",
+            Culprit::NothingCopied => "statement 1: nothing was copied yet",
+        })
+    }
+}
+
+/// A path that speaks against a mark.
+#[derive(Clone, Debug, PartialEq, Eq, Hash)]
+pub struct Reason {
+    /// Its statements, counted from 1: the mark's own first, and the culprit last.
+    pub path: Vec<u32>,
+    /// What the last of them does.
+    pub culprit: Culprit,
+}
+
+/// What [`why`] answers.
+#[derive(Clone, Debug, PartialEq, Eq, Hash)]
+pub struct Because {
+    /// The verdict of the line.
+    pub verdict: Verdict,
+    /// With [`Verdict::Unmet`], and only then, a path.
+    pub reason: Option<Reason>,
+}
+
 /// What a finished [`join`] answers.
 #[derive(Clone, Copy, Debug, PartialEq, Eq)]
 pub struct Joined {
@@ -1363,6 +1425,69 @@ pub fn judge(
         return Err(Refusal::returned(number));
     }
     Ok(Judged { marks: mark_count, accepted, bytes })
+}
+
+/// Tells why a line of a list of marks, counted from 0, gets [`Verdict::Unmet`]: a path from its statement on that
+/// speaks against its condition. The list is judged as by [`judge`].
+///
+/// For `rm` the path goes forward to a statement that uses X, none between defining X; a use that an accepted `cse` of
+/// the list adds counts. For `rpl` and `cse` it goes backward to a statement that defines X or a variable of A or E, or
+/// to statement 1, with no copy on the way. It has at least one step, and no such path is shorter.
+///
+/// A line that the list hasn't gets [`Verdict::Missing`].
+///
+/// Takes at most 512 KiB of stack.
+///
+/// # Errors
+///
+/// For the program, [`Refusal::Misspelled`], [`Refusal::LineCount`], [`Refusal::Placement`] or
+/// [`Refusal::Target`]; else, for the marks, [`Refusal::MarkMisspelled`] or [`Refusal::MarkCount`].
+///
+/// ```
+/// use rewrites::{why, Because, Culprit, Reason, Verdict};
+///
+/// let program = b"read i0\ni1 := 7\nif i0 goto 4 else 5\ni1 := i1 + i0\ni2 := i1\nwrite i2\n";
+/// let marks = b"2: mark(rm, i1, 7)\n5: mark(rpl, i1, 7)\n4: mark(rpl, i1, 7)\n";
+///
+/// // Statement 4 uses i1, by way of 3; and so does 5.
+/// let answer = why(program, marks, 0)?;
+/// assert_eq!(answer.verdict, Verdict::Unmet);
+/// let reason = answer.reason.unwrap();
+/// assert_eq!((reason.path.len(), reason.culprit), (3, Culprit::Used));
+///
+/// // Before 5, statement 4 may have set i1 otherwise.
+/// let reason = Reason { path: vec![5, 4], culprit: Culprit::Redefined };
+/// assert_eq!(why(program, marks, 1)?, Because { verdict: Verdict::Unmet, reason: Some(reason) });
+/// assert_eq!(why(program, marks, 2)?, Because { verdict: Verdict::Accepted, reason: None });
+/// # Ok::<(), rewrites::Refusal>(())
+/// ```
+pub fn why(program: &[u8], marks: &[u8], line: u32) -> Result<Because, Refusal> {
+    let mut path = vec![0; PATH_WORDS];
+    let (mut verdict, mut length, mut culprit) = (0, 0, 0);
+    // SAFETY: the pointers come from references, so none is null, and those that are written
+    // through are the only ones to their places.
+    let number = unsafe {
+        raw::rewrites_why(
+            program.as_ptr(),
+            program.len(),
+            marks.as_ptr(),
+            marks.len(),
+            line,
+            path.as_mut_ptr(),
+            path.len(),
+            &mut verdict,
+            &mut length,
+            &mut culprit,
+        )
+    };
+    if number != 0 {
+        return Err(Refusal::returned(number));
+    }
+    path.truncate(length as usize);
+    let found = Verdict::ALL.iter().find(|v| u32::from(v.number()) == verdict);
+    let verdict = *found.unwrap_or_else(|| unreachable!("{} is no verdict", verdict));
+    let culprit = Culprit::ALL.iter().find(|c| u32::from(c.number()) == culprit);
+    Ok(Because { verdict, reason: culprit.map(|&culprit| Reason { path, culprit }) })
 }
 
 /// Tells the price of each statement of a program in ticks, before and after the accepted marks of a list

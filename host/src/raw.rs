@@ -131,6 +131,26 @@ extern "C" {
         bytes: *mut u32,
     ) -> u8;
 
+    /// See [`crate::why`] and the header.
+    ///
+    /// # Safety
+    ///
+    /// `program` points to `program_len` bytes, `marks` to `marks_len` bytes and `path` to `path_len`
+    /// words; each of them may be null where its length is 0. No other pointer is null. Places that the
+    /// call writes overlap no other place lent to it.
+    pub fn rewrites_why(
+        program: *const u8,
+        program_len: usize,
+        marks: *const u8,
+        marks_len: usize,
+        line: u32,
+        path: *mut u32,
+        path_len: usize,
+        verdict: *mut u32,
+        length: *mut u32,
+        culprit: *mut u32,
+    ) -> u8;
+
     /// See [`crate::report`] and the header.
     ///
     /// # Safety

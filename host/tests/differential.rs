@@ -21,7 +21,7 @@ use oracle::listing::{self, Counts, Set};
 use oracle::liveness::{differing, Liveness};
 use oracle::machine::{self, kept_of, Outcome, Run, State, Values};
 use oracle::marks::{self, Judge, Kind, Mark};
-use oracle::paths::{self, check_witness, Witnessed};
+use oracle::paths::{self, check_why, check_witness, Because, Witnessed};
 use oracle::pricing::{self, in_force, kind, Prices, KIND_NAMES, OURS};
 use oracle::program::{is_kept, Expression, Operand, Operator, Program, Statement, LARGEST, LEAST};
 use oracle::review::{self, Reviewed, MOST_TABLES};
@@ -2198,6 +2198,8 @@ fn chain(random: &mut Random, size: usize) -> Program {
 const LENGTH: usize = 0;
 const TURN: usize = 2;
 const TRUTH: usize = 4;
+const VERDICT: usize = 2;
+const CULPRIT: usize = 4;
 const PATH_PLACES: usize = 5;
 
 /// Steps through what is told of a part at a statement, and tells what it is.
@@ -2440,6 +2442,184 @@ fn paths_of_conditions_are_right_when_stepped_through() {
     rooms.report();
     of_programs.report();
     of_conditions.report();
+}
+
+/// Steps through what is told of a line of marks, and tells what it is.
+fn why_agrees(
+    random: &mut Random,
+    case: &str,
+    (program, list): (&[u8], &[u8]),
+    line: u32,
+    room: usize,
+) -> Result<Because, u8> {
+    let (mut given, mut asked) = (Text::new(random, program), Text::new(random, list));
+    let mut path = Lent::new(random, room, |bits| bits as u32);
+    let mut places = Lent::new(random, PATH_PLACES, |bits| bits as u32);
+    let (mut expected, mut expected_places) = (path.clone(), places.clone());
+    let read = if room < PATH_WORDS {
+        Err(1)
+    } else {
+        Program::read(program).and_then(|read| Ok((read, marks::read(list)?)))
+    };
+    let shown = || {
+        let (program, list) = (escaped(program), escaped(list));
+        format!("case {case}: line {line}, {room} words, program {program} marks {list}")
+    };
+    let (program, list) = (given.part(), asked.part());
+    let (words, set) = (path.part(), places.part());
+    // SAFETY: the pointers come from references, and no two of the written places overlap.
+    let number = unsafe {
+        raw::rewrites_why(
+            program.as_ptr(),
+            program.len(),
+            list.as_ptr(),
+            list.len(),
+            line,
+            words.as_mut_ptr(),
+            words.len(),
+            set.as_mut_ptr().add(VERDICT),
+            set.as_mut_ptr().add(LENGTH),
+            set.as_mut_ptr().add(CULPRIT),
+        )
+    };
+    assert_eq!(number, read.as_ref().err().copied().unwrap_or(0), "number of {}", shown());
+    let answer = read.map(|(program, list)| {
+        let (verdict, length, culprit) = (set[VERDICT], set[LENGTH] as usize, set[CULPRIT]);
+        assert!(length <= room && verdict < 256, "{length} statements of {}", shown());
+        let expected_set = expected_places.part();
+        (expected_set[VERDICT], expected_set[LENGTH]) = (verdict, length as u32);
+        expected_set[CULPRIT] = culprit;
+        let path = words[..length].to_vec();
+        expected.part()[..length].copy_from_slice(&path);
+        let told = Because { verdict: verdict as u8, path, culprit };
+        if let Err(wrong) = check_why(&program, &list, line, &told) {
+            panic!("{wrong}: {told:?} of {}", shown());
+        }
+        told
+    });
+    path.assert_same(&expected, "path", shown);
+    places.assert_same(&expected_places, "places", shown);
+    given.assert_kept("program", shown);
+    asked.assert_kept("marks", shown);
+    answer
+}
+
+/// The marks with a path, by what its last statement does.
+const REASONS: [&str; 8] = [
+    "rm, used",
+    "rm, used by an accepted cse",
+    "rpl, redefined",
+    "rpl, operand redefined",
+    "rpl, nothing copied",
+    "cse, redefined",
+    "cse, operand redefined",
+    "cse, nothing copied",
+];
+
+fn reason_kind(mark: &Mark, culprit: u32) -> &'static str {
+    match (mark.kind, culprit) {
+        (Kind::Remove(_), paths::USED) => REASONS[0],
+        (Kind::Remove(_), _) => REASONS[1],
+        (Kind::Replace(_), paths::REDEFINED) => REASONS[2],
+        (Kind::Replace(_), paths::OPERAND_REDEFINED) => REASONS[3],
+        (Kind::Replace(_), _) => REASONS[4],
+        (Kind::Reuse(_), paths::REDEFINED) => REASONS[5],
+        (Kind::Reuse(_), paths::OPERAND_REDEFINED) => REASONS[6],
+        (Kind::Reuse(_), _) => REASONS[7],
+    }
+}
+
+#[test]
+fn reasons_of_refused_marks_are_right_when_stepped_through() {
+    let mut refusals = Tally::new("refusals of why", [1, 2, 3, 4, 5, 9, 10]);
+    let mut sizes = Tally::new("sizes of programs with reasons", sizes_of_programs());
+    let mut counts = Tally::new("marks of a list with reasons", mark_counts());
+    let mut kinds = Tally::new("lines asked why", LINE_KINDS);
+    let mut verdicts = Tally::new("verdicts with reasons", [0, 11, 12, 13, 18, 14]);
+    let mut reasons = Tally::new("reasons", REASONS);
+    let mut lengths = Tally::new("statements of a reason", 2..=20);
+    let mut rooms = rooms("words of a reason", PATH_WORDS);
+    let mut of_programs = damages("damages of programs with reasons");
+    let mut of_lists = damages("damages of lists with reasons");
+    let mut ends = Tally::new(
+        "reasons",
+        ["round to the mark's statement", "back to a statement that nothing steps to"],
+    );
+    for (case, mut random) in cases("why") {
+        let random = &mut random;
+        let program = program(random, case);
+        let mut text = program.text();
+        let count = mark_count(random, case, (program.count() as usize + 4).min(40));
+        let mut list = marks::text(&generate::marks(random, &program, count));
+        let mut words = PATH_WORDS + random.below(3);
+        if !is_whole(case) {
+            match random.below(40) {
+                0 | 1 => damaged(random, &mut text, &mut of_programs),
+                2 => text = miscounted(random),
+                _ => {}
+            }
+            match random.below(20) {
+                0 => damaged(random, &mut list, &mut of_lists),
+                _ => {}
+            }
+            words = room(random, PATH_WORDS);
+        }
+        rooms.met(words);
+        // Mostly a line that gets 14, where there is one.
+        let read = Program::read(&text).and_then(|read| Ok((read, marks::read(&list)?)));
+        let unmet: Vec<usize> = read.as_ref().map_or_else(
+            |_| Vec::new(),
+            |(program, list)| {
+                let verdicts = Judge::new(program).verdicts(list);
+                (0..list.len()).filter(|&line| verdicts[line] == 14).collect()
+            },
+        );
+        let line = match random.below(4) {
+            0 => line_near(random, count),
+            _ if unmet.is_empty() => line_near(random, count),
+            _ => random.pick(&unmet) as u32,
+        };
+        let told = match why_agrees(random, &case.to_string(), (&text, &list), line, words) {
+            Ok(told) => told,
+            Err(number) => {
+                refusals.met(number);
+                continue;
+            }
+        };
+        let (program, list) = read.expect("they are taken");
+        sizes.met(program.count());
+        counts.met(list.len());
+        kinds.met(line_kind(line, list.len()));
+        verdicts.met(told.verdict);
+        if told.verdict != 14 {
+            continue;
+        }
+        let mark = &list[line as usize];
+        reasons.met(reason_kind(mark, told.culprit));
+        lengths.met(told.path.len());
+        if told.path[1..].contains(&mark.number) {
+            ends.met("round to the mark's statement");
+        }
+        let steps = Steps::new(&program);
+        let last = told.path[told.path.len() - 1] as usize;
+        if last > 1
+            && steps.backward[last - 1] == [last - 1]
+            && !matches!(mark.kind, Kind::Remove(_))
+        {
+            ends.met("back to a statement that nothing steps to");
+        }
+    }
+    refusals.report();
+    sizes.report();
+    counts.report();
+    kinds.report();
+    verdicts.report();
+    reasons.report();
+    lengths.report();
+    rooms.report();
+    of_programs.report();
+    of_lists.report();
+    ends.report();
 }
 
 // Lines of marks

@@ -936,6 +936,58 @@ static int witness_answers(void) {
     return 0;
 }
 
+/* Reasons on P, each with its statements as digits. The places beside a path have other names here. */
+static int why_answers(void) {
+    uint8_t (*const why)(const uint8_t *, size_t, const uint8_t *, size_t, uint32_t, uint32_t *, size_t,
+                         uint32_t *, uint32_t *, uint32_t *) = rewrites_why;
+    static const char list[] =
+        "3: mark(rm, i2, 7)\n4: mark(rpl, i2, 7)\n8: mark(rpl, i3, i1)\n4: mark(rpl, i1, i0)\n"
+        "7: mark(rm, i2, 7)\n9: mark(rm, i2, 7)\n";
+    static const struct {
+        uint32_t line;
+        const char *path;
+        uint32_t verdict, culprit;
+    } asked[] = {
+        {0, "34", REWRITES_UNMET, REWRITES_USED},
+        {1, "", REWRITES_ACCEPTED, REWRITES_NO_CULPRIT},
+        {2, "854", REWRITES_UNMET, REWRITES_REDEFINED},
+        {3, "", REWRITES_REPEATED, REWRITES_NO_CULPRIT},
+        {4, "", REWRITES_UNFIT, REWRITES_NO_CULPRIT},
+        {5, "", REWRITES_MISSING, REWRITES_NO_CULPRIT},
+        {6, "", REWRITES_MISSING, REWRITES_NO_CULPRIT},
+        {0xffffffff, "", REWRITES_MISSING, REWRITES_NO_CULPRIT},
+    };
+    const uint8_t *p = (const uint8_t *)P, *m = (const uint8_t *)list;
+    const size_t length = strlen(P), size = strlen(list);
+    uint32_t memory[PATH + 8], *const path = memory + 4, places[PATH_PLACES];
+    uint32_t *const l = places + LENGTH, *const v = places + TURN, *const c = places + TRUTH;
+    size_t j, k;
+
+    for (k = 0; k < PATH + 8; k++) memory[k] = 700 + (uint32_t)k;
+    for (k = 0; k < PATH_PLACES; k++) places[k] = 900 + (uint32_t)k;
+    CHECK(why(p, length, m, size, 0, path, PATH - 1, v, l, c) == REWRITES_BUFFER);
+    CHECK(why(p, length - 1, m, size - 1, 0, path, PATH - 1, v, l, c) == 1);
+    CHECK(why(NULL, 0, NULL, 0, 0, NULL, 0, v, l, c) == 1);
+    CHECK(why(p, length - 1, m, size - 1, 0, path, PATH, v, l, c) == 2);
+    CHECK(why(NULL, 0, m, size - 1, 0, path, PATH, v, l, c) == 3);
+    CHECK(why(p, length, m, size - 1, 0, path, PATH, v, l, c) == 9);
+    for (k = 0; k < PATH + 8; k++) CHECK(memory[k] == 700 + k);
+    for (k = 0; k < PATH_PLACES; k++) CHECK(places[k] == 900 + k);
+
+    for (j = 0; j < sizeof asked / sizeof *asked; j++) {
+        for (k = 0; k < PATH + 8; k++) memory[k] = 700 + (uint32_t)k;
+        *l = 11, *v = 12, *c = 13;
+        CHECK(why(p, length, m, size, asked[j].line, path, PATH, v, l, c) == 0);
+        if (!told_so(memory, places, asked[j].path, asked[j].verdict, asked[j].culprit)) {
+            fprintf(stderr, "line %u of the marks\n", (unsigned)asked[j].line);
+            return 1;
+        }
+    }
+    *l = 11, *v = 12, *c = 13;
+    CHECK(why(p, length, NULL, 0, 0, path, PATH, v, l, c) == 0 && *v == 11 && *l == 0 && *c == 0);
+    return 0;
+}
+
 /* Where a text is wrong, and 0 where it is about no place. */
 static int blame_answers(void) {
     uint32_t (*const program)(const uint8_t *, size_t) = rewrites_blame_program;
@@ -974,5 +1026,5 @@ int main(void) {
            tabulate_answers() || force_answers() || review_answers() || full_review_answers() ||
            judge_answers() ||
            below_zero_answers() || mark_line_answers() || list_answers() || join_answers() ||
-           stages_answer() || witness_answers() || blame_answers();
+           stages_answer() || witness_answers() || why_answers() || blame_answers();
 }

@@ -3,7 +3,7 @@
 mod common;
 
 use common::{compiled, installed, linked_by, P};
-use rewrites::{Arm, Refusal, Verdict};
+use rewrites::{Arm, Culprit, Refusal, Verdict};
 use std::collections::BTreeMap;
 use std::path::{Path, PathBuf};
 use std::process::Command;
@@ -220,7 +220,7 @@ fn the_headers_sizes_are_this_crates() {
 }
 
 #[test]
-fn the_headers_refusals_verdicts_and_arms_are_this_crates() {
+fn the_headers_refusals_verdicts_arms_and_culprits_are_this_crates() {
     let numbers = numbers();
     for refusal in Refusal::ALL {
         // The name of a size is taken.
@@ -233,6 +233,10 @@ fn the_headers_refusals_verdicts_and_arms_are_this_crates() {
     for verdict in Verdict::ALL {
         let name = name_in_c(&format!("{verdict:?}"));
         assert_eq!(numbers.get(&name), Some(&u64::from(verdict.number())), "{name}");
+    }
+    for culprit in Culprit::ALL {
+        let name = name_in_c(&format!("{culprit:?}"));
+        assert_eq!(numbers.get(&name), Some(&u64::from(culprit.number())), "{name}");
     }
     for arm in [Arm::Goto, Arm::Else] {
         assert_eq!(numbers.get(&name_in_c(&format!("{arm:?}"))), Some(&(arm as u64)));
