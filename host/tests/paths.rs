@@ -4,7 +4,13 @@
 mod common;
 
 use common::{lines, refused_programs, text, P};
-use rewrites::{tabulate, witness, Path, Refusal, Table, Witnessed, STATEMENTS, TABLE_WORDS};
+use oracle::marks;
+use oracle::paths::{check_why, Shown};
+use oracle::program::Program;
+use rewrites::{tabulate, why, witness, Because, Culprit, Path, Reason, Refusal, Table, Verdict};
+use rewrites::{Witnessed, STATEMENTS, TABLE_WORDS};
+use std::fs;
+use std::path::Path as File;
 
 /// What is told of a whole condition at a statement.
 fn told<L: AsRef<str>>(program: &[L], condition: &str, statement: u32) -> Witnessed {
@@ -227,4 +233,184 @@ fn refused_texts() {
     assert_eq!(witness(&p, b"EX (exit)", 0, 1), Err(Refusal::ConditionMisspelled));
     let many = "!".repeat(64) + "true";
     assert_eq!(witness(&p, many.as_bytes(), 99, 99), Err(Refusal::ConditionParts));
+}
+
+// Reasons
+
+/// The reason of a line, counted from 0, of marks that stand between slashes.
+fn reason<L: AsRef<str>>(program: &[L], list: &str, line: u32) -> Option<Reason> {
+    let list: Vec<&str> = list.split(" / ").filter(|mark| !mark.is_empty()).collect();
+    let answer = why(&text(program), &text(&list), line).expect("they are taken");
+    assert_eq!(answer.reason.is_some(), answer.verdict == Verdict::Unmet);
+    answer.reason
+}
+
+/// The line's path and what its last statement does. No other path is as short.
+fn assert_reason<L: AsRef<str>>(
+    program: &[L],
+    list: &str,
+    line: u32,
+    path: &[u32],
+    culprit: Culprit,
+) {
+    let expected = Reason { path: path.to_vec(), culprit };
+    assert_eq!(reason(program, list, line), Some(expected), "line {line} of {list}");
+}
+
+/// The statements between slashes.
+fn lines_of(program: &str) -> Vec<&str> {
+    program.split(" / ").collect()
+}
+
+#[test]
+fn reasons_on_p() {
+    let p = p();
+    assert_reason(&p, "3: mark(rm, i2, 7)", 0, &[3, 4], Culprit::Used);
+    assert_reason(&p, "2: mark(rm, i1, i0)", 0, &[2, 3, 4], Culprit::Used);
+    assert_reason(&p, "4: mark(rm, i3, i1 + i2)", 0, &[4, 5, 8], Culprit::Used);
+    // Round the loop 4 to 7, to where i0 is tested.
+    assert_reason(&p, "6: mark(rm, i0, i0 - 1)", 0, &[6, 7], Culprit::Used);
+    // A copy that was made before a loop is spoilt in it.
+    assert_reason(&p, "4: mark(rpl, i1, i0)", 0, &[4, 7, 6], Culprit::OperandRedefined);
+    assert_eq!(reason(&p, "4: mark(rpl, i2, 7)", 0), None);
+}
+
+#[test]
+fn other_verdicts_have_none() {
+    let (p, list) = (text(&p()), b"4: mark(rpl, i2, 7)\n3: mark(rm, i2, 7)\n4: mark(rm, i2, 7)\n5: mark(rm, i0, 7)\n9: mark(rm, i2, 7)\n");
+    let verdicts =
+        [Verdict::Accepted, Verdict::Unmet, Verdict::Repeated, Verdict::Unfit, Verdict::Missing];
+    for line in (0..7).chain([1_024, u32::MAX]) {
+        let answer = why(&p, list, line).expect("they are taken");
+        let expected = verdicts.get(line as usize).copied().unwrap_or(Verdict::Missing);
+        assert_eq!((answer.verdict, answer.reason.is_some()), (expected, line == 1), "line {line}");
+    }
+    let none = Because { verdict: Verdict::Missing, reason: None };
+    assert_eq!(why(&p, b"", 0), Ok(none));
+    let faulty = text(&["read i0", "i1 := i0 / i0", "write i0"]);
+    let answer = why(&faulty, b"2: mark(rm, i1, i0 / i0)\n", 0).expect("they are taken");
+    assert_eq!(answer, Because { verdict: Verdict::MayFault, reason: None });
+}
+
+/// The programs of examples/cases.txt on which a weakened rule goes wrong, as `examples/cases.txt` explains each.
+#[test]
+fn reasons_where_a_weakened_rule_goes_wrong() {
+    use Culprit::*;
+    #[rustfmt::skip]
+    let cases: [(&str, &str, u32, &[u32], Culprit); 24] = [
+        ("read i0 / i1 := 1 / write i1", "2: mark(rm, i1, 1)", 0, &[2, 3], Used),
+        ("read i0 / i1 := 5 / if i0 goto 4 else 5 / i0 := i1 / write i0", "2: mark(rm, i1, 5)", 0, &[2, 3, 4], Used),
+        ("read i0 / i1 := 1 / i2 := i1 + i0 / i1 := i1 + 1 / if i2 goto 3 else 6 / write i0", "4: mark(rm, i1, i1 + 1)", 0, &[4, 5, 3], Used),
+        ("read i0 / i2 := i1 / write i2", "2: mark(rpl, i1, i5)", 0, &[2, 1], NothingCopied),
+        ("read i0 / i1 := i2 / i2 := 5 / i3 := i1 + i2 / write i3", "4: mark(rpl, i1, i2)", 0, &[4, 3], OperandRedefined),
+        ("read i0 / i1 := i2 / i1 := i1 + 1 / i3 := i1 / write i3", "4: mark(rpl, i1, i2)", 0, &[4, 3], Redefined),
+        ("read i0 / i1 := i2 / i3 := i3 + i1 / i2 := i2 - 1 / if i2 goto 3 else 6 / write i3", "3: mark(rpl, i1, i2)", 0, &[3, 5, 4], OperandRedefined),
+        ("read i0 / i1 := 3 / if i0 goto 4 else 5 / i1 := i2 / i3 := i1 / write i3", "5: mark(rpl, i1, i2)", 0, &[5, 3, 2], Redefined),
+        ("read i0 / i1 := 3 / if i0 goto 4 else 5 / i1 := i2 / skip / i3 := i1 / write i3", "6: mark(rpl, i1, i2)", 0, &[6, 5, 3, 2], Redefined),
+        ("read i0 / i1 := i0 / if i0 goto 5 else 5 / i1 := 3 / i2 := i1 / write i2", "5: mark(rpl, i1, i0)", 0, &[5, 4], Redefined),
+        ("read i0 / if i0 goto 4 else 4 / i2 := i1 / write i2", "3: mark(rpl, i1, i2)", 0, &[3, 3], OperandRedefined),
+        ("read i0 / i1 := 1 / i2 := i1 / i3 := i2 / write i0", "4: mark(rm, i3, i2) / 3: mark(rm, i2, i1) / 2: mark(rm, i1, 1)", 1, &[3, 4], Used),
+        ("read i0 / i1 := i0 / i2 := i1 / write i2", "3: mark(rpl, i1, i0) / 2: mark(rm, i1, i0)", 1, &[2, 3], Used),
+        ("read i0 / i24 := 5 / i1 := i0 / write i1", "2: mark(rm, i24, 5)", 0, &[2, 3, 4], Used),
+        ("read i0 / i24 := 9 / if i0 goto 5 else 4 / if i0 goto 6 else 6 / i24 := i2 / write i0", "2: mark(rm, i24, 9)", 0, &[2, 3, 4, 6], Used),
+        ("read i0 / i1 := i0 + 1 / i2 := i0 + 1 / write i2", "2: mark(rm, i1, i0 + 1) / 3: mark(cse, i1, i0 + 1)", 0, &[2, 3], UsedByCse),
+        ("read i0 / i1 := i0 + 1 / i2 := i0 + 1 / write i2", "3: mark(cse, i1, i0 + 1) / 2: mark(rm, i1, i0 + 1)", 1, &[2, 3], UsedByCse),
+        ("read i0 / i1 := i0 + 1 / i0 := 3 / i2 := i0 + 1 / write i2", "4: mark(cse, i1, i0 + 1)", 0, &[4, 3], OperandRedefined),
+        ("read i0 / i0 := i0 < 7 / i0 := i0 < 7 / write i0", "3: mark(cse, i0, i0 < 7)", 0, &[3, 2], Redefined),
+        ("read i0 / i1 := i2 * 3 / write i1", "2: mark(cse, i3, i2 * 3)", 0, &[2, 1], NothingCopied),
+        ("read i0 / i1 := i0 + i2 / i3 := i2 + i0 / write i3", "3: mark(cse, i1, i2 + i0)", 0, &[3, 2], Redefined),
+        ("read i0 / i1 := i0 + 1 / i1 := i0 + 1 / write i1", "3: mark(cse, i1, i0 + 1) / 2: mark(rm, i1, i0 + 1)", 1, &[2, 3], UsedByCse),
+        ("read i0 / i1 := i0 + 1 / if i0 goto 4 else 5 / i1 := 3 / i2 := i0 + 1 / write i2", "5: mark(cse, i1, i0 + 1)", 0, &[5, 4], Redefined),
+        ("read i0 / i24 := i0 + 1 / i2 := i0 + 1 / i24 := 3 / write i2", "3: mark(cse, i24, i0 + 1) / 2: mark(rm, i24, i0 + 1)", 1, &[2, 3], UsedByCse),
+    ];
+    for (program, list, line, path, culprit) in cases {
+        assert_reason(&lines_of(program), list, line, path, culprit);
+    }
+}
+
+/// Each verdict 14 that examples/cases.txt prints has a path, which is stepped through.
+#[test]
+fn reasons_of_all_examples() {
+    let file = File::new(env!("CARGO_MANIFEST_DIR")).join("../examples/cases.txt");
+    let cases = fs::read_to_string(file).expect("the cases are read");
+    let (mut programs, mut reasons) = (0, 0);
+    for case in cases.split("\n== ").skip(1) {
+        let piece = |name: &str, next: &str| {
+            let behind = case.split_once(&format!("\n-- {name}\n"))?.1;
+            Some(behind.split_once(&format!("-- {next}\n")).map_or(behind, |(piece, _)| piece))
+        };
+        let (given, list, prints) =
+            match (piece("given", "marks"), piece("marks", "prints"), piece("prints", "=")) {
+                (Some(given), Some(list), Some(prints)) => (given, list, prints),
+                _ => continue,
+            };
+        let told: Vec<&str> = prints.lines().skip(1).take(list.lines().count()).collect();
+        if !prints.starts_with("marks ") || !told.iter().any(|line| line.ends_with(" 14")) {
+            continue;
+        }
+        programs += 1;
+        let program = Program::read(given.as_bytes()).expect("a program");
+        let marks = marks::read(list.as_bytes()).expect("a list");
+        for (line, told) in told.iter().enumerate() {
+            let line = line as u32;
+            let answer = why(given.as_bytes(), list.as_bytes(), line).expect("they are taken");
+            let verdict = answer.verdict.number();
+            assert!(told.ends_with(&format!(" {verdict}")), "line {line} of {case}");
+            let (path, culprit) = answer.reason.map_or((Vec::new(), 0), |reason| {
+                (reason.path, u32::from(reason.culprit.number()))
+            });
+            let because = oracle::paths::Because { verdict, path, culprit };
+            let shown = check_why(&program, &marks, line, &because);
+            let expected = if verdict == 14 { Shown::Way } else { Shown::Nothing };
+            assert_eq!(shown, Ok(expected), "line {line} of {case}");
+            reasons += u32::from(verdict == 14);
+        }
+    }
+    assert!(programs >= 45 && reasons >= 56, "{programs} programs, {reasons} reasons");
+}
+
+/// Back through statement 1, to which nothing steps, and which is the entry.
+#[test]
+fn reasons_through_statement_1() {
+    let program = ["read i9", "skip", "i2 := i1 + i3", "write i2"];
+    assert_reason(&program, "3: mark(rpl, i1, i3)", 0, &[3, 2, 1], Culprit::NothingCopied);
+    assert_reason(&program, "3: mark(rpl, i1, i9)", 0, &[3, 2, 1], Culprit::OperandRedefined);
+    assert_reason(&program, "3: mark(cse, i9, i1 + i3)", 0, &[3, 2, 1], Culprit::Redefined);
+    assert_reason(&program, "3: mark(cse, i4, i1 + i3)", 0, &[3, 2, 1], Culprit::NothingCopied);
+    let program = ["read i1", "write i1"];
+    assert_reason(&program, "2: mark(rpl, i1, i0)", 0, &[2, 1], Culprit::Redefined);
+}
+
+/// By 1,024 statements of a chain, and once round to the mark's own, the most that there are.
+#[test]
+fn the_longest_reasons() {
+    for count in [256, STATEMENTS] {
+        let mut chain = lines(count);
+        chain[1] = "i1 := 7".to_string();
+        chain[count - 1] = "write i1".to_string();
+        let path: Vec<u32> = (2..=count as u32).collect();
+        assert_reason(&chain, "2: mark(rm, i1, 7)", 0, &path, Culprit::Used);
+        chain[count - 2] = "i2 := i5".to_string();
+        let path: Vec<u32> = (1..count as u32).rev().collect();
+        let mark = format!("{}: mark(rpl, i5, 7)", count - 1);
+        assert_reason(&chain, &mark, 0, &path, Culprit::NothingCopied);
+    }
+    // All but the first and the last go round; 2 uses what it sets itself.
+    let mut circle = lines(STATEMENTS);
+    circle[1] = "i1 := i1 + 1".to_string();
+    circle[STATEMENTS - 2] = format!("if i0 goto 2 else {STATEMENTS}");
+    let path: Vec<u32> = (2..STATEMENTS as u32).chain([2]).collect();
+    assert_reason(&circle, "2: mark(rm, i1, i1 + 1)", 0, &path, Culprit::Used);
+}
+
+#[test]
+fn refused_lists() {
+    for (program, number) in refused_programs() {
+        let refused = why(&program, b"rubbish", 0).expect_err("the program is refused");
+        assert_eq!(refused.number(), number);
+    }
+    let p = text(&p());
+    assert_eq!(why(&p, b"3: mark(rm, i2, 7)", 0), Err(Refusal::MarkMisspelled));
+    let many = b"3: mark(rm, i2, 7)\n".repeat(1_025);
+    assert_eq!(why(&p, &many, 0), Err(Refusal::MarkCount));
 }
