@@ -357,6 +357,40 @@ fn verdicts_and_programs_are_those_that_the_command_prints() {
 }
 
 #[test]
+fn reasons_are_those_that_the_command_prints() {
+    let desk = Desk::of(folder("desk_why", &[]));
+    let mut met = Tally::new("reasons of the desk", ["a path", "none", "refused", "no such line"]);
+    let seed = seeded(76);
+    for case in 0..option("DESK_CASES", CASES) {
+        let random = &mut Random::new(seed ^ case);
+        let size = random.between(2, 12);
+        let program = generate::program(random, size);
+        let list = marks::text(&generate::marks(random, &program, 6));
+        let list = if random.chance(10) { [&list, &b"x"[..]].concat() } else { list };
+        let typed = String::from_utf8(list).expect("marks are text");
+        let file = if typed.ends_with('\n') { typed.clone() } else { typed.clone() + "\n" };
+        let line = random.between(1, 8);
+        desk.write("given", &program.text());
+        desk.write("marks", file.as_bytes());
+        let mut answer = desk.ask("why", json!({ "marks": typed, "line": line }));
+        let added = taken(&mut answer, &["source", "place", "status"]);
+        let words = ["why", ".", &line.to_string(), "--json"];
+        let mut told: Value =
+            serde_json::from_str(printed(&run_in(&desk.folder, &words)).trim_end()).expect("JSON");
+        taken(&mut told, &["status"]);
+        assert_eq!(answer, told, "case {case}");
+        assert_eq!(added[0], json!(lines(&program.text())), "case {case}");
+        met.met(match (answer["faults"][0]["refusal"].as_u64(), answer["faults"].as_array()) {
+            (Some(_), _) => "refused",
+            (None, Some(faults)) if !faults.is_empty() => "no such line",
+            _ if answer.get("because").is_some() => "a path",
+            _ => "none",
+        });
+    }
+    met.report();
+}
+
+#[test]
 fn reviews_are_those_that_the_command_prints() {
     let desk = Desk::of(folder("desk_reviews", &[]));
     let mut met = Tally::new("reviews of the desk", ["tables", "16", "6", "7", "8", "17"]);

@@ -9,7 +9,7 @@ use crate::fault::Fault;
 use crate::files::{Text, Unread, MOST_BYTES};
 use crate::folder::{Folder, Report};
 use crate::output::reason;
-use crate::{path, review, tabulate};
+use crate::{path, review, tabulate, why};
 use rewrites::{Refusal, REVIEW_LINES};
 use serde::de::DeserializeOwned;
 use serde::{Deserialize, Serialize};
@@ -56,6 +56,14 @@ struct OfPath {
 #[serde(deny_unknown_fields)]
 struct OfMarks {
     marks: String,
+}
+
+#[derive(Deserialize)]
+#[serde(deny_unknown_fields)]
+struct OfMark {
+    marks: String,
+    /// Counted from 1.
+    line: u32,
 }
 
 #[derive(Deserialize)]
@@ -206,12 +214,13 @@ impl Desk {
             "tabulate" => read(body).and_then(|asked: OfCondition| self.tabulate(&asked.condition)),
             "witness" => read(body).and_then(|asked: OfPath| self.witness(&asked)),
             "check" => read(body).and_then(|asked: OfMarks| self.check(&asked.marks)),
+            "why" => read(body).and_then(|asked: OfMark| self.why(&asked)),
             "review" => read(body).and_then(|asked: OfReview| self.review(&asked.conditions)),
             "steps" => read(body).and_then(|asked: OfSteps| self.steps(&asked)),
             "read" => read(body).and_then(|asked: OfFile| self.paper_of(&asked.file)),
             "save" => read(body).and_then(|asked: Saved| self.save(&asked)),
             _ => {
-                let words = "no such call; expected open, tabulate, witness, check, review, steps, read or save";
+                let words = "no such call; expected open, tabulate, witness, check, why, review, steps, read or save";
                 Err(Refused { status: 404, words: words.into() })
             }
         }
@@ -383,6 +392,20 @@ impl Desk {
         self.told("check", folder, given.as_ref(), &typed, answer)
     }
 
+    /// The path that speaks against a mark.
+    fn why(&self, asked: &OfMark) -> Result<Vec<u8>, Refused> {
+        let folder = &mut Folder::new(&self.path);
+        let given = self.given(folder);
+        let typed = self.typed(MARKS, ended(&asked.marks), folder);
+        let judged = judged(&given, &typed);
+        let answer = judged.as_ref().map(|judged| match judged {
+            Ok(judged) => why::answer(judged, asked.line),
+            Err(fault) => Err(fault.clone()),
+        });
+        let typed: Vec<&Typed> = typed.iter().collect();
+        self.told("why", folder, given.as_ref(), &typed, answer)
+    }
+
     fn steps(&self, asked: &OfSteps) -> Result<Vec<u8>, Refused> {
         let folder = &mut Folder::new(&self.path);
         let given = self.given(folder);
@@ -416,7 +439,7 @@ impl<'a> Judged<'a> {
             Place { field: MARKS, begin, end }
         });
         Judged {
-            answer: judged.answer(),
+            answer: judged.answer(check::Paths::None),
             rewritten: shown_lines(&judged.program),
             changed: changed.collect(),
             places: places.collect(),

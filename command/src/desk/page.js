@@ -279,9 +279,11 @@ const check = asker('marks', 'check', () => ({ marks: fields.marks.text }), answ
     '; ticks given ' + ticks.given + ', rewritten ' + ticks.rewritten + ', saved ' + ticks.saved;
   const changed = new Set(answer.changed);
   const name = document.querySelector('h1').textContent;
-  grid(by('programs-scroll'), name + ': the given and the rewritten program', ['n', 'given', 'rewritten', 'changed', 'ticks before', 'after'],
+  const programs = grid(by('programs-scroll'), name + ': the given and the rewritten program', ['n', 'given', 'rewritten', 'changed', 'ticks before', 'after', 'path'],
     answer.source.map((text, i) => ({ name: changed.has(i + 1) ? 'changed' : '', cells: [[i + 1, 'number'], [text, 'text'], [answer.rewritten[i], 'text'],
-      [changed.has(i + 1) ? 'changed' : ''], [answer.prices.before[i]], [answer.prices.after[i]]] })));
+      [changed.has(i + 1) ? 'changed' : ''], [answer.prices.before[i]], [answer.prices.after[i]], ['', 'step']] })));
+  programs.tHead.rows[0].lastChild.className = 'step';
+  const rows = [...programs.tBodies[0].rows];
   const table = grid(by('verdicts-scroll'), name + ': the verdict on each mark', ['line', 'mark', 'verdict', 'in words', 'condition'],
     answer.verdicts.map(mark => ({ name: mark.name, cells: [[mark.line, 'number'], [mark.mark, 'text'], [mark.verdict], [mark.words, 'words'], ['']] })));
   answer.verdicts.forEach((mark, i) => {
@@ -289,9 +291,30 @@ const check = asker('marks', 'check', () => ({ marks: fields.marks.text }), answ
     button.type = 'button';
     button.title = 'Look at this condition';
     button.addEventListener('click', () => { fields.condition.text = mark.condition; open(by('tab-condition')); tabulate(); });
+    if (mark.name === 'unmet') because(table.tBodies[0].rows[i].cells[3], mark.line, rows);
   });
   if (!by('runs-panel').hidden) walk();
 }, null);
+
+// A button beside a verdict 14: the path that speaks against the mark, in the rows of the given program.
+function because(cell, line, rows) {
+  const button = make('button', 'Why?', cell, 'why');
+  button.type = 'button';
+  button.title = 'Show the path that speaks against this mark';
+  button.addEventListener('click', async () => {
+    try {
+      const answer = await ask('why', { marks: fields.marks.text, line });
+      // What was typed since may be of another list.
+      if (!answer.because || !cell.isConnected) return;
+      const { path } = answer.because, last = path[path.length - 1];
+      lay(rows, order(path.map(step => step.statement), null));
+      rows[path[0].statement - 1].scrollIntoView({ block: 'nearest' });
+      by('told').textContent = 'line ' + line + '  ' + answer.mark + ': ' + led(path.map(step => step.statement), null) + ': ' + last.statement + ' ' + last.does + '.';
+    } catch (error) {
+      trouble(error.message);
+    }
+  });
+}
 
 let at = 0, most = 0;
 function value(number) { return number === null ? '' : number; }
