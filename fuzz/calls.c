@@ -30,6 +30,9 @@
    - the verdict of another that fits is that of its published condition's table. In that of a mark
      that drops, each statement that is to read the variable by an accepted `cse` of the list, up to
      twenty, is a use: without them the table may tell otherwise, and never refuses more;
+   - a mark is told its verdict once more with a path, which has statements exactly with 14: from the mark's own on, by the program's steps,
+     forward to a use of the variable with no definition between, or a statement that an accepted `cse` makes read it, backward to one
+     that defines the variable or an operand, or to the first, with no copy on the way; the culprit is what the last one does;
    - what is dropped becomes `skip`, and what is reused a copy;
    - a table of prices is refused 19 exactly where a line isn't a number from 1 to 65,535 as it is printed,
      else 20 where there aren't eleven; then it is kept as it was;
@@ -1240,6 +1243,138 @@ static void check_verdicts(struct text program, struct text marks, const struct 
     REQUIRE(start == marks.length && accepted == answer->accepted);
 }
 
+/* Why a mark is refused */
+
+struct reason {
+    uint32_t verdict, length, culprit, path[PATH_WORDS];
+};
+
+static uint8_t why(struct text program, struct text marks, uint32_t line, size_t room, struct reason *answer) {
+    uint32_t places[7];
+    uint32_t *words = (uint32_t *)(void *)lend(&tables, room * sizeof *words);
+    uint8_t number;
+
+    unset(places, 7);
+    number = rewrites_why(program.bytes, program.length, marks.bytes, marks.length, line, words, room, &places[1],
+                          &places[3], &places[5]);
+    for (size_t k = 0; k < 7; k++) REQUIRE((number == 0 && k % 2 == 1) || places[k] == UNSET);
+    if (number == 0) {
+        answer->verdict = places[1];
+        answer->length = places[3];
+        answer->culprit = places[5];
+        REQUIRE(answer->length <= PATH_WORDS);
+        set(&tables, (uint8_t *)words, answer->length * sizeof *words);
+        memcpy(answer->path, words, answer->length * sizeof *words);
+    }
+    require_kept(&tables);
+    return number;
+}
+
+/* Whether a variable stands in a text as a whole word. */
+static int has_word(const char *text, const char *word) {
+    size_t length = strlen(word);
+
+    for (const char *at = strstr(text, word); at != NULL; at = strstr(at + length, word))
+        if ((at == text || at[-1] == ' ') && (at[length] == 0 || at[length] == ' ')) return 1;
+    return 0;
+}
+
+/* The variable that a statement defines, empty where it defines none. */
+static void defined_by(const char *line, char name[8]) {
+    name[0] = 0;
+    if (sscanf(line, "read %7s", name) == 1) return;
+    if (strstr(line, " := ") == NULL || sscanf(line, "%7s :=", name) != 1) name[0] = 0;
+}
+
+/* Of more statements that are to read a variable than are held, the rest isn't known. */
+#define UNKNOWN UINT32_MAX
+
+/* The culprit that a statement is for a mark, 0 where it is none; and whether a path may go on past it. */
+static uint32_t culprit_at(struct text program, size_t n, const char *kind, const char *name, const char *right,
+                           const struct readers *readers, int *passes) {
+    char line[64], defined[8];
+    unsigned variable;
+    int is_copy;
+
+    copy_line(program, n, line);
+    defined_by(line, defined);
+    REQUIRE(sscanf(name, "i%u", &variable) == 1);
+    if (strcmp(kind, "rm") == 0) {
+        const char *used = strstr(line, " := ");
+        int is_kept = strncmp(line, "write", 5) == 0 && variable >= FIRST_KEPT && variable < FIRST_KEPT + KEPT;
+
+        *passes = strcmp(defined, name) != 0;
+        if (used != NULL) used += 4;
+        else used = strncmp(line, "read", 4) == 0 ? "" : line;
+        if (has_word(used, name) || is_kept) return REWRITES_USED;
+        for (size_t k = 0; k < readers->counts[variable] && k < MOST_READERS; k++)
+            if (readers->statements[variable][k] == n) return REWRITES_USED_BY_CSE;
+        return readers->counts[variable] > MOST_READERS ? UNKNOWN : 0;
+    }
+    is_copy = strcmp(defined, name) == 0 && strncmp(line, "read", 4) != 0 && strcmp(strstr(line, " := ") + 4, right) == 0 &&
+              (strcmp(kind, "rpl") == 0 || !has_word(right, name));
+    *passes = !is_copy;
+    if (is_copy) return 0;
+    if (strcmp(defined, name) == 0) return REWRITES_REDEFINED;
+    if (defined[0] != 0 && has_word(right, defined)) return REWRITES_OPERAND_REDEFINED;
+    return n == 1 ? REWRITES_NOTHING_COPIED : 0;
+}
+
+/* What is told of a line with this verdict. */
+static void check_reason(struct text program, struct text marks, uint32_t j, const char *mark, uint8_t verdict,
+                         const struct readers *readers) {
+    static struct reason answer;
+    char kind[4], name[8], right[64];
+    unsigned long number;
+    size_t lines = lines_of(program);
+    int passes;
+
+    REQUIRE(why(program, marks, j, PATH_WORDS, &answer) == 0);
+    REQUIRE(answer.verdict == verdict);
+    if (verdict != REWRITES_UNMET) {
+        REQUIRE(answer.length == 0 && answer.culprit == REWRITES_NO_CULPRIT);
+        return;
+    }
+    REQUIRE(sscanf(mark, "%lu: mark(%3[a-z], %7[i0-9], %63[^)])", &number, kind, name, right) == 4);
+    REQUIRE(answer.length >= 2 && answer.path[0] == number);
+    for (size_t k = 1; k < answer.length; k++) {
+        size_t from = answer.path[k - 1], to = answer.path[k];
+        uint32_t culprit;
+
+        REQUIRE(to >= 1 && to <= lines);
+        REQUIRE(strcmp(kind, "rm") == 0 ? steps_to(program, from, to) : steps_back(program, from, to));
+        culprit = culprit_at(program, to, kind, name, right, readers, &passes);
+        if (k + 1 < answer.length)
+            REQUIRE(passes && (culprit == 0 || culprit == UNKNOWN));
+        else
+            REQUIRE(culprit == answer.culprit || (culprit == UNKNOWN && answer.culprit == REWRITES_USED_BY_CSE));
+    }
+    met(OF_CALLS, 1520 + answer.culprit + 8 * (answer.length > 2) + 16 * (answer.length > 8));
+}
+
+/* Each line of a list, some of a long one, and such that aren't there. */
+static void check_reasons(struct text program, struct text marks, uint8_t refused, const struct judgement *judged) {
+    static struct readers readers;
+    static struct reason answer;
+    const uint32_t beyond[4] = {judged->marks, MARKS, 65536, UINT32_MAX};
+    size_t start = 0;
+    char line[128];
+
+    REQUIRE(why(program, marks, 0, PATH_WORDS - 1, &answer) == 1);
+    REQUIRE(why(program, marks, 0, PATH_WORDS, &answer) == refused);
+    if (refused != 0) return;
+    find_readers(marks, judged, &readers);
+    for (uint32_t j = 0; j < judged->marks; j++) {
+        next_line(marks, &start, line);
+        if (judged->marks <= 24 || j % 64 == 3)
+            check_reason(program, marks, j, line, judged->verdicts[j], &readers);
+    }
+    for (size_t k = 0; k < 4; k++) {
+        REQUIRE(why(program, marks, beyond[k], PATH_WORDS, &answer) == 0);
+        REQUIRE(beyond[k] < judged->marks || answer.verdict == REWRITES_MISSING);
+    }
+}
+
 /* Reports */
 
 /* The report on a list that judging answers with this number: the prices of both texts, line by line. */
@@ -1484,6 +1619,7 @@ static void check_marks(struct text program, struct text marks, uint8_t refused,
     met(OF_CALLS, 32 + number);
     REQUIRE(list(program, &marks, LIST_WORDS - 1, &listing) == 1);
     REQUIRE(list(program, &marks, LIST_WORDS, &listing) == number);
+    check_reasons(program, marks, number, &answer);
     if (refused != 0) {
         REQUIRE(number == refused);
         check_report(program, marks, number, program);

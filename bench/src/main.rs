@@ -8,8 +8,8 @@ use inputs::{atoms_condition, binary_condition, text, unary_condition, OPERATORS
 use inputs::{cse_and_rm_marks_for, cse_marks_for, different_marks_for, marks_for};
 use oracle::pricing::{table_text, OURS};
 use oracle::tuned;
-use rewrites::{force, join, judge, list, relist, report, review, run, tabulate, witness, Prices};
-use rewrites::{go_back, keep, PLACES, PLACE_BYTES, STAGES_BYTES};
+use rewrites::{force, join, judge, list, relist, report, review, run, tabulate, why, witness};
+use rewrites::{go_back, keep, Prices, PLACES, PLACE_BYTES, STAGES_BYTES};
 use rewrites::{
     LIST_WORDS, MOST_STEPS, PATH_WORDS, REVIEW_WORDS, STATEMENTS, TABLE_WORDS, TEXT_BYTES,
 };
@@ -743,6 +743,68 @@ fn print_judging(worst: &mut Worst) {
     }
 }
 
+// Reasons
+
+/// The times of a mark's reason, ours and tuned, and of judging the same list.
+fn time_reason(program: &[u8], marks: &[u8], line: u32) -> [f64; 3] {
+    let mut path = [0; PATH_WORDS];
+    let (mut verdicts, mut new) = ([0; VERDICT_BYTES], [0; TEXT_BYTES]);
+    medians(
+        TIMES,
+        [
+            &mut || why(program, marks, line).is_ok(),
+            &mut || tuned::why(program, marks, line, &mut path).is_ok(),
+            &mut || judge(program, marks, &mut verdicts, &mut new).is_ok(),
+        ],
+    )
+}
+
+/// Of each list the mark whose path is longest.
+fn print_reasons(worst: &mut Worst) {
+    println!(
+        "\nWhy a mark is refused, the list judged, in microseconds; tuned by a search breadth first, and beside judging the list"
+    );
+    println!(
+        "{:<52} {:>6} {:>10} {:>10} {:>7} {:>10} {:>7}",
+        "", "length", "ours", "tuned", "ratio", "judge", "ratio"
+    );
+    let lists: [(&str, List); 2] = [("", marks_for), ("different ", different_marks_for)];
+    let sums: [(&str, List); 1] = [("rm and cse ", cse_and_rm_marks_for)];
+    let rows = FLOWS.iter().flat_map(|flow| lists.map(|list| (flow, list)));
+    let mut largest = (0.0, String::new());
+    for (flow, (kind, list)) in rows.chain(SUMS.iter().map(|flow| (flow, sums[0]))) {
+        for size in SIZES {
+            let program = (flow.program)(size);
+            let marks = list(&program);
+            let length = |line: u32| {
+                let told = why(&program, &marks, line).expect("the list is taken");
+                told.reason.map_or(0, |reason| reason.path.len())
+            };
+            let count = marks.iter().filter(|&&byte| byte == 10).count() as u32;
+            let line = (0..count).max_by_key(|&line| length(line)).expect("there are marks");
+            let [ours, tuned, judging] = time_reason(&program, &marks, line);
+            let name = format!("{}, {}marks, {} statements", flow.name, kind, size);
+            println!(
+                "{:<52} {:>6} {:>10.2} {:>10.2} {:>7.2} {:>10.2} {:>7.2}",
+                name,
+                length(line),
+                ours * 1e6,
+                tuned * 1e6,
+                ours / tuned,
+                judging * 1e6,
+                ours / judging
+            );
+            if ours / judging > largest.0 {
+                largest = (ours / judging, name.clone());
+            }
+            let is_ordinary = flow.is_ordinary && kind.is_empty();
+            worst.grow(is_ordinary, &format!("why, {}", flow.name), size, ours);
+            worst.meet(is_ordinary, ours / tuned, format!("why, {}", name));
+        }
+    }
+    println!("largest ratio to judging: {:.2} ({})", largest.0, largest.1);
+}
+
 // Reports
 
 fn time_report(program: &[u8], marks: &[u8]) -> [f64; 2] {
@@ -909,6 +971,7 @@ fn main() {
     print_games(&mut worst);
     print_paths(&mut worst);
     print_judging(&mut worst);
+    print_reasons(&mut worst);
     print_reports(&mut worst);
     print_lists(&mut worst);
     print_relists(&mut worst);

@@ -279,10 +279,9 @@ const check = asker('marks', 'check', () => ({ marks: fields.marks.text }), answ
     '; ticks given ' + ticks.given + ', rewritten ' + ticks.rewritten + ', saved ' + ticks.saved;
   const changed = new Set(answer.changed);
   const name = document.querySelector('h1').textContent;
-  const programs = grid(by('programs-scroll'), name + ': the given and the rewritten program', ['n', 'given', 'rewritten', 'changed', 'ticks before', 'after', 'path'],
+  const programs = grid(by('programs-scroll'), name + ': the given and the rewritten program', ['n', 'given', 'rewritten', 'changed', 'ticks before', 'after'],
     answer.source.map((text, i) => ({ name: changed.has(i + 1) ? 'changed' : '', cells: [[i + 1, 'number'], [text, 'text'], [answer.rewritten[i], 'text'],
-      [changed.has(i + 1) ? 'changed' : ''], [answer.prices.before[i]], [answer.prices.after[i]], ['', 'step']] })));
-  programs.tHead.rows[0].lastChild.className = 'step';
+      [changed.has(i + 1) ? 'changed' : ''], [answer.prices.before[i]], [answer.prices.after[i]]] })));
   const rows = [...programs.tBodies[0].rows];
   const table = grid(by('verdicts-scroll'), name + ': the verdict on each mark', ['line', 'mark', 'verdict', 'in words', 'condition'],
     answer.verdicts.map(mark => ({ name: mark.name, cells: [[mark.line, 'number'], [mark.mark, 'text'], [mark.verdict], [mark.words, 'words'], ['']] })));
