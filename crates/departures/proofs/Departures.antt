@@ -13,6 +13,7 @@ use Rattle.forcing.specs.Numbers.{none, numberOf, numbered}
 use Rattle.forcing.proofs.Steps.{numbered-some, numbered-none}
 use Rattle.lassos.specs.Lassos.{place, last, any, Way, Reaches}
 use Rattle.lassos.specs.Distances.{Distances}
+use Rattle.lassos.proofs.Ways.{way-inside}
 use Rattle.lassos.proofs.Sound.{bears-some}
 use Rattle.lassos.proofs.Shortest.{way-cons, shortest, number-iff}
 use Rattle.walks.specs.Told.{Told}
@@ -52,6 +53,18 @@ module _ (step : ℕ → ℕ → Bool) (X Y : ℕ → Type 0) (s : ℕ) where
       passes : last (s ∷ ks) ≡ suc (last ks) → (i : ℕ) → 0 < i → i < last (s ∷ ks) → X (place (s ∷ ks) i)
       passes e zero b l = absurd (omega arith)
       passes e (suc i) b l = x i (omega (arith, e))
+
+-- the same steps below n, and what is said of places there in other words
+pub departs-same : {n : ℕ} {step step′ : ℕ → ℕ → Bool} {X X′ Y Y′ : ℕ → Type 0} → Graph n step → (s : ℕ) → s < n → ((t u : ℕ) → t < n → step t u ≡ step′ t u)
+    → ((t : ℕ) → t < n → X t → X′ t) → ((t : ℕ) → t < n → Y t → Y′ t) → {ls : List ℕ} → Departs step X Y s ls → Departs step′ X′ Y′ s ls
+departs-same g s low same x y {ls} d =
+    let inside = way-inside g s low ls (d .way) in
+    record {
+      way = record { some = d .way .some; starts = d .way .starts; steps = λ i l. sym (same (place ls i) (place ls (suc i)) (inside i (omega arith))) ∙ d .way .steps i l };
+      leaves = d .leaves;
+      ends = y (place ls (last ls)) (inside (last ls) (omega (arith, d .leaves))) (d .ends);
+      between = λ i b l. x (place ls i) (inside i (omega arith)) (d .between i b l);
+    }
 
 -- the word of s is put before the way from the successor on
 told-cons : (s : ℕ) (ks old new : List ℕ) → 0 < length old → Told 1 ks (set old 0 (s + 1)) new → Told 0 (s ∷ ks) old new

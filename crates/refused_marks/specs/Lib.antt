@@ -1,1 +1,2 @@
 pub mod RefusedMarks
+pub mod Ends
