@@ -15,7 +15,7 @@ use Rattle.lassos.specs.Lassos.{place, last, any, Way, Reaches}
 use Rattle.lassos.specs.Distances.{Distances}
 use Rattle.lassos.proofs.Ways.{way-inside}
 use Rattle.lassos.proofs.Sound.{bears-some}
-use Rattle.lassos.proofs.Shortest.{way-cons, shortest, number-iff}
+use Rattle.lassos.proofs.Shortest.{way-cons, shortest, number-iff, number-below}
 use Rattle.walks.specs.Told.{Told}
 use Rattle.walks.specs.Walks.{Nearest, Numbered, SomeNumbered, Walked}
 use Rattle.departures.specs.Departures.{Departs, Left}
@@ -95,6 +95,10 @@ module _ {n : ℕ} {step : ℕ → ℕ → Bool} (g : Graph n step) (p q : ℕ �
 
   pub leave-numbered : SomeNumbered n step numbers u
   leave-numbered = record { p = p; q = q; numbered = is-numbered }
+
+  -- no number is as large as n, so the way fits
+  pub leave-few : (old new : List ℕ) (end : ℕ) → Walked n step numbers u 1 old new end → end ≤ n + 1
+  leave-few old new end w = omega (arith, w .ends, w .size, number-below g p q (numbered numbers) (numberOf numbers) d u (is-numbered .inside) (is-numbered .has))
 
   pub leave-left : (old new : List ℕ) (end : ℕ) → 0 < length old → Walked n step numbers u 1 (set old 0 (s + 1)) new end → Left step (So p) (So q) s old new end
   leave-left old new end room w = record {

@@ -24,7 +24,7 @@ pub fn leave(
     requires { ⌜ DirectionsAt n (now steps) (now opposite) ⌝ }
     requires { ⌜ (n ≤ length (now through) * 64) × (n ≤ length (now goal) * 64) × (n + 1 ≤ length (now path)) ⌝ }
     requires { ⌜ (s < n) × (((ls : List ℕ) → Departs (stepOf n (edgesAt (now steps))) (So (member (now through))) (So (member (now goal))) s ls → ⊥) → ⊥) ⌝ }
-    ensures { λ r. ⌜ Left (stepOf n (edgesAt (now (steps .entry)))) (So (member (now (through .entry)))) (So (member (now (goal .entry)))) s (now (path .entry)) (now (path .exit)) r ⌝ }
+    ensures { λ r. ⌜ Left (stepOf n (edgesAt (now (steps .entry)))) (So (member (now (through .entry)))) (So (member (now (goal .entry)))) s (now (path .entry)) (now (path .exit)) r × (r ≤ n + 1) ⌝ }
 {
     let head = &steps[..PLACES];
     let link = &steps[PLACES..PLACES + EDGES];

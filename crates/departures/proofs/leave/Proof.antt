@@ -3,7 +3,7 @@ use lib.ListN.{length-set}
 use mathlib.Core.Path.{_≡_, refl, sym, ap, _∙_}
 use native.Mathlib.Omega.{arith}
 use Rattle.graph.proofs.Graphs.{head-size}
-use Rattle.departures.proofs.Departures.{leave-numbered, leave-left}
+use Rattle.departures.proofs.Departures.{leave-numbered, leave-few, leave-left}
 use Prim.Native.Nat.{_+_}
 use borrow.Author.Needs.{needs}
 use Rattle.departures.proofs.leave.Statement.{statement}
@@ -43,7 +43,8 @@ returns c =
     let d = a .pre .0 .directions in
     let m = c .before .before .before .before .before .before .before .before .before .before .measure in
     let f = m .ensures .0 .distances _ (d .graph) (d .opposite) in
-    leave-left (d .graph) _ _ _ (a .pre .1 .1 .0) (m .last .1 .1 .1 .1 .0) (m .ensures .1) f (a .pre .1 .1 .1) _ (c .before .before .before .before .before .before .nearest .ensures) _ _ _ (omega (arith, a .pre .1 .0 .2)) (rw (d .head-size) at (c .before .before .walk .ensures))
+    let w = rw (d .head-size) at (c .before .before .walk .ensures) in
+    (leave-left (d .graph) _ _ _ (a .pre .1 .1 .0) (m .last .1 .1 .1 .1 .0) (m .ensures .1) f (a .pre .1 .1 .1) _ (c .before .before .before .before .before .before .nearest .ensures) _ _ _ (omega (arith, a .pre .1 .0 .2)) w, leave-few (d .graph) _ _ _ (a .pre .1 .1 .0) (m .last .1 .1 .1 .1 .0) (m .ensures .1) f (a .pre .1 .1 .1) _ (c .before .before .before .before .before .before .nearest .ensures) _ _ _ w)
 
 pub leave-spec : {M : Type 1} → statement M
 leave-spec =
