@@ -1,183 +1,105 @@
+-- `at_line` meets its contract: judged as `judge` does it, and where the byte is 14 the path that the search finds. Assumes nothing.
+use Rattle.why.proofs.Answers.{line-few, line-variable, own-uses, refusal, refusal-place, told-other, told-path}
+use Rattle.truth.specs.Truth.{usesOf}
+use Rattle.refused_paths.specs.Searching.{variableOf, Rowed}
+use Rattle.table.specs.Known.{Known}
+use Rattle.calls.proofs.Known.{known-program}
+use Rattle.atoms.proofs.Rows.{facts-in}
+use Rattle.atoms.proofs.Found.{placeless}
+use Rattle.program.specs.Reading.{statements}
+use native.Mathlib.Omega.{arith}
+use Prim.Native.Nat.{ℕ}
+use mathlib.Core.List.{List}
+use mathlib.Core.Path.{_≡_, refl, sym, _∙_}
 use borrow.Author.Needs.{needs}
 use Rattle.why.proofs.at_line.Statement.{statement}
 use Rattle.why.proofs.at_line.Tie as tie
-use Rattle.why.proofs.at_line.Reads as reads
-use Rattle.why.proofs.at_line.Lts as lts
-use Rattle.atoms.proofs.blank.Reads as blank-reads
-use Rattle.atoms.proofs.blank_codes.Reads as blank-codes-reads
-use Rattle.atoms.proofs.blank_row.Reads as blank-row-reads
-use Rattle.atoms.proofs.find.Reads as find-reads
-use Rattle.atoms.proofs.row.Reads as row-reads
 use Rattle.flow.proofs.blank.Reads as blank-reads′
-use Rattle.flow.proofs.of.Reads as of-reads
-use Rattle.judge.proofs.verdict_buffer.Reads as verdict-buffer-reads
-use Rattle.refused_paths.proofs.path_of.Reads as path-of-reads
-use Rattle.rewriting.proofs.number_of.Reads as number-of-reads
-use Rattle.verdicts.proofs.place_of.Reads as place-of-reads
-use Rattle.why.proofs.variable_of.Reads as variable-of-reads
-use Rattle.widening.proofs.judge.Reads as judge-reads
 
--- src/lib.rt:51:20
-blank-requires : tie.Need-blank-requires
-blank-requires c κs = search needs
+-- what is known of the program before its list is judged
+program-known : (c : tie.After-flow2) → Known (statements (c .before .before .before .before .before .before .before .before .before .before .before .before .before .args .p)) (c .before .before .before .before .before .before .before .before .before .before .before .before .before .args .p .count) (c .before .before .before .before .before .before .find .last .1 .0) (c .before .before .before .before .before .before .find .last .1 .1 .0) (c .before .of .last .1 .0)
+program-known c =
+    let a = c .before .before .before .before .before .before .before .before .before .before .before .before .before in
+    let of = c .before .of in
+    known-program {flow = of .last .1 .0} (a .pre .1 .1) (a .pre .0) (c .before .before .before .before .before .before .find .ensures) (c .before .before .before .before .before .before .before .before .before .blank-codes .ensures .many) (of .ensures) (omega (arith, of .kept, c .before .before .before .blank2 .ensures .size))
 
--- src/lib.rt:52:21
-blank-codes-requires : tie.Need-blank-codes-requires
-blank-codes-requires c κs = search needs
-
--- src/lib.rt:53:20
-slice-aggregate-find : tie.Need-slice-aggregate-find
-slice-aggregate-find c = search needs
-
--- src/lib.rt:53:31
-slice-aggregate-find-2 : tie.Need-slice-aggregate-find-2
-slice-aggregate-find-2 c = search needs
-
--- src/lib.rt:53:5
 find-requires : tie.Need-find-requires
-find-requires c κs = ?
+find-requires c κs = let a = c .before .before .before .before .before .before in (a .pre .0, (a .pre .1 .1 .program, placeless (c .before .before .before .blank .ensures)))
 
--- src/lib.rt:54:20
-blank-requires-2 : tie.Need-blank-requires-2
-blank-requires-2 c κs = search needs
-
--- src/lib.rt:55:17
-slice-aggregate-of : tie.Need-slice-aggregate-of
-slice-aggregate-of c = search needs
-
--- src/lib.rt:55:5
-of-requires : tie.Need-of-requires
-of-requires c κs = search needs
-
--- src/lib.rt:56:19
-blank-row-requires : tie.Need-blank-row-requires
-blank-row-requires c κs = search needs
-
--- src/lib.rt:57:26
-variable-of-requires : tie.Need-variable-of-requires
-variable-of-requires c κs = search needs
-
--- src/lib.rt:57:46
-slice-aggregate-row : tie.Need-slice-aggregate-row
-slice-aggregate-row c = search needs
-
--- src/lib.rt:57:53
-slice-aggregate-row-2 : tie.Need-slice-aggregate-row-2
-slice-aggregate-row-2 c = search needs
-
--- src/lib.rt:57:61
-slice-aggregate-row-3 : tie.Need-slice-aggregate-row-3
-slice-aggregate-row-3 c = search needs
-
--- src/lib.rt:57:5
 row-requires : tie.Need-row-requires
-row-requires c κs = ?
+row-requires c κs = let a = c .before .before .before .before .before .before .before .before .before .before .before .before .before .before .before .before .before .before in let k = program-known (c .before .before .before .before .before) in ((rw (c .before .before .before .variable-of .ensures) (line-variable (a .pre .2)), record { many = k .found .many; many-codes = k .found .many-codes }), (omega (arith, k .size, k .few), c .before .before .before .before .blank-row .ensures .size))
 
--- src/lib.rt:58:24
-verdict-buffer-requires : tie.Need-verdict-buffer-requires
-verdict-buffer-requires c κs = search needs
-
--- src/lib.rt:59:31
-slice-aggregate-judge : tie.Need-slice-aggregate-judge
-slice-aggregate-judge c = search needs
-
--- src/lib.rt:59:42
-slice-aggregate-judge-2 : tie.Need-slice-aggregate-judge-2
-slice-aggregate-judge-2 c = search needs
-
--- src/lib.rt:59:50
-slice-aggregate-judge-3 : tie.Need-slice-aggregate-judge-3
-slice-aggregate-judge-3 c = search needs
-
--- src/lib.rt:59:57
-slice-aggregate-judge-4 : tie.Need-slice-aggregate-judge-4
-slice-aggregate-judge-4 c = search needs
-
--- src/lib.rt:59:5
 judge-requires : tie.Need-judge-requires
-judge-requires c κs = ?
+judge-requires c κs = let a = c .before .before .before .before .before .before .before .before .before .before .before .before .before .before .before .before .before .before .before .before .before .before .before .before .before in let l = a .pre .2 in ((a .pre .0, program-known (c .before .before .before .before .before .before .before .before .before .before .before .before)), (record { ms = l .ms; taken = l .taken }, omega (arith, c .before .before .before .before .verdict-buffer .ensures)))
 
--- src/lib.rt:60:16
 array-read-byte : tie.Need-array-read-byte
-array-read-byte c = ?
+array-read-byte c = line-few (c .before .before .before .before .before .before .before .before .before .before .before .before .before .before .before .before .before .before .before .before .before .before .before .before .before .before .before .before .pre .2)
 
--- src/lib.rt:61:16
-number-of-requires : tie.Need-number-of-requires
-number-of-requires c κs = search needs
-
--- src/lib.rt:62:9
 returns : tie.Need-returns
-returns c = ?
+returns c = λ t taken.
+    let a = c .before .before .before .before .before .before .before .before .before .before .before .before .before .before .before .before .before .before .before .before .before .before .before .before .before .before .before .before .before .before in
+    let l = a .pre .2 in
+    let v = c .before .before .before .before .judge .ensures (l .ms) (l .taken) .0 .judged (a .args .line) (l .inside) in
+    told-other (a .pre .3) taken l (v .0) (v .1) _ (v .2) (λ e. c .if1 .taken (e ∙ sym (c .before .number-of .ensures)))
 
--- src/lib.rt:64:9
-place-of-requires : tie.Need-place-of-requires
-place-of-requires c κs = search needs
-
--- src/lib.rt:65:46
-slice-aggregate-path-of : tie.Need-slice-aggregate-path-of
-slice-aggregate-path-of c = search needs
-
--- src/lib.rt:65:53
-slice-aggregate-path-of-2 : tie.Need-slice-aggregate-path-of-2
-slice-aggregate-path-of-2 c = search needs
-
--- src/lib.rt:65:61
-slice-aggregate-path-of-3 : tie.Need-slice-aggregate-path-of-3
-slice-aggregate-path-of-3 c = search needs
-
--- src/lib.rt:65:68
-slice-aggregate-path-of-4 : tie.Need-slice-aggregate-path-of-4
-slice-aggregate-path-of-4 c = search needs
-
--- src/lib.rt:65:9
 path-of-requires : tie.Need-path-of-requires
-path-of-requires c κs = ?
+path-of-requires c κs =
+    let a = c .before .before .before .before .before .before .before .before .before .before .before .before .before .before .before .before .before .before .before .before .before .before .before .before .before .before .before .before .before .before .before .before .before .before .before .before in
+    let l = a .pre .2 in
+    let k = program-known (c .before .before .before .before .before .before .before .before .before .before .before .before .before .before .before .before .before .before .before .before .before .before .before) in
+    let j = c .before .before .before .before .before .before .before .before .before .before .judge .ensures (l .ms) (l .taken) in
+    let v = j .0 .judged (a .args .line) (l .inside) in
+    let byte = sym (v .2) ∙ c .before .before .before .before .before .before .if1 .left ∙ c .before .before .before .before .before .before .before .number-of .ensures in
+    let own = own-uses l (statements (a .args .p)) k _ _ (c .before .before .before .before .before .before .before .before .before .before .before .before .before .before .before .before .before .before .before .before .before .variable-of .ensures) (c .before .before .before .before .before .before .before .before .before .before .before .before .before .before .before .before .before .row .ensures _ (k .size) (facts-in (k .found))) in
+    (record { P = statements (a .args .p); ms = l .ms; refused = refusal l (statements (a .args .p)) (v .0) (v .1) byte (j .1) _ own; here = refusal-place l (statements (a .args .p)) (v .0) (v .1) byte (k .few) _ (c .before .before .before .before .before .place-of .ensures .1) }, c .before .before .before .before .before .before .before .before .before .before .before .before .before .before .before .before .before .row .kept .1 .1 .1 .1 .0 ∙ c .before .before .before .before .before .before .before .before .before .before .before .before .before .before .before .before .before .before .before .before .before .before .blank-row .ensures .size, omega (arith, a .pre .3, k .size, k .few))
 
--- src/lib.rt:66:28
 cast-t57 : tie.Need-cast-t57
-cast-t57 c = ?
+cast-t57 c = let k = program-known (c .before .before .before .before .before .before .before .before .before .before .before .before .before .before .before .before .before .before .before .before .before .before .before .before .before .before .before) in omega (arith, c .before .before .before .path-of .ensures .1, k .size, k .few)
 
--- src/lib.rt:46:1
-same-length : tie.Need-same-length
-same-length c = search needs
-
--- src/lib.rt:46:1
 returns-2 : tie.Need-returns-2
-returns-2 c = ?
+returns-2 c = λ t taken.
+    let a = c .before .before .before .before .before .before .before .before .before .before .before .before .before .before .before .before .before .before .before .before .before .before .before .before .before .before .before .before .before .before .before .before .before .before .before .before .before .before .before .before in
+    let l = a .pre .2 in
+    let k = program-known (c .before .before .before .before .before .before .before .before .before .before .before .before .before .before .before .before .before .before .before .before .before .before .before .before .before .before .before) in
+    let j = c .before .before .before .before .before .before .before .before .before .before .before .before .before .before .judge .ensures (l .ms) (l .taken) in
+    let v = j .0 .judged (a .args .line) (l .inside) in
+    let byte = sym (v .2) ∙ c .before .before .before .before .before .before .before .before .before .before .if1 .left ∙ c .before .before .before .before .before .before .before .before .before .before .before .number-of .ensures in
+    let own = own-uses l (statements (a .args .p)) k _ _ (c .before .before .before .before .before .before .before .before .before .before .before .before .before .before .before .before .before .before .before .before .before .before .before .before .before .variable-of .ensures) (c .before .before .before .before .before .before .before .before .before .before .before .before .before .before .before .before .before .before .before .before .before .row .ensures _ (k .size) (facts-in (k .found))) in
+    told-path (a .pre .3) taken l (v .0) (v .1) _ (v .2) (c .before .before .before .before .before .before .before .before .before .before .if1 .left ∙ c .before .before .before .before .before .before .before .before .before .before .before .number-of .ensures) (c .before .before .before .path-of .ensures .0 _ _ (refusal l (statements (a .args .p)) (v .0) (v .1) byte (j .1) _ own))
 
 pub at-line-spec : {M : Type 1} → statement M
 at-line-spec =
     tie.close
     (tie.spec
-    blank-requires
-    blank-codes-requires
-    slice-aggregate-find
-    slice-aggregate-find-2
+    (λ c κs. search needs)
+    (λ c κs. search needs)
+    (λ c. search needs)
+    (λ c. search needs)
     find-requires
-    blank-requires-2
-    slice-aggregate-of
-    of-requires
-    blank-row-requires
-    variable-of-requires
-    slice-aggregate-row
-    slice-aggregate-row-2
-    slice-aggregate-row-3
+    (λ c κs. search needs)
+    (λ c. search needs)
+    (λ c κs. search needs)
+    (λ c κs. search needs)
+    (λ c κs. search needs)
+    (λ c. search needs)
+    (λ c. search needs)
+    (λ c. search needs)
     row-requires
-    verdict-buffer-requires
-    slice-aggregate-judge
-    slice-aggregate-judge-2
-    slice-aggregate-judge-3
-    slice-aggregate-judge-4
+    (λ c κs. search needs)
+    (λ c. search needs)
+    (λ c. search needs)
+    (λ c. search needs)
+    (λ c. search needs)
     judge-requires
     array-read-byte
-    number-of-requires
+    (λ c κs. search needs)
     returns
-    place-of-requires
-    slice-aggregate-path-of
-    slice-aggregate-path-of-2
-    slice-aggregate-path-of-3
-    slice-aggregate-path-of-4
+    (λ c κs. search needs)
+    (λ c. search needs)
+    (λ c. search needs)
+    (λ c. search needs)
+    (λ c. search needs)
     path-of-requires
     cast-t57
-    same-length
+    (λ c. search needs)
     returns-2)
