@@ -102,7 +102,7 @@ fn snippet_program() -> String {
             program += &format!("if (!({})) return {checks};\n", held(told));
         }
     }
-    assert_eq!((calls, checks), (14, 14));
+    assert_eq!((calls, checks), (15, 15));
     program + "return refused ? 100 : 0;\n}\n"
 }
 
@@ -119,6 +119,9 @@ fn held(told: &str) -> &'static str {
         "5, 3" => "tables == 5 && lines == 3",
         "1, 1, 8" => "parts == 1 && satisfied == 1 && first == 8",
         "2, 1, 100" => "marks == 2 && accepted == 1 && bytes == 100",
+        "REWRITES_UNMET, 3 4, REWRITES_USED" => {
+            "verdict == REWRITES_UNMET && path_length == 2 && path[0] == 3 && path[1] == 4 && culprit == REWRITES_USED"
+        }
         "8, 24, 24, 0" => "statements == 8 && given == 24 && rewritten == 24 && saved == 0",
         "his are in force" => {
             "prices[REWRITES_KIND_READ] == 1 && prices[REWRITES_KIND_DIVIDE] == 11"

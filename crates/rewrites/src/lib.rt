@@ -5,6 +5,7 @@ ghost use Rattle.host_run.specs.Places.{RunExported};
 ghost use Rattle.host_tabulate.specs.Places.{TabulateExported};
 ghost use Rattle.host_force.specs.Exports.{ForceExported};
 ghost use Rattle.host_judge.specs.Places.{JudgeExported};
+ghost use Rattle.host_why.specs.Places.{WhyExported};
 ghost use Rattle.host_review.specs.Places.{ReviewExported};
 ghost use Rattle.host_mark_line.specs.Places.{MarkLineExported};
 ghost use Rattle.host_join.specs.Places.{JoinExported};
@@ -299,4 +300,19 @@ pub extern "C" fn rewrites_blame_condition(condition: &[u8]) -> u32
     ensures { λ byte. ⌜ Blamed (now (condition .entry)) byte ⌝ }
 {
     condition_blame::byte_of(condition)
+}
+
+#[no_mangle]
+pub extern "C" fn rewrites_why(
+    program: &[u8],
+    marks: &[u8],
+    line: u32,
+    path: &mut [u32],
+    verdict: &mut u32,
+    length: &mut u32,
+    culprit: &mut u32,
+) -> u8
+    ensures { λ r. ⌜ WhyExported (now (program .entry)) (now (marks .entry)) line (now (path .entry)) (now (path .exit)) r (record { verdict = now (verdict .entry); length = now (length .entry); culprit = now (culprit .entry) }) (record { verdict = now (verdict .exit); length = now (length .exit); culprit = now (culprit .exit) }) ⌝ }
+{
+    host_why::export(program, marks, line, path, verdict, length, culprit)
 }
