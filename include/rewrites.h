@@ -355,7 +355,7 @@ uint8_t rewrites_judge(const uint8_t *program, size_t program_len, const uint8_t
    rpl, cse backward, by at least one step, to a statement that defines X or a variable of A or E, or to
             statement 1, with no copy `X := A` on the way, or no `T := E` that leaves E as it was. A statement
             that nothing steps to, as the first, steps back to itself.
-   No path that does so is shorter. Takes at most 512 KiB of stack.
+   No path that does so is shorter. Takes at most 256 KiB of stack.
 
    Returns 0, and sets
    *verdict   the verdict of the line, 11 for one that the list hasn't.

@@ -1436,7 +1436,7 @@ pub fn judge(
 ///
 /// A line that the list hasn't gets [`Verdict::Missing`].
 ///
-/// Takes at most 512 KiB of stack.
+/// Takes at most 256 KiB of stack.
 ///
 /// # Errors
 ///
