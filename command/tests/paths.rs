@@ -12,7 +12,7 @@ use common::option;
 use coverage::Tally;
 use oracle::condition::Condition;
 use oracle::generate::{self, Random};
-use oracle::marks::{self, gained_uses, Judge, Kind};
+use oracle::marks::{self, Judge, Kind};
 use oracle::paths::{check_why, check_witness, Because, Witnessed};
 use oracle::program::Program;
 use serde_json::Value;
@@ -234,7 +234,6 @@ fn explained_lists_have_all_reasons() {
         let explained = object(&base, &["check", ".", "--json", "--explain"]);
         let text = printed(&run_in(&base, &["check", ".", "--explain"]));
         let verdicts = Judge::new(&program).verdicts(&list);
-        assert!(gained_uses(&list, &verdicts).len() <= list.len());
         let mut expected = String::new();
         for (line, &verdict) in verdicts.iter().enumerate() {
             let number = (line + 1).to_string();
