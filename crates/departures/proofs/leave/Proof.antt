@@ -13,7 +13,7 @@ slice-aggregate-head : tie.Need-slice-aggregate-head
 slice-aggregate-head c = sym (head-size (c .before .before .before .before .before .before .args .steps .now) (c .before .before .before .before .before .before .pre .0 .steps-size))
 
 measure-requires : tie.Need-measure-requires
-measure-requires c κs = let a = c .before .before .before .before .before .before .before .before .before .before in let d = a .pre .0 .directions in ((a .pre .0 .opposite-size, d .few), (d .back, (a .pre .1 .0 .0, a .pre .1 .0 .1, omega (arith, d .few, c .before .blank-numbers .ensures .size))))
+measure-requires c κs = let a = c .before .before .before .before .before .before .before .before .before .before in let d = a .pre .0 .directions in ((a .pre .0 .opposite-size, d .few), (d .back, (omega (arith, a .pre .1 .0 .0, a .pre .1 .0 .1), omega (arith, a .pre .1 .0 .0, a .pre .1 .0 .1), omega (arith, d .few, c .before .blank-numbers .ensures .size))))
 
 nearest-requires : tie.Need-nearest-requires
 nearest-requires c κs =
