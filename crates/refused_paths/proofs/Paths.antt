@@ -1,9 +1,8 @@
 -- From the rows of a search, and the way that it finds, to the path of a refused mark. Assumes nothing.
-use mathlib.Core.Path.{_≡_, refl, sym, ap, _∙_}
-use mathlib.Core.Bool.{Bool}
+use mathlib.Core.Path.{_≡_, refl, sym, _∙_}
 use mathlib.Core.Logic.{_↔_, inl, inr}
 use mathlib.Core.List.{List}
-use Prim.Native.Nat.{ℕ, suc, _+_, _-_, _≤_, _<_}
+use Prim.Native.Nat.{ℕ, suc, _+_, _-_, _<_}
 use native.Mathlib.Omega.{arith}
 use lib.ListN.{length, getD}
 use Rattle.language.specs.declared.Statement.{Statement}
@@ -11,7 +10,6 @@ use Rattle.bits.specs.Row.{member}
 use Rattle.ctl.specs.Paths.{Graph, So, Direction, forward, backward}
 use Rattle.flow.specs.Flow.{steps}
 use Rattle.flow.specs.FlowOf.{flowAt}
-use Rattle.truth.specs.Truth.{usesOf}
 use Rattle.atoms.specs.Facts.{usedIn}
 use Rattle.atoms.proofs.Rows.{facts-in}
 use Rattle.table.specs.Rules.{direction, flowSteps, BothWays}
@@ -23,7 +21,7 @@ use Rattle.marks.specs.declared.Mark.{Mark}
 use Rattle.marks.specs.declared.Mark.the-variants.{Rm, Rpl, Cse}
 use Rattle.rewriting.specs.Verdicts as verdicts
 use Rattle.rewriting.specs.Verdicts.{Widened}
-use Rattle.refused_marks.specs.RefusedMarks.{directionOf, Passes, UsedBy, Culprit, ShownBy, PathOf}
+use Rattle.refused_marks.specs.RefusedMarks.{directionOf, Passes, UsedBy, Culprit, PathOf}
 use Rattle.refused_marks.specs.Ends.{Ends}
 use Rattle.refused_marks.proofs.Culprits.{culprit-ends}
 use Rattle.refused_marks.proofs.Conditions.{unmet-some}
@@ -104,14 +102,14 @@ module _ {P : List Statement} {ms : List Mark} {m : Mark} {n : ℕ} {rows : List
       pub end-word : getD new (k - 1) 0 ≡ suc end
       end-word = let e : k - 1 ≡ 0 + last (f .ls) = omega (arith, f .counted) in rw e (f .told .words (last (f .ls)) (omega (arith, f .departs .leaves)))
 
-      pub end-reached : Ends (usedIn rows) P m end
+      end-reached : Ends (usedIn rows) P m end
       end-reached = w .ends .exact end end-inside .0 (f .departs .ends)
 
-      pub path-found : (t c : ℕ) → t ≡ end → Culprit (usedIn rows) P m t c → PathOf U P m old new k c
+      pub path-found : (t c : ℕ) → t ≡ end → (Ends (usedIn rows) P m t → Culprit (usedIn rows) P m t c) → PathOf U P m old new k c
       path-found t c is h = record {
         ls = f .ls;
         counted = f .counted;
-        shown = record { way = model .way; leaves = model .leaves; ends = culprit-by m refl end c end-inside (rw is at h); between = model .between };
+        shown = record { way = model .way; leaves = model .leaves; ends = culprit-by m refl end c end-inside ((rw is at h) end-reached); between = model .between };
         shortest = λ d ks b. let v = to-search (departs-same (model-graph (directionOf m)) (verdicts.place m) (omega (arith, r .known .size, r .inside)) (λ s u l. refl) (λ s l x. x) (λ s l y. culprit-ends U P (λ x u. inl) m s d y) b) in f .shortest ks (v .way) v;
         told = f .told;
       }

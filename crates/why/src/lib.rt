@@ -1,17 +1,11 @@
 // A call: why a mark of a list is refused. It takes any bytes, and has no `requires`.
 ghost use mathlib.Core.Path.{_≡_};
 ghost use mathlib.Core.List.{List};
-ghost use Prim.Native.Nat.{ℕ, _+_, _≤_, _<_};
+ghost use Prim.Native.Nat.{ℕ, _≤_, _<_};
 ghost use lib.ListN.{length};
-ghost use Rattle.program.specs.Program.{Taken, row-words};
+ghost use Rattle.program.specs.Program.{Taken};
 ghost use Rattle.program.specs.Reading.{statements, Held};
-ghost use Rattle.truth.specs.Truth.{usesOf};
-ghost use Rattle.atoms.specs.Facts.{Sized};
-ghost use Rattle.table.specs.Known.{Known};
-ghost use Rattle.marks.specs.Marks.{ValidMark, markAt};
-ghost use Rattle.marks.specs.Reading.{Taken as TakenMarks};
-ghost use Rattle.marks.specs.declared.Mark.{Mark as MarkOf};
-ghost use Rattle.refused_paths.specs.Searching.{variableOf, Rowed};
+ghost use Rattle.refused_paths.specs.Searching.{variableOf};
 ghost use Rattle.explain.specs.Explain.{path-words};
 ghost use Rattle.why.specs.Why.{WhyAnswers};
 ghost use Rattle.why.specs.Lines.{MarkOfLine};

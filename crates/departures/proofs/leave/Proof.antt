@@ -1,6 +1,6 @@
 -- `departures::leave` meets its contract: the nearest successor by the distances, and the way from there on. Assumes nothing.
 use lib.ListN.{length-set}
-use mathlib.Core.Path.{_≡_, refl, sym, ap, _∙_}
+use mathlib.Core.Path.{sym, _∙_}
 use native.Mathlib.Omega.{arith}
 use Rattle.graph.proofs.Graphs.{head-size}
 use Rattle.departures.proofs.Departures.{leave-numbered, leave-few, leave-left}

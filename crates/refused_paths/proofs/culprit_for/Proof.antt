@@ -1,7 +1,7 @@
 -- `culprit_for` meets its contract, by the kind of the mark. Assumes nothing.
 use Rattle.atoms.specs.Facts.{usedIn}
 use Rattle.refused_paths.proofs.Culprits.{by-use, by-reuse}
-use mathlib.Core.Path.{_≡_, sym, _∙_}
+use mathlib.Core.Path.{sym, _∙_}
 use borrow.Author.Needs.{needs}
 use Rattle.refused_paths.proofs.culprit_for.Statement.{statement}
 use Rattle.refused_paths.proofs.culprit_for.Tie as tie

@@ -1,7 +1,7 @@
 -- `outside` meets its contract: the places below n less those of the row. Assumes nothing.
 use Rattle.bits.specs.Row.{member}
 use mathlib.Core.Bool.{Bool, not, _&&_}
-use mathlib.Core.Path.{_≡_, ap, _∙_}
+use mathlib.Core.Path.{ap, _∙_}
 use borrow.Author.Needs.{needs}
 use Rattle.refused_paths.proofs.outside.Statement.{statement}
 use Rattle.refused_paths.proofs.outside.Tie as tie

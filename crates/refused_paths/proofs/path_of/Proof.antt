@@ -1,10 +1,7 @@
 -- `path_of` meets its contract: the way that the search finds is the path, and its last word tells the place of the culprit. Assumes nothing.
-use Rattle.refused_marks.specs.Ends.{Ends}
-use Rattle.atoms.specs.Facts.{usedIn}
-use Prim.Native.Nat.{ℕ}
-use Rattle.refused_paths.proofs.Paths.{refused-facts, refused-room, refused-ways, search-some, end-inside, end-word, end-reached, path-found}
+use Rattle.refused_paths.proofs.Paths.{refused-facts, refused-room, refused-ways, search-some, end-inside, end-word, path-found}
 use native.Mathlib.Omega.{arith}
-use mathlib.Core.Path.{_≡_, sym, _∙_, subst}
+use mathlib.Core.Path.{_∙_}
 use borrow.Author.Needs.{needs}
 use Rattle.refused_paths.proofs.path_of.Statement.{statement}
 use Rattle.refused_paths.proofs.path_of.Tie as tie
@@ -49,7 +46,7 @@ returns c =
       λ P ms r.
           let w = c .before .before .before .before .before .before .before .before .before .before .before .rows-for .ensures P (refused-facts r) in
           let f = rw (c .before .before .before .before .before .before .before .before .goes-back .ensures, a .pre .0 .here) at (c .before .before .before .before .search .ensures .0) in
-          path-found r w f _ _ (omega (arith, end-word r w f)) (c .culprit-for .ensures P (refused-facts r) (r .uses) (subst (λ (t : ℕ). Ends (usedIn (a .args .rows .now)) P (a .args .m) t) (omega (arith, end-word r w f)) (end-reached r w f))),
+          path-found r w f _ _ (omega (arith, end-word r w f)) (c .culprit-for .ensures P (refused-facts r) (r .uses)),
       c .before .before .before .before .search .ensures .1,
     )
 

@@ -1,5 +1,5 @@
 -- `search` meets its contract: each direction is lent as its part of the numbers. Assumes nothing.
-use mathlib.Core.Path.{_≡_, sym}
+use mathlib.Core.Path.{sym}
 use native.Mathlib.Omega.{arith}
 use Rattle.table.proofs.Parts.{forward-size, backward-part, lent-ahead, lent-behind}
 use borrow.Author.Needs.{needs}

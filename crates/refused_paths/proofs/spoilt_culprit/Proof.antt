@@ -1,7 +1,7 @@
 -- `spoilt_culprit` meets its contract, by the row of the definitions and that of the kept expression. Assumes nothing.
 use Rattle.refused_paths.proofs.Culprits.{by-definition, by-spoiling, by-start}
 use Rattle.base.proofs.Bools.{false-of-not, true-of-not}
-use mathlib.Core.Path.{_≡_, sym, _∙_}
+use mathlib.Core.Path.{sym, _∙_}
 use borrow.Author.Needs.{needs}
 use Rattle.refused_paths.proofs.spoilt_culprit.Statement.{statement}
 use Rattle.refused_paths.proofs.spoilt_culprit.Tie as tie

@@ -1,20 +1,15 @@
 -- `at_line` meets its contract: judged as `judge` does it, and where the byte is 14 the path that the search finds. Assumes nothing.
 use Rattle.why.proofs.Answers.{line-few, line-variable, own-uses, refusal, refusal-place, told-other, told-path}
-use Rattle.truth.specs.Truth.{usesOf}
-use Rattle.refused_paths.specs.Searching.{variableOf, Rowed}
 use Rattle.table.specs.Known.{Known}
 use Rattle.calls.proofs.Known.{known-program}
 use Rattle.atoms.proofs.Rows.{facts-in}
 use Rattle.atoms.proofs.Found.{placeless}
 use Rattle.program.specs.Reading.{statements}
 use native.Mathlib.Omega.{arith}
-use Prim.Native.Nat.{ℕ}
-use mathlib.Core.List.{List}
-use mathlib.Core.Path.{_≡_, refl, sym, _∙_}
+use mathlib.Core.Path.{sym, _∙_}
 use borrow.Author.Needs.{needs}
 use Rattle.why.proofs.at_line.Statement.{statement}
 use Rattle.why.proofs.at_line.Tie as tie
-use Rattle.flow.proofs.blank.Reads as blank-reads′
 
 -- what is known of the program before its list is judged
 program-known : (c : tie.After-flow2) → Known (statements (c .before .before .before .before .before .before .before .before .before .before .before .before .before .args .p)) (c .before .before .before .before .before .before .before .before .before .before .before .before .before .args .p .count) (c .before .before .before .before .before .before .find .last .1 .0) (c .before .before .before .before .before .before .find .last .1 .1 .0) (c .before .of .last .1 .0)

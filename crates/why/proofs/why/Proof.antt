@@ -1,7 +1,6 @@
 -- `why` meets its contract. Assumes nothing.
 use Rattle.why.proofs.Answers.{told-missing}
 use Rattle.why.proofs.Lines.{line-missing, line-mark}
-use Rattle.why.specs.Lines.{MarkOfLine}
 use Rattle.program.specs.Program.{Taken}
 use Rattle.program.specs.Reading.{statements, Held}
 use mathlib.Core.Logic.{inl, inr}
@@ -9,8 +8,6 @@ use mathlib.Core.Path.{refl}
 use borrow.Author.Needs.{needs}
 use Rattle.why.proofs.why.Statement.{statement}
 use Rattle.why.proofs.why.Tie as tie
-use Rattle.program.proofs.number_of.Reads as number-of-reads′
-use Rattle.rewriting.proofs.number_of.Reads as number-of-reads′′
 
 -- the text that was read is taken
 program-taken : (c : tie.After-enum-told) → Taken (c .before .before .before .before .before .before .before .args .program .now) (statements (c .before .before .read .result .program)) × Held (c .before .before .read .result .program)
