@@ -15,6 +15,10 @@
      nearer to 0 than the divisor, and 0 or of the dividend's sign, but at the end of the range;
    - `use` holds at the last statement of what is written and of what the unit keeps, i24 to i31;
    - `!` in front of a condition complements its row and keeps the others;
+   - a path for a part of a condition at a statement starts there and goes by the program's steps, and its turn is one of
+     them. There is one where the row of the operator has E true, or A false, and no other; each statement but
+     the last has the same row's truth, and without a path the truth is the part's own. Whatever part and statement are asked
+     for, the refusals are those of the table;
    - a review is refused for its first line that is refused alone, its tables are those of its lines'
      parts alone, and there is one for each part that is spelled differently, in the order of endings;
    - a driver's list is refused exactly where it isn't names with single spaces between, or has one twice;
@@ -26,6 +30,9 @@
    - the verdict of another that fits is that of its published condition's table. In that of a mark
      that drops, each statement that is to read the variable by an accepted `cse` of the list, up to
      twenty, is a use: without them the table may tell otherwise, and never refuses more;
+   - a mark is told its verdict once more with a path, which has statements exactly with 14: from the mark's own on, by the program's steps,
+     forward to a use of the variable with no definition between, or a statement that an accepted `cse` makes read it, backward to one
+     that defines the variable or an operand, or to the first, with no copy on the way; the culprit is what the last one does;
    - what is dropped becomes `skip`, and what is reused a copy;
    - a table of prices is refused 19 exactly where a line isn't a number from 1 to 65,535 as it is printed,
      else 20 where there aren't eleven; then it is kept as it was;
@@ -78,6 +85,7 @@
 #define SET_WORDS (2 * PART_WORDS)
 #define LIST_WORDS (VARIABLES * SET_WORDS)
 #define LONGEST 1024
+#define PATH_WORDS (STATEMENTS + 1)
 #define VERDICT_BYTES MARKS
 #define TEXT_BYTES (34 * STATEMENTS)
 #define MOST_READERS 20
@@ -544,8 +552,131 @@ static uint8_t tabulate(struct text program, struct text condition, size_t room,
 
 static int holds(const uint64_t *row, size_t n) { return row[(n - 1) / 64] >> (n - 1) % 64 & 1; }
 
+/* Paths */
+
+/* Whether one statement of a program steps to another; backward, whether the other does, or nothing steps to the one
+   and it is the other too. */
+static int steps_to(struct text program, size_t from, size_t to) {
+    unsigned tested, then, other;
+    char line[64];
+
+    copy_line(program, from, line);
+    if (sscanf(line, "if i%u goto %u else %u", &tested, &then, &other) == 3) return to == then || to == other;
+    return to == from + (strncmp(line, "write", 5) != 0);
+}
+
+static int steps_back(struct text program, size_t from, size_t to) {
+    size_t lines = lines_of(program);
+
+    if (from != to) return to < lines && steps_to(program, to, from);
+    for (size_t n = 1; n < lines; n++)
+        if (steps_to(program, n, from)) return from < lines && steps_to(program, from, from);
+    return 1;
+}
+
+struct path {
+    uint32_t length, turn, truth, statements[PATH_WORDS];
+};
+
+static uint8_t witness(struct text program, struct text condition, uint32_t part, uint32_t statement,
+                       size_t room, struct path *answer) {
+    uint32_t places[7];
+    uint32_t *words = (uint32_t *)(void *)lend(&tables, room * sizeof *words);
+    uint8_t number;
+
+    unset(places, 7);
+    number = rewrites_witness(program.bytes, program.length, condition.bytes, condition.length, part,
+                              statement, words, room, &places[1], &places[3], &places[5]);
+    for (size_t k = 0; k < 7; k++) REQUIRE((number == 0 && k % 2 == 1) || places[k] == UNSET);
+    if (number == 0) {
+        answer->length = places[1];
+        answer->turn = places[3];
+        answer->truth = places[5];
+        /* A path keeps the truth. */
+        REQUIRE(answer->length == 0 ? answer->truth <= 1 && answer->turn == 0 : answer->truth == UNSET);
+        REQUIRE(answer->length <= STATEMENTS && answer->turn <= answer->length);
+        set(&tables, (uint8_t *)words, answer->length * sizeof *words);
+        memcpy(answer->statements, words, answer->length * sizeof *words);
+    }
+    require_kept(&tables);
+    return number;
+}
+
+/* The path of a part, whose text ends where the condition does where it is the last, at a statement. */
+static void check_path(struct text program, struct text condition, const struct table *table, uint32_t part,
+                       uint32_t statement) {
+    static struct path answer;
+    const uint64_t *row = table->words + PART_WORDS * part;
+    size_t lines = lines_of(program), depth = 0;
+    int is_back, is_all, is_true;
+    const uint8_t *text = condition.bytes;
+
+    REQUIRE(witness(program, condition, part, statement, PATH_WORDS, &answer) == 0);
+    if (statement < 1 || statement > lines || part >= table->parts) {
+        REQUIRE(answer.length == 0 && answer.truth == 0);
+        return;
+    }
+    is_true = holds(row, statement);
+    if (answer.length == 0) REQUIRE(answer.truth == (uint32_t)is_true);
+    met(OF_CALLS, 1500 + (answer.length > 0) + 2 * (answer.turn > 0) + 4 * (answer.length > 8));
+    if (part + 1 < table->parts) return;
+
+    /* Of the whole condition the operator is known by its text: `!` before it are looked through. */
+    while (depth < condition.length && text[depth] == '!') depth++;
+    if (depth == condition.length || (text[depth] != 'E' && text[depth] != 'A')) {
+        REQUIRE(answer.length == 0);
+        return;
+    }
+    is_all = text[depth] == 'A';
+    REQUIRE((answer.length > 0) == (((is_true + depth) % 2 != 0) != is_all));
+    if (answer.length == 0) return;
+    if (text[depth + 1] == '[') {
+        /* The letter between the operands, at the depth of this bracket. */
+        size_t open = 0, at = depth + 1;
+
+        for (;; at++) {
+            open += text[at] == '[' || text[at] == '(';
+            open -= text[at] == ']' || text[at] == ')';
+            if (open == 1 && text[at] == ' ' && strchr("UWSB", text[at + 1]) && text[at + 2] == ' ') break;
+        }
+        is_back = text[at + 1] == 'S' || text[at + 1] == 'B';
+    } else {
+        is_back = strchr("YRM", text[depth + 1]) != NULL;
+    }
+    REQUIRE(answer.statements[0] == statement);
+    for (size_t k = 0; k < answer.length; k++) {
+        size_t from = answer.statements[k];
+        size_t next = k + 1 < answer.length ? k + 1 : answer.turn > 0 ? answer.turn - 1 : k;
+
+        REQUIRE(from >= 1 && from <= lines);
+        /* From each statement the rest of the path shows the operator, but for that of X and Y. */
+        if (!strchr("XY", text[depth + 1])) REQUIRE(holds(row, from) == is_true);
+        if (next != k || answer.turn == answer.length) {
+            size_t to = answer.statements[next];
+
+            REQUIRE(to >= 1 && to <= lines);
+            REQUIRE(is_back ? steps_back(program, from, to) : steps_to(program, from, to));
+        }
+    }
+}
+
+static void check_paths(struct text program, struct text condition, const struct table *table) {
+    static struct path answer;
+    const uint32_t lines = (uint32_t)lines_of(program), last = table->parts - 1;
+
+    REQUIRE(witness(program, condition, last, 1, PATH_WORDS - 1, &answer) == 1);
+    for (uint32_t n = 0; n <= lines + 1; n += lines > 40 && n > 4 ? lines / 8 : 1) {
+        check_path(program, condition, table, last, n);
+        check_path(program, condition, table, n % table->parts, n);
+    }
+    check_path(program, condition, table, last, lines);
+    check_path(program, condition, table, table->parts, 1);
+    check_path(program, condition, table, UINT32_MAX, UINT32_MAX);
+}
+
 static uint8_t check_condition(struct text program, struct text condition, uint8_t refused) {
     static struct table answer, opposite;
+    static struct path path;
     static uint8_t longer[1025];
     size_t lines = lines_of(program), count = 0, first = 0;
     uint8_t number = tabulate(program, condition, TABLE_WORDS, &answer);
@@ -553,6 +684,7 @@ static uint8_t check_condition(struct text program, struct text condition, uint8
 
     REQUIRE(tabulate(program, condition, TABLE_WORDS - 1, &opposite) == 1);
     met(OF_CALLS, 16 + number);
+    REQUIRE(witness(program, condition, 0, 1, PATH_WORDS, &path) == number);
     if (refused != 0) {
         REQUIRE(number == refused);
         return number;
@@ -560,6 +692,7 @@ static uint8_t check_condition(struct text program, struct text condition, uint8
     REQUIRE((condition.length > 1024) == (number == 6));
     REQUIRE(number == 0 || (number >= 6 && number <= 8));
     if (number != 0) return number;
+    check_paths(program, condition, &answer);
     met(OF_CALLS, 512 + answer.parts);
     met_text(OF_CONDITIONS, condition.bytes, condition.length);
     for (size_t k = 0; k < answer.parts; k++)
@@ -1110,6 +1243,138 @@ static void check_verdicts(struct text program, struct text marks, const struct 
     REQUIRE(start == marks.length && accepted == answer->accepted);
 }
 
+/* Why a mark is refused */
+
+struct reason {
+    uint32_t verdict, length, culprit, path[PATH_WORDS];
+};
+
+static uint8_t why(struct text program, struct text marks, uint32_t line, size_t room, struct reason *answer) {
+    uint32_t places[7];
+    uint32_t *words = (uint32_t *)(void *)lend(&tables, room * sizeof *words);
+    uint8_t number;
+
+    unset(places, 7);
+    number = rewrites_why(program.bytes, program.length, marks.bytes, marks.length, line, words, room, &places[1],
+                          &places[3], &places[5]);
+    for (size_t k = 0; k < 7; k++) REQUIRE((number == 0 && k % 2 == 1) || places[k] == UNSET);
+    if (number == 0) {
+        answer->verdict = places[1];
+        answer->length = places[3];
+        answer->culprit = places[5];
+        REQUIRE(answer->length <= PATH_WORDS);
+        set(&tables, (uint8_t *)words, answer->length * sizeof *words);
+        memcpy(answer->path, words, answer->length * sizeof *words);
+    }
+    require_kept(&tables);
+    return number;
+}
+
+/* Whether a variable stands in a text as a whole word. */
+static int has_word(const char *text, const char *word) {
+    size_t length = strlen(word);
+
+    for (const char *at = strstr(text, word); at != NULL; at = strstr(at + length, word))
+        if ((at == text || at[-1] == ' ') && (at[length] == 0 || at[length] == ' ')) return 1;
+    return 0;
+}
+
+/* The variable that a statement defines, empty where it defines none. */
+static void defined_by(const char *line, char name[8]) {
+    name[0] = 0;
+    if (sscanf(line, "read %7s", name) == 1) return;
+    if (strstr(line, " := ") == NULL || sscanf(line, "%7s :=", name) != 1) name[0] = 0;
+}
+
+/* Of more statements that are to read a variable than are held, the rest isn't known. */
+#define UNKNOWN UINT32_MAX
+
+/* The culprit that a statement is for a mark, 0 where it is none; and whether a path may go on past it. */
+static uint32_t culprit_at(struct text program, size_t n, const char *kind, const char *name, const char *right,
+                           const struct readers *readers, int *passes) {
+    char line[64], defined[8];
+    unsigned variable;
+    int is_copy;
+
+    copy_line(program, n, line);
+    defined_by(line, defined);
+    REQUIRE(sscanf(name, "i%u", &variable) == 1);
+    if (strcmp(kind, "rm") == 0) {
+        const char *used = strstr(line, " := ");
+        int is_kept = strncmp(line, "write", 5) == 0 && variable >= FIRST_KEPT && variable < FIRST_KEPT + KEPT;
+
+        *passes = strcmp(defined, name) != 0;
+        if (used != NULL) used += 4;
+        else used = strncmp(line, "read", 4) == 0 ? "" : line;
+        if (has_word(used, name) || is_kept) return REWRITES_USED;
+        for (size_t k = 0; k < readers->counts[variable] && k < MOST_READERS; k++)
+            if (readers->statements[variable][k] == n) return REWRITES_USED_BY_CSE;
+        return readers->counts[variable] > MOST_READERS ? UNKNOWN : 0;
+    }
+    is_copy = strcmp(defined, name) == 0 && strncmp(line, "read", 4) != 0 && strcmp(strstr(line, " := ") + 4, right) == 0 &&
+              (strcmp(kind, "rpl") == 0 || !has_word(right, name));
+    *passes = !is_copy;
+    if (is_copy) return 0;
+    if (strcmp(defined, name) == 0) return REWRITES_REDEFINED;
+    if (defined[0] != 0 && has_word(right, defined)) return REWRITES_OPERAND_REDEFINED;
+    return n == 1 ? REWRITES_NOTHING_COPIED : 0;
+}
+
+/* What is told of a line with this verdict. */
+static void check_reason(struct text program, struct text marks, uint32_t j, const char *mark, uint8_t verdict,
+                         const struct readers *readers) {
+    static struct reason answer;
+    char kind[4], name[8], right[64];
+    unsigned long number;
+    size_t lines = lines_of(program);
+    int passes;
+
+    REQUIRE(why(program, marks, j, PATH_WORDS, &answer) == 0);
+    REQUIRE(answer.verdict == verdict);
+    if (verdict != REWRITES_UNMET) {
+        REQUIRE(answer.length == 0 && answer.culprit == REWRITES_NO_CULPRIT);
+        return;
+    }
+    REQUIRE(sscanf(mark, "%lu: mark(%3[a-z], %7[i0-9], %63[^)])", &number, kind, name, right) == 4);
+    REQUIRE(answer.length >= 2 && answer.path[0] == number);
+    for (size_t k = 1; k < answer.length; k++) {
+        size_t from = answer.path[k - 1], to = answer.path[k];
+        uint32_t culprit;
+
+        REQUIRE(to >= 1 && to <= lines);
+        REQUIRE(strcmp(kind, "rm") == 0 ? steps_to(program, from, to) : steps_back(program, from, to));
+        culprit = culprit_at(program, to, kind, name, right, readers, &passes);
+        if (k + 1 < answer.length)
+            REQUIRE(passes && (culprit == 0 || culprit == UNKNOWN));
+        else
+            REQUIRE(culprit == answer.culprit || (culprit == UNKNOWN && answer.culprit == REWRITES_USED_BY_CSE));
+    }
+    met(OF_CALLS, 1520 + answer.culprit + 8 * (answer.length > 2) + 16 * (answer.length > 8));
+}
+
+/* Each line of a list, some of a long one, and such that aren't there. */
+static void check_reasons(struct text program, struct text marks, uint8_t refused, const struct judgement *judged) {
+    static struct readers readers;
+    static struct reason answer;
+    const uint32_t beyond[4] = {judged->marks, MARKS, 65536, UINT32_MAX};
+    size_t start = 0;
+    char line[128];
+
+    REQUIRE(why(program, marks, 0, PATH_WORDS - 1, &answer) == 1);
+    REQUIRE(why(program, marks, 0, PATH_WORDS, &answer) == refused);
+    if (refused != 0) return;
+    find_readers(marks, judged, &readers);
+    for (uint32_t j = 0; j < judged->marks; j++) {
+        next_line(marks, &start, line);
+        if (judged->marks <= 24 || j % 64 == 3)
+            check_reason(program, marks, j, line, judged->verdicts[j], &readers);
+    }
+    for (size_t k = 0; k < 4; k++) {
+        REQUIRE(why(program, marks, beyond[k], PATH_WORDS, &answer) == 0);
+        REQUIRE(beyond[k] < judged->marks || answer.verdict == REWRITES_MISSING);
+    }
+}
+
 /* Reports */
 
 /* The report on a list that judging answers with this number: the prices of both texts, line by line. */
@@ -1354,6 +1619,7 @@ static void check_marks(struct text program, struct text marks, uint8_t refused,
     met(OF_CALLS, 32 + number);
     REQUIRE(list(program, &marks, LIST_WORDS - 1, &listing) == 1);
     REQUIRE(list(program, &marks, LIST_WORDS, &listing) == number);
+    check_reasons(program, marks, number, &answer);
     if (refused != 0) {
         REQUIRE(number == refused);
         check_report(program, marks, number, program);

@@ -43,6 +43,7 @@
 #define REWRITES_PARTS 64              /* the most parts of a condition */
 #define REWRITES_PART_WORDS 16         /* the words of a part: a bit for each of the most statements */
 #define REWRITES_TABLE_WORDS 1024      /* a table: the words of the most parts */
+#define REWRITES_PATH_WORDS 1025       /* a path: a word for each of the most statements, and one */
 #define REWRITES_REVIEW_LINES 32       /* the most lines of a review */
 #define REWRITES_REVIEW_TABLES 128     /* the most differing parts of a review */
 #define REWRITES_REVIEW_WORDS 2048     /* the table of a review */
@@ -92,6 +93,16 @@ enum rewrites_verdict {
     REWRITES_UNFIT = 13,      /* the mark doesn't fit */
     REWRITES_UNMET = 14,      /* its condition is false */
     REWRITES_MAY_FAULT = 18   /* it drops a division that may fault */
+};
+
+/* What the last statement of a path does that rewrites_why tells, as *culprit. */
+enum rewrites_culprit {
+    REWRITES_NO_CULPRIT = 0,
+    REWRITES_USED = 1,              /* it uses the variable */
+    REWRITES_USED_BY_CSE = 2,       /* an accepted `cse` of the list makes it use the variable */
+    REWRITES_REDEFINED = 3,         /* it defines the variable otherwise */
+    REWRITES_OPERAND_REDEFINED = 4, /* it defines a variable of A or E */
+    REWRITES_NOTHING_COPIED = 5     /* it is statement 1: nothing was copied yet */
 };
 
 /* What rewrites_run puts into *ended. */
@@ -223,6 +234,40 @@ uint8_t rewrites_review(const uint8_t *program, size_t program_len, const uint8_
                         uint32_t satisfied[REWRITES_REVIEW_LINES],
                         uint32_t first[REWRITES_REVIEW_LINES]);
 
+/* Tells a path that shows why part k of a condition, counted from 0 as with rewrites_tabulate, is true at
+   a statement, counted from 1, or why it is false. Negations before a path operator are looked through:
+   the path is about the operator below them. It bears out E of that operator, or speaks against A of it:
+   X, Y     two statements, the last of which has what is asked for, or hasn't.
+   F, U, R, S of E; G, W, M, B of A
+            a way, to the statement that settles it. It is the shortest that there is, and the path goes on
+            behind it by any steps that exist.
+   G, M of E; F, R of A
+            a path that goes round for ever, in at most as many statements as the program has.
+   W, B of E; U, S of A
+            either of the two.
+   Forward operators follow the program's steps, `write` stepping to itself; backward ones follow them the
+   other way, a statement that nothing steps to, as the first, stepping to itself. Where E is true, or A
+   false, there is such a path and it is told; else there is none. A part that has no path operator outside has
+   none. Takes at most 384 KiB of stack, most where brackets stand within one another.
+
+   Returns 0, and sets
+   path       with a path: the first *length words to its statements, from the one that was asked for on.
+              All further words are kept, and all words without one.
+   *length    with a path: how many statements it has, 1 to as many as the program; else 0.
+   *turn      with a path that goes round: the word, counted from 1, to whose statement the last one steps
+              back; else 0.
+   *truth     without a path: 1 where the part is true at the statement, with all its negations, else 0;
+              0 too for a part that the condition hasn't, or a statement that the program hasn't. With a path
+              *truth is kept.
+
+   Returns the number of a refusal, and keeps all:
+    1: the path has under 1,025 words.
+    2 to 5: the program, as with rewrites_run.
+    6 to 8: the condition, as with rewrites_tabulate. */
+uint8_t rewrites_witness(const uint8_t *program, size_t program_len, const uint8_t *condition,
+                         size_t condition_len, uint32_t part, uint32_t statement, uint32_t *path,
+                         size_t path_len, uint32_t *length, uint32_t *turn, uint32_t *truth);
+
 /* Tells what a driver can force. The list, empty or with single spaces between, names the variables
    that are his: at an `if` on one of them he picks the arm, at every other the unit does, without
    regard to values. `write` steps to itself. Takes at most 384 KiB of stack, most where brackets stand
@@ -301,6 +346,33 @@ uint8_t rewrites_force(const uint8_t *program, size_t program_len, const uint8_t
 uint8_t rewrites_judge(const uint8_t *program, size_t program_len, const uint8_t *marks,
                        size_t marks_len, uint8_t *verdicts, size_t verdicts_len, uint8_t *text,
                        size_t text_len, uint32_t *mark_count, uint32_t *accepted, uint32_t *bytes);
+
+/* Tells why a mark of a list gets verdict 14: a path from its statement n on that speaks against its
+   condition. The list is judged as by rewrites_judge; line j, counted from 0, is the one whose verdict
+   fills byte j.
+   rm       forward, by at least one step, to a statement that uses X, none between defining X. A use that
+            an accepted `cse` of the list adds counts.
+   rpl, cse backward, by at least one step, to a statement that defines X or a variable of A or E, or to
+            statement 1, with no copy `X := A` on the way, or no `T := E` that leaves E as it was. A statement
+            that nothing steps to, as the first, steps back to itself.
+   No path that does so is shorter. Takes at most 256 KiB of stack.
+
+   Returns 0, and sets
+   *verdict   the verdict of the line, 11 for one that the list hasn't.
+   path       with verdict 14: the first *length words to the path's statements, n first. All further words are
+              kept, and all words with another verdict.
+   *length    with verdict 14: how many statements the path has, 2 to 1,025; else 0.
+   *culprit   with verdict 14: what the last of them does, the first that applies of an enum rewrites_culprit;
+              else 0.
+
+   Returns the number of a refusal, and keeps all:
+    1: the path has under 1,025 words.
+    2 to 5: the program, as with rewrites_run.
+    9: some line of the marks is misspelled, or the last is without its byte 10.
+   10: the marks have over 1,024 lines. */
+uint8_t rewrites_why(const uint8_t *program, size_t program_len, const uint8_t *marks, size_t marks_len,
+                     uint32_t line, uint32_t *path, size_t path_len, uint32_t *verdict, uint32_t *length,
+                     uint32_t *culprit);
 
 /* Tells the price of each statement in ticks, before and after the accepted marks of a list are made,
    and the totals. The list is judged as by rewrites_judge, and the prices are those of the table that

@@ -68,6 +68,7 @@ CONDITION_BYTES = 1024
 PARTS = 64
 PART_WORDS = 16
 TABLE_WORDS = 1024
+PATH_WORDS = 1025
 REVIEW_LINES = 32
 REVIEW_TABLES = 128
 REVIEW_WORDS = 2048
@@ -252,6 +253,34 @@ _VERDICTS = {
 }
 
 
+class Culprit(enum.IntEnum):
+    """What the last statement of a path does that speaks against a mark.
+
+    >>> Culprit(5).name, Culprit(5).words
+    ('NOTHING_COPIED', 'statement 1: nothing was copied yet')
+    """
+
+    USED = 1
+    USED_BY_CSE = 2
+    REDEFINED = 3
+    OPERAND_REDEFINED = 4
+    NOTHING_COPIED = 5
+
+    @property
+    def words(self) -> str:
+        """The culprit in words."""
+        return _CULPRITS[self]
+
+
+_CULPRITS = {
+    Culprit.USED: "the last statement uses the variable",
+    Culprit.USED_BY_CSE: "an accepted cse makes the last statement use the variable",
+    Culprit.REDEFINED: "the last statement defines the variable",
+    Culprit.OPERAND_REDEFINED: "the last statement defines a variable of the right side",
+    Culprit.NOTHING_COPIED: "statement 1: nothing was copied yet",
+}
+
+
 class Arm(enum.IntEnum):
     """An arm of an `if`."""
 
@@ -357,6 +386,27 @@ class Tabulated:
 
 
 @dataclass(frozen=True)
+class Path:
+    """The statements that a path comes by, and where it goes round for ever the entry of them, counted from 1, to which the last one steps back.
+    Where turn is None it goes on by any steps that exist."""
+
+    statements: Tuple[int, ...]
+    turn: Optional[int]
+
+    @property
+    def round(self) -> Tuple[int, ...]:
+        """The statements that the path goes round by, none where it has no turn."""
+        return self.statements[self.turn - 1 :] if self.turn else ()
+
+
+@dataclass(frozen=True)
+class NoPath:
+    """No path shows what is asked for; and whether it is true."""
+
+    truth: bool
+
+
+@dataclass(frozen=True)
 class Reviewed:
     """The number of tables and of lines; for each line its table, its number of parts, how many statements satisfy it, and the first of
     them, 0 if none."""
@@ -402,6 +452,15 @@ class Judged:
     bytes: int
     verdicts: Tuple[Verdict, ...]
     text: str
+
+
+@dataclass(frozen=True)
+class Because:
+    """The verdict of a mark, and with UNMET the statements of a path that speaks against it, the mark's own first, and what the last of them does."""
+
+    verdict: Verdict
+    path: Tuple[int, ...]
+    culprit: Optional[Culprit]
 
 
 @dataclass(frozen=True)
@@ -544,6 +603,31 @@ def review(program: Text, conditions: Text) -> Reviewed:
     return Reviewed(tables.value, lines.value, *told, _table(words, tables.value))
 
 
+def witness(program: Text, condition: Text, part: int, statement: int) -> Union[Path, NoPath]:
+    """Tells a path that shows why a part of a condition, counted from 0 as in its table, is true at a statement, counted from 1, or why it is
+    false: one that bears out E of the part's path operator, or speaks against A of it. Negations before the operator are looked through. Where
+    E is false, A true, or the part has no path operator outside, the part's truth is told, and so for a part or a statement that doesn't exist.
+
+    >>> program = 'read i0\\ni1 := 7\\nif i0 goto 2 else 4\\nwrite i1\\n'
+    >>> witness(program, 'EF exit', 1, 1)
+    Path(statements=(1, 2, 3, 4), turn=None)
+    >>> answer = witness(program, 'AF exit', 1, 1)
+    >>> answer, answer.round
+    (Path(statements=(1, 2, 3), turn=2), (2, 3))
+    >>> witness(program, 'AF exit', 1, 4), witness(program, '!EF exit', 2, 5)
+    (NoPath(truth=True), NoPath(truth=False))
+    """
+    text, condition = _bytes("program", program), _bytes("condition", condition)
+    _within("part", part, 0, 2**32 - 1, ValueError)
+    _within("statement", statement, 0, 2**32 - 1, ValueError)
+    words = _array(ctypes.c_uint32, PATH_WORDS)
+    length, turn, truth = ctypes.c_uint32(), ctypes.c_uint32(), ctypes.c_uint32()
+    _call("witness", text, len(text), condition, len(condition), part, statement, words, PATH_WORDS, length, turn, truth)
+    if length.value:
+        return Path(tuple(words[: length.value]), turn.value or None)
+    return NoPath(truth.value == 1)
+
+
 def force(program: Text, driver: Text, condition: Text) -> Forced:
     """Tells where a driver, who picks the arm at each `if` on a variable of his, can force a condition however the unit answers.
 
@@ -586,6 +670,27 @@ def judge(program: Text, marks: Text) -> Judged:
     _call("judge", text, len(text), marks, len(marks), verdicts, VERDICT_BYTES, new, TEXT_BYTES, count, accepted, length)
     told = tuple(Verdict(byte) for byte in verdicts[: count.value])
     return Judged(count.value, accepted.value, length.value, told, _text(new, length.value))
+
+
+def why(program: Text, marks: Text, line: int) -> Because:
+    """Tells why a line of a list of marks, counted from 0, gets UNMET: a shortest path from its statement to one that speaks against it. For `rm` it
+    goes forward to a use of X, a use that an accepted `cse` of the list adds counted; for `rpl` and `cse` backward to what spoils the copy, or to
+    statement 1. A line that the list hasn't gets MISSING.
+
+    >>> program = 'read i0\\ni1 := 7\\nif i0 goto 4 else 5\\ni1 := i1 + i0\\ni2 := i1\\nwrite i2\\n'
+    >>> answer = why(program, '5: mark(rpl, i1, 7)\\n4: mark(rpl, i1, 7)\\n', 0)
+    >>> answer.verdict.name, answer.path, answer.culprit.name
+    ('UNMET', (5, 4), 'REDEFINED')
+    >>> why(program, '5: mark(rpl, i1, 7)\\n4: mark(rpl, i1, 7)\\n', 1).verdict.name
+    'ACCEPTED'
+    """
+    text, marks = _bytes("program", program), _bytes("marks", marks)
+    _within("line", line, 0, 2**32 - 1, ValueError)
+    words = _array(ctypes.c_uint32, PATH_WORDS)
+    verdict, length, culprit = ctypes.c_uint32(), ctypes.c_uint32(), ctypes.c_uint32()
+    _call("why", text, len(text), marks, len(marks), line, words, PATH_WORDS, verdict, length, culprit)
+    told = Culprit(culprit.value) if culprit.value else None
+    return Because(Verdict(verdict.value), tuple(words[: length.value]), told)
 
 
 def report(program: Text, marks: Text, prices: Optional[Prices] = None) -> Report:
@@ -873,8 +978,10 @@ _PARAMETERS = {
     "prices": _TEXT + [_U32],
     "tabulate": _TEXT + _TEXT + [_U64, ctypes.c_size_t, _U32, _U32, _U32],
     "review": _TEXT + _TEXT + [_U64, ctypes.c_size_t, _U32, _U32, _U32, _U32, _U32, _U32],
+    "witness": _TEXT + _TEXT + [ctypes.c_uint32, ctypes.c_uint32, _U32, ctypes.c_size_t, _U32, _U32, _U32],
     "force": _TEXT + _TEXT + _TEXT + [_U64, ctypes.c_size_t, _U32, _U32, _U32, _U32, _U8],
     "judge": _TEXT + _TEXT + [_U8, ctypes.c_size_t, _U8, ctypes.c_size_t, _U32, _U32, _U32],
+    "why": _TEXT + _TEXT + [ctypes.c_uint32, _U32, ctypes.c_size_t, _U32, _U32, _U32],
     "report": _TEXT + _TEXT + [_U32, _U32, _U32, _U32, _U32, _U32, _I32],
     "mark_line": _TEXT + [ctypes.c_uint32, _SIZE, _SIZE],
     "list": _TEXT + [_U64, ctypes.c_size_t, _U32, _U32],

@@ -8,9 +8,11 @@ use inputs::{atoms_condition, binary_condition, text, unary_condition, OPERATORS
 use inputs::{cse_and_rm_marks_for, cse_marks_for, different_marks_for, marks_for};
 use oracle::pricing::{table_text, OURS};
 use oracle::tuned;
-use rewrites::{force, join, judge, list, relist, report, review, run, tabulate, Prices};
-use rewrites::{go_back, keep, PLACES, PLACE_BYTES, STAGES_BYTES};
-use rewrites::{LIST_WORDS, MOST_STEPS, REVIEW_WORDS, STATEMENTS, TABLE_WORDS, TEXT_BYTES};
+use rewrites::{force, join, judge, list, relist, report, review, run, tabulate, why, witness};
+use rewrites::{go_back, keep, Prices, PLACES, PLACE_BYTES, STAGES_BYTES};
+use rewrites::{
+    LIST_WORDS, MOST_STEPS, PATH_WORDS, REVIEW_WORDS, STATEMENTS, TABLE_WORDS, TEXT_BYTES,
+};
 use rewrites::{UNFORCED, VARIABLES, VERDICT_BYTES};
 use std::collections::HashMap;
 use std::fs;
@@ -592,6 +594,82 @@ fn print_games(worst: &mut Worst) {
     }
 }
 
+// Paths
+
+/// A condition with one path operator, which is asked for at the first statement, or at the last where it looks back.
+struct Shown {
+    condition: &'static str,
+    is_back: bool,
+}
+
+const SHOWN: [Shown; 10] = [
+    Shown { condition: "EX true", is_back: false },
+    Shown { condition: "EF exit", is_back: false },
+    Shown { condition: "AG !exit", is_back: false },
+    Shown { condition: "E[!exit U exit]", is_back: false },
+    Shown { condition: "EG true", is_back: false },
+    Shown { condition: "AF false", is_back: false },
+    Shown { condition: "E[true W false]", is_back: false },
+    Shown { condition: "A[true U false]", is_back: false },
+    Shown { condition: "ER entry", is_back: true },
+    Shown { condition: "EM true", is_back: true },
+];
+
+/// The times of a path, ours and tuned, and of tabulating the same condition.
+fn time_path(program: &[u8], condition: &[u8], part: u32, statement: u32) -> [f64; 3] {
+    let (mut path, mut table) = ([0; PATH_WORDS], [0; TABLE_WORDS]);
+    medians(
+        TIMES,
+        [
+            &mut || witness(program, condition, part, statement).is_ok(),
+            &mut || tuned::witness(program, condition, part, statement, &mut path).is_ok(),
+            &mut || tabulate(program, condition, &mut table).is_ok(),
+        ],
+    )
+}
+
+fn print_paths(worst: &mut Worst) {
+    println!(
+        "\nPaths that show an operator, reading and tabulating included, in microseconds; tuned by a search breadth first,\n\
+         and beside tabulating the same condition"
+    );
+    println!(
+        "{:<52} {:>6} {:>10} {:>10} {:>7} {:>10} {:>7}",
+        "", "length", "ours", "tuned", "ratio", "tabulate", "ratio"
+    );
+    let mut largest = (0.0, String::new());
+    for flow in &FLOWS {
+        for asked in &SHOWN {
+            for size in SIZES {
+                let (program, condition) = ((flow.program)(size), asked.condition.as_bytes());
+                let statement = if asked.is_back { size as u32 } else { 1 };
+                let parts = tabulate(&program, condition, &mut [0; TABLE_WORDS]);
+                let part = parts.expect("the condition is taken").parts - 1;
+                let told = witness(&program, condition, part, statement).expect("it is taken");
+                let length = told.path().map_or(0, |path| path.statements.len());
+                let [ours, tuned, table] = time_path(&program, condition, part, statement);
+                let name = format!("{}, {}, {}", flow.name, asked.condition, size);
+                println!(
+                    "{:<52} {:>6} {:>10.2} {:>10.2} {:>7.2} {:>10.2} {:>7.2}",
+                    name,
+                    length,
+                    ours * 1e6,
+                    tuned * 1e6,
+                    ours / tuned,
+                    table * 1e6,
+                    ours / table
+                );
+                if ours / table > largest.0 {
+                    largest = (ours / table, name.clone());
+                }
+                worst.grow(flow.is_ordinary, &format!("path, {}", asked.condition), size, ours);
+                worst.meet(flow.is_ordinary, ours / tuned, format!("path, {}", name));
+            }
+        }
+    }
+    println!("largest ratio to tabulating: {:.2} ({})", largest.0, largest.1);
+}
+
 // Marks
 
 fn time_judging(program: &[u8], marks: &[u8]) -> [f64; 3] {
@@ -663,6 +741,68 @@ fn print_judging(worst: &mut Worst) {
         print_list(worst, flow, "different cse ", cse_marks_for);
         print_list(worst, flow, "rm and cse ", cse_and_rm_marks_for);
     }
+}
+
+// Reasons
+
+/// The times of a mark's reason, ours and tuned, and of judging the same list.
+fn time_reason(program: &[u8], marks: &[u8], line: u32) -> [f64; 3] {
+    let mut path = [0; PATH_WORDS];
+    let (mut verdicts, mut new) = ([0; VERDICT_BYTES], [0; TEXT_BYTES]);
+    medians(
+        TIMES,
+        [
+            &mut || why(program, marks, line).is_ok(),
+            &mut || tuned::why(program, marks, line, &mut path).is_ok(),
+            &mut || judge(program, marks, &mut verdicts, &mut new).is_ok(),
+        ],
+    )
+}
+
+/// Of each list the mark whose path is longest.
+fn print_reasons(worst: &mut Worst) {
+    println!(
+        "\nWhy a mark is refused, the list judged, in microseconds; tuned by a search breadth first, and beside judging the list"
+    );
+    println!(
+        "{:<52} {:>6} {:>10} {:>10} {:>7} {:>10} {:>7}",
+        "", "length", "ours", "tuned", "ratio", "judge", "ratio"
+    );
+    let lists: [(&str, List); 2] = [("", marks_for), ("different ", different_marks_for)];
+    let sums: [(&str, List); 1] = [("rm and cse ", cse_and_rm_marks_for)];
+    let rows = FLOWS.iter().flat_map(|flow| lists.map(|list| (flow, list)));
+    let mut largest = (0.0, String::new());
+    for (flow, (kind, list)) in rows.chain(SUMS.iter().map(|flow| (flow, sums[0]))) {
+        for size in SIZES {
+            let program = (flow.program)(size);
+            let marks = list(&program);
+            let length = |line: u32| {
+                let told = why(&program, &marks, line).expect("the list is taken");
+                told.reason.map_or(0, |reason| reason.path.len())
+            };
+            let count = marks.iter().filter(|&&byte| byte == 10).count() as u32;
+            let line = (0..count).max_by_key(|&line| length(line)).expect("there are marks");
+            let [ours, tuned, judging] = time_reason(&program, &marks, line);
+            let name = format!("{}, {}marks, {} statements", flow.name, kind, size);
+            println!(
+                "{:<52} {:>6} {:>10.2} {:>10.2} {:>7.2} {:>10.2} {:>7.2}",
+                name,
+                length(line),
+                ours * 1e6,
+                tuned * 1e6,
+                ours / tuned,
+                judging * 1e6,
+                ours / judging
+            );
+            if ours / judging > largest.0 {
+                largest = (ours / judging, name.clone());
+            }
+            let is_ordinary = flow.is_ordinary && kind.is_empty();
+            worst.grow(is_ordinary, &format!("why, {}", flow.name), size, ours);
+            worst.meet(is_ordinary, ours / tuned, format!("why, {}", name));
+        }
+    }
+    println!("largest ratio to judging: {:.2} ({})", largest.0, largest.1);
 }
 
 // Reports
@@ -829,7 +969,9 @@ fn main() {
     print_table_growth(&mut worst);
     print_reviews(&mut worst);
     print_games(&mut worst);
+    print_paths(&mut worst);
     print_judging(&mut worst);
+    print_reasons(&mut worst);
     print_reports(&mut worst);
     print_lists(&mut worst);
     print_relists(&mut worst);

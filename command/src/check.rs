@@ -9,6 +9,7 @@ use crate::folder::Folder;
 use crate::marks::{self, Counts, Mark};
 use crate::output::{Output, Unwritten};
 use crate::status::Status;
+use crate::why::{self, Because};
 use clap::Args;
 use rewrites::{Prices, Refusal, Report, Verdict, TEXT_BYTES, VERDICT_BYTES};
 use serde::Serialize;
@@ -26,7 +27,8 @@ pub struct Arguments {
     /// Write the program with the accepted marks made to FILE; for one folder
     #[arg(short, long, value_name = "FILE")]
     output: Option<PathBuf>,
-    /// Give each mark's line, its verdict in words and its published condition
+    /// Give each mark's line, its verdict in words, its published condition, and where that is false a
+    /// path that shows why
     #[arg(long)]
     explain: bool,
     /// Print a JSON object a folder, and one for the total, each on a line
@@ -59,7 +61,7 @@ pub struct Answer<'a> {
 
 /// What is told of a mark.
 #[derive(Serialize)]
-struct Judgement<'a> {
+pub struct Judgement<'a> {
     line: usize,
     mark: &'a str,
     statement: u32,
@@ -67,6 +69,18 @@ struct Judgement<'a> {
     name: &'static str,
     words: String,
     condition: String,
+    /// With verdict 14, where it is asked for, the path that speaks against the mark.
+    #[serde(skip_serializing_if = "Option::is_none")]
+    because: Option<Because>,
+}
+
+/// Of which marks a path is told where their condition is false.
+#[derive(Clone, Copy, PartialEq, Eq)]
+pub enum Paths {
+    None,
+    /// That of a line, counted from 0.
+    Of(usize),
+    All,
 }
 
 /// What is told of all folders.
@@ -131,7 +145,7 @@ impl Judged {
         [text.as_bytes(), &self.program, costs::text(&self.report).as_bytes()].concat()
     }
 
-    fn judgements(&self) -> Vec<Judgement<'_>> {
+    pub fn judgements(&self, paths: Paths) -> Vec<Judgement<'_>> {
         let statements: Vec<&[u8]> = lines(&self.given.bytes).collect();
         // Each statement with the first line that names it.
         let mut named = HashMap::new();
@@ -140,6 +154,13 @@ impl Judged {
             .map(|(at, (mark, &verdict))| {
                 let line = at + 1;
                 let first = *named.entry(mark.statement).or_insert(line);
+                let is_told =
+                    verdict == Verdict::Unmet && [Paths::All, Paths::Of(at)].contains(&paths);
+                let because = if is_told {
+                    why::because(&self.given.bytes, &self.list.bytes, at as u32, &mark)
+                } else {
+                    None
+                };
                 Judgement {
                     line,
                     statement: mark.statement,
@@ -148,18 +169,19 @@ impl Judged {
                     words: words(verdict, &mark, first, &statements),
                     condition: mark.condition(),
                     mark: mark.text,
+                    because,
                 }
             })
             .collect()
     }
 
-    pub fn answer(&self) -> Answer<'_> {
+    pub fn answer(&self, paths: Paths) -> Answer<'_> {
         Answer {
             marks: self.counts.marks(),
             accepted: self.counts.accepted,
             bytes: self.program.len(),
             counts: self.counts,
-            verdicts: self.judgements(),
+            verdicts: self.judgements(paths),
             program: String::from_utf8_lossy(&self.program).into_owned(),
             prices: Columns::of(&self.report),
             ticks: Ticks::of(&self.report),
@@ -208,12 +230,16 @@ fn summary(folder: &Folder, fault: &Fault) -> String {
     }
 }
 
+/// A mark, its verdict in words, its published condition, and the path where there is one.
+pub fn explained(judgement: &Judgement, indent: &str) -> String {
+    let Judgement { line, mark, words, condition, .. } = judgement;
+    let path = judgement.because.as_ref().map(|because| because.text(indent));
+    let path = path.unwrap_or_default();
+    format!("{indent}line {line}: {mark}: {words}\n{indent}  condition {condition}\n{path}")
+}
+
 fn explanation(judged: &Judged) -> String {
-    let mut text = String::new();
-    for Judgement { line, mark, words, condition, .. } in judged.judgements() {
-        text += &format!("  line {line}: {mark}: {words}\n    condition {condition}\n");
-    }
-    text
+    judged.judgements(Paths::All).iter().map(|judgement| explained(judgement, "  ")).collect()
 }
 
 impl Sums {
@@ -260,7 +286,9 @@ impl Arguments {
         output: &mut Output,
     ) -> Result<(), Unwritten> {
         if self.json {
-            return output.print_json(&folder.report("check", judged.map(Judged::answer)));
+            let paths = if self.explain { Paths::All } else { Paths::None };
+            let answer = judged.map(|judged| judged.answer(paths));
+            return output.print_json(&folder.report("check", answer));
         }
         if self.text {
             let refusal = folder.faults.iter().find_map(|fault| fault.refusal);

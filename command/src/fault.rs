@@ -252,6 +252,17 @@ impl Fault {
         }
     }
 
+    /// An option names one of a kind that there isn't: there are so many.
+    pub fn no_such(option: &str, kind: &str, number: u32, most: u32) -> Fault {
+        let words = format!("no such {kind}");
+        let expected = match most {
+            0 => "one that is there, of which there is none".to_string(),
+            _ => format!("1 to {most}"),
+        };
+        let found = Some(number.to_string());
+        Fault { found, ..Fault::of_file(Path::new(option), words, &expected) }
+    }
+
     /// A file can't be read.
     pub fn unread(path: &Path, why: &Unread) -> Fault {
         let expected = "a file of at most 65,535 bytes";

@@ -119,6 +119,11 @@ impl<'a> Folder<'a> {
         self.add(Status::Refused, fault);
     }
 
+    /// An option of a call doesn't suit the folder.
+    pub fn misused(&mut self, fault: Fault) {
+        self.add(Status::Unread, fault);
+    }
+
     /// Says what went wrong.
     pub fn say(&self, output: &mut Output) {
         for fault in &self.faults {

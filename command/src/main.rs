@@ -17,6 +17,7 @@ mod list;
 mod marks;
 mod output;
 mod parts;
+mod path;
 mod price;
 mod review;
 mod run;
@@ -25,6 +26,7 @@ mod stage;
 mod start;
 mod status;
 mod tabulate;
+mod why;
 
 #[cfg(test)]
 mod tests;
@@ -44,7 +46,7 @@ Exit status:
   3  output that wasn't written
 Of many folders the worst is told.";
 
-/// Shift programs: judges marks, tabulates and reviews conditions, runs, prices by a buyer's table, finds
+/// Shift programs: judges marks and shows why they are refused, tabulates and reviews conditions, runs, prices by a buyer's table, finds
 /// what a driver can force and the lines of marks, lists readers and writers, joins two programs, keeps
 /// stages to go back to, and serves a page for a folder
 #[derive(Parser)]
@@ -59,6 +61,9 @@ enum Call {
     /// Judge the marks of folders, and write the program with the accepted ones made
     #[command(after_help = STATUSES)]
     Check(check::Arguments),
+    /// Show why a mark is refused: the path that speaks against it
+    #[command(after_help = STATUSES)]
+    Why(why::Arguments),
     /// Show at which statements each part of a condition is true
     #[command(after_help = STATUSES)]
     Tabulate(tabulate::Arguments),
@@ -96,7 +101,8 @@ fn wrong(arguments: &Arguments) -> Option<clap::Error> {
     let (name, words) = match &arguments.call {
         Call::Check(check) => ("check", check.wrong()?),
         Call::Stage(stage) => ("stage", stage.wrong()?),
-        Call::Tabulate(_)
+        Call::Why(_)
+        | Call::Tabulate(_)
         | Call::Review(_)
         | Call::Force(_)
         | Call::Run(_)
@@ -132,6 +138,7 @@ fn answered(output: &mut Output) -> Result<Status, Unwritten> {
     }
     match arguments.call {
         Call::Check(call) => call.run(output),
+        Call::Why(call) => call.run(output),
         Call::Tabulate(call) => call.run(output),
         Call::Review(call) => call.run(output),
         Call::Force(call) => call.run(output),

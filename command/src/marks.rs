@@ -13,7 +13,7 @@ pub struct Mark<'a> {
     pub statement: u32,
     kind: &'a str,
     /// X or T, and E or A.
-    variable: &'a str,
+    pub variable: &'a str,
     right: &'a str,
 }
 
@@ -40,9 +40,18 @@ impl<'a> Mark<'a> {
         }
     }
 
+    pub fn is_reuse(&self) -> bool {
+        self.kind == "cse"
+    }
+
+    /// Whether a variable stands in its right side.
+    pub fn names(&self, variable: &str) -> bool {
+        self.right.split(' ').any(|operand| operand == variable)
+    }
+
     /// Whether it is a `cse` of one operand, which fits nowhere.
     pub fn is_reuse_of_operand(&self) -> bool {
-        self.kind == "cse" && !self.right.contains(' ')
+        self.is_reuse() && !self.right.contains(' ')
     }
 
     /// What its right side divides by, if it is a division.

@@ -6,6 +6,7 @@ use crate::files::Text;
 use crate::folder::Folder;
 use crate::output::{Output, Unwritten};
 use crate::parts;
+use crate::path::{self, At};
 use crate::status::Status;
 use clap::Args;
 use rewrites::{Refusal, PART_WORDS, TABLE_WORDS};
@@ -21,6 +22,12 @@ pub struct Arguments {
     /// Take this condition, and not the folder's
     #[arg(long, value_name = "TEXT")]
     condition: Option<OsString>,
+    /// Show a path that tells why the condition is true at this statement, or false
+    #[arg(long, value_name = "STATEMENT")]
+    at: Option<u32>,
+    /// Ask for the path of this part of the condition, as the table counts them, and not of the whole
+    #[arg(long, value_name = "PART", requires = "at")]
+    part: Option<u32>,
     /// Print a JSON object on a line
     #[arg(long)]
     json: bool,
@@ -35,6 +42,9 @@ pub struct Answer {
     satisfied: u32,
     first: u32,
     table: Vec<Row>,
+    /// A path for the condition at a statement, where one is asked for.
+    #[serde(skip_serializing_if = "Option::is_none")]
+    at: Option<At>,
 }
 
 /// A part, and the statements at which it is true.
@@ -72,7 +82,7 @@ fn ranges(statements: &[usize]) -> String {
 }
 
 impl Answer {
-    fn text(&self) -> String {
+    fn text(&self, program: &[u8]) -> String {
         let mut text = String::new();
         for Row { part, text: spelled, satisfied, statements } in &self.table {
             text += &format!("{part:2}  {spelled}: {satisfied} of {}", self.statements);
@@ -82,7 +92,8 @@ impl Answer {
             text.push('\n');
         }
         let Answer { parts, satisfied, first, .. } = self;
-        text + &format!("parts {parts} satisfied {satisfied} first {first}\n")
+        text += &format!("parts {parts} satisfied {satisfied} first {first}\n");
+        text + &self.at.as_ref().map_or_else(String::new, |at| at.text(program))
     }
 }
 
@@ -109,29 +120,41 @@ pub fn answer(given: &Text, condition: &Text) -> Result<Answer, Fault> {
                 satisfied: answer.satisfied,
                 first: answer.first,
                 table: table.collect(),
+                at: None,
             })
         }
-        Err(refusal) => {
-            let is_of_condition = matches!(
-                refusal,
-                Refusal::ConditionLength | Refusal::ConditionMisspelled | Refusal::ConditionParts
-            );
-            Err(Fault::refused(refusal, if is_of_condition { condition } else { given }))
-        }
+        Err(refusal) => Err(refused(refusal, given, condition)),
     }
 }
 
+/// A call on a program and a condition is refused.
+pub fn refused(refusal: Refusal, given: &Text, condition: &Text) -> Fault {
+    let is_of_condition = matches!(
+        refusal,
+        Refusal::ConditionLength | Refusal::ConditionMisspelled | Refusal::ConditionParts
+    );
+    Fault::refused(refusal, if is_of_condition { condition } else { given })
+}
+
 impl Arguments {
-    fn tabulate(&self, folder: &mut Folder) -> Option<Answer> {
+    fn tabulate(&self, folder: &mut Folder) -> Option<(Answer, Text)> {
         folder.is_there("a program in `given` and a condition in `condition`")?;
         let given = folder.read("given")?;
         let condition = folder.option_or_bare(&self.condition, "condition")?;
-        answer(&given, &condition).map_err(|fault| folder.refuse(fault)).ok()
+        let mut answer = answer(&given, &condition).map_err(|fault| folder.refuse(fault)).ok()?;
+        if let Some(statement) = self.at {
+            let told = path::at(&given, &condition, self.part, statement);
+            answer.at = Some(told.map_err(|fault| folder.misused(fault)).ok()?);
+        }
+        Some((answer, given))
     }
 
     pub fn run(&self, output: &mut Output) -> Result<Status, Unwritten> {
         let mut folder = Folder::new(&self.folder);
-        let answer = self.tabulate(&mut folder);
-        folder.print("tabulate", self.json, answer, |answer| answer.text(), output)
+        let (answer, program) = match self.tabulate(&mut folder) {
+            Some((answer, given)) => (Some(answer), given.bytes),
+            None => (None, Vec::new()),
+        };
+        folder.print("tabulate", self.json, answer, |answer| answer.text(&program), output)
     }
 }

@@ -172,6 +172,8 @@ p: marks 5, accepted 1, no such statement 1, named before 1, doesn't fit 1, cond
     condition AY A[((!def(i2) & trans(7)) & !entry) B stmt(i2 := 7)]
   line 2: 3: mark(rm, i2, 7): condition false at 3
     condition !EX E[!def(i2) U use(i2)]
+     3  i2 := 7        defines i2
+     4  i3 := i1 + i2  uses i2
   line 3: 4: mark(rpl, i1, i0): named before: line 1 names 4
     condition AY A[((!def(i1) & trans(i0)) & !entry) B stmt(i1 := i0)]
   line 4: 6: mark(rm, i0, 1): doesn't fit: statement 6 is `i0 := i0 - 1`
@@ -261,6 +263,8 @@ fn marks_on_divisions() {
     condition !EX E[!def(i1) U use(i1)]
   line 4: 5: mark(rm, i1, i0 / 2): condition false at 5
     condition !EX E[!def(i1) U use(i1)]
+     5  i1 := i0 / 2  defines i1
+     6  write i1      uses i1
   line 5: 2: mark(rm, i1, i0 / i2): named before: line 1 names 2
     condition !EX E[!def(i1) U use(i1)]
 total: folders 1; {counts}
@@ -297,6 +301,8 @@ fn marks_on_sums() {
 .: {counts}
   line 1: 2: mark(rm, i1, i0 + 1): condition false at 2
     condition !EX E[!def(i1) U use(i1)]
+     2  i1 := i0 + 1  defines i1
+     3  i2 := i0 + 1  uses i1, by a `cse` of the list that is accepted
   line 2: 3: mark(cse, i1, i0 + 1): accepted
     condition AY A[((!def(i1) & trans(i0 + 1)) & !entry) B (stmt(i1 := i0 + 1) & trans(i0 + 1))]
   line 3: 5: mark(rpl, i3, 7): accepted

@@ -247,6 +247,51 @@ fn tables_are_those_that_the_command_prints() {
 }
 
 #[test]
+fn paths_are_those_that_the_command_prints() {
+    let desk = Desk::of(folder("desk_paths", &[]));
+    let mut met = Tally::new("paths of the desk", ["a path", "none", "refused"]);
+    let seed = seeded(75);
+    for case in 0..option("DESK_CASES", CASES) {
+        let random = &mut Random::new(seed ^ case);
+        let size = random.between(2, 12);
+        let program = generate::program(random, size);
+        let parts = random.between(1, 6);
+        let mut condition = generate::condition(random, &program, parts);
+        if random.chance(10) {
+            condition.push(b'!');
+        }
+        let typed = String::from_utf8(condition).expect("a condition is text");
+        let (statement, part) = (random.between(1, size), random.between(1, parts));
+        desk.write("given", &program.text());
+        desk.write("condition", typed.as_bytes());
+        let asked = json!({ "condition": typed, "part": part, "statement": statement });
+        let mut answer = desk.ask("witness", asked);
+        let added = taken(&mut answer, &["source", "place", "call", "folder", "status", "faults"]);
+        let (at, part) = (statement.to_string(), part.to_string());
+        let words = ["tabulate", ".", "--json", "--at", &at, "--part", &part];
+        let told: Value =
+            serde_json::from_str(printed(&run_in(&desk.folder, &words)).trim_end()).expect("JSON");
+        assert_eq!((&added[4], &added[5]), (&told["status"], &told["faults"]), "case {case}");
+        if told["status"] == 0 {
+            assert_eq!(answer, told["at"], "case {case}");
+            met.met(if answer["path"].is_null() { "none" } else { "a path" });
+        } else {
+            assert_eq!(added[1]["field"], "condition", "case {case}");
+            met.met("refused");
+        }
+    }
+    met.report();
+    // Without a part it is the whole condition's.
+    desk.write("given", b"read i0\nwrite i0\n");
+    let answer =
+        desk.ask("witness", json!({ "condition": "EF exit", "statement": 1, "part": null }));
+    assert_eq!((&answer["part"], &answer["path"]), (&json!(2), &json!([1, 2])));
+    let answer =
+        desk.ask("witness", json!({ "condition": "EF exit", "statement": 3, "part": null }));
+    assert_eq!(answer["faults"][0]["words"], "no such statement");
+}
+
+#[test]
 fn verdicts_and_programs_are_those_that_the_command_prints() {
     let desk = Desk::of(folder("desk_marks", &[]));
     let mut met =
@@ -307,6 +352,40 @@ fn verdicts_and_programs_are_those_that_the_command_prints() {
         let places: Vec<String> =
             added[4].as_array().expect("a list").iter().map(|place| piece(place, &file)).collect();
         assert_eq!(places, lines(file.as_bytes()), "case {case}");
+    }
+    met.report();
+}
+
+#[test]
+fn reasons_are_those_that_the_command_prints() {
+    let desk = Desk::of(folder("desk_why", &[]));
+    let mut met = Tally::new("reasons of the desk", ["a path", "none", "refused", "no such line"]);
+    let seed = seeded(76);
+    for case in 0..option("DESK_CASES", CASES) {
+        let random = &mut Random::new(seed ^ case);
+        let size = random.between(2, 12);
+        let program = generate::program(random, size);
+        let list = marks::text(&generate::marks(random, &program, 6));
+        let list = if random.chance(10) { [&list, &b"x"[..]].concat() } else { list };
+        let typed = String::from_utf8(list).expect("marks are text");
+        let file = if typed.ends_with('\n') { typed.clone() } else { typed.clone() + "\n" };
+        let line = random.between(1, 8);
+        desk.write("given", &program.text());
+        desk.write("marks", file.as_bytes());
+        let mut answer = desk.ask("why", json!({ "marks": typed, "line": line }));
+        let added = taken(&mut answer, &["source", "place", "status"]);
+        let words = ["why", ".", &line.to_string(), "--json"];
+        let mut told: Value =
+            serde_json::from_str(printed(&run_in(&desk.folder, &words)).trim_end()).expect("JSON");
+        taken(&mut told, &["status"]);
+        assert_eq!(answer, told, "case {case}");
+        assert_eq!(added[0], json!(lines(&program.text())), "case {case}");
+        met.met(match (answer["faults"][0]["refusal"].as_u64(), answer["faults"].as_array()) {
+            (Some(_), _) => "refused",
+            (None, Some(faults)) if !faults.is_empty() => "no such line",
+            _ if answer.get("because").is_some() => "a path",
+            _ => "none",
+        });
     }
     met.report();
 }

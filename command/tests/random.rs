@@ -22,14 +22,15 @@ use std::path::Path;
 const CASES: u64 = 3_000;
 
 #[rustfmt::skip]
-const WORDS: [&str; 43] = [
-    "check", "tabulate", "review", "force", "run", "price", "lines", "list", "join", "stage", "keep", "return", "first", "stages", "help", ".", "a", "nowhere", "given", "--json", "--text", "--explain",
+const WORDS: [&str; 47] = [
+    "check", "why", "3", "--at", "--part", "tabulate", "review", "force", "run", "price", "lines", "list", "join", "stage", "keep", "return", "first", "stages", "help", ".", "a", "nowhere", "given", "--json", "--text", "--explain",
     "-o", "new", "--output=new", "-onew", "--condition", "E[", "--driver", "i0 i1", "--input", "-1", "2147483648", "--budget",
     "1000001", "--set", "--set=i64=1", "--", "-", "--help", "-V", "-x", "",
 ];
 
 /// The options of each call, some of them such that they are refused.
-const OPTIONS: [(&str, &[&[&str]]); 10] = [
+const OPTIONS: [(&str, &[&[&str]]); 11] = [
+    ("why", &[&["--json"]]),
     (
         "check",
         &[&["--json"], &["--explain"], &["--text"], &["."], &["a"], &["nowhere"], &["-o", "new"]],
@@ -41,6 +42,9 @@ const OPTIONS: [(&str, &[&[&str]]); 10] = [
             &["--condition", "EF exit"],
             &["--condition=AG !def(i0)"],
             &["--condition", "E["],
+            &["--at", "2"],
+            &["--at=1", "--part", "1"],
+            &["--at", "90"],
         ],
     ),
     ("review", &[&["--json"]]),
@@ -80,6 +84,10 @@ fn words(random: &mut Random) -> Vec<Vec<u8>> {
         "join" => {
             let road = random.pick(&["given", "given", "a/given", "a"]);
             vec![call, road, random.pick(&["given", "a/given", "a/given", "nowhere"])]
+        }
+        "why" => {
+            let base = random.pick(&[".", ".", ".", "a", "a", "a", "given"]);
+            vec![call, base, random.pick(&["1", "1", "2", "3", "4", "11", "0"])]
         }
         "stage" => {
             let mut words = vec![call, random.pick(&[".", ".", "a", "given"])];

@@ -13,10 +13,14 @@ CHECK = {"marks", "accepted", "bytes", "counts", "verdicts", "program", "prices"
 PRICES = {"before", "after"}
 TICKS = {"given", "rewritten", "saved"}
 MARK = {"line", "mark", "statement", "verdict", "name", "words", "condition"}
+BECAUSE = {"culprit", "path"}
+STEP = {"statement", "text", "does"}
+CULPRITS = {"used", "used_by_cse", "redefined", "operand_redefined", "nothing_copied"}
 TABULATE = {"condition", "statements", "parts", "satisfied", "first", "table"}
 FORCE = {"driver", "condition", "parts", "satisfied", "first", "forced", "statements"}
 PLACE = {"statement", "text", "player", "number", "arm"}
 ROW = {"part", "text", "satisfied", "statements"}
+AT = {"statement", "part", "truth", "path", "turn"}
 REVIEW = {"statements", "tables", "lines", "conditions"}
 CONDITION = {"line", "condition", "table", "parts", "satisfied", "first", "statements"}
 START = {"input", "budget", "values", "outcome"}
@@ -59,16 +63,37 @@ def total(thing):
     return "total {folders} {results} {refused} {unread} {marks} {accepted} status {status}\n".format(**thing)
 
 
+def judged(mark, others):
+    """A mark with its verdict, and with 14 at times the path that speaks against it."""
+    has(mark, others | MARK | {"because"} & set(mark))
+    assert mark["verdict"] == VERDICTS[mark["name"]]
+    assert mark["mark"].startswith("%d: mark(" % mark["statement"])
+    assert (mark["words"] == "accepted") == (mark["verdict"] == 0)
+    if "because" not in mark:
+        return
+    assert mark["verdict"] == 14
+    has(mark["because"], BECAUSE)
+    assert mark["because"]["culprit"] in CULPRITS
+    path = mark["because"]["path"]
+    for step in path:
+        has(step, STEP)
+    assert len(path) >= 2 and path[0]["statement"] == mark["statement"] and path[-1]["does"]
+
+
+def why(thing):
+    judged(thing, REPORT)
+    assert ("because" in thing) == (thing["verdict"] == 14)
+    path = thing.get("because", {"path": []})["path"]
+    return "{line} {verdict}".format(**thing) + "".join(" %d" % step["statement"] for step in path) + "\n"
+
+
 def check(thing):
     has(thing, REPORT | CHECK)
     has(thing["counts"], set(VERDICTS))
     text = "marks {marks} accepted {accepted}\n".format(**thing)
     for at, mark in enumerate(thing["verdicts"]):
-        has(mark, MARK)
         assert mark["line"] == at + 1
-        assert mark["verdict"] == VERDICTS[mark["name"]]
-        assert mark["mark"].startswith("%d: mark(" % mark["statement"])
-        assert (mark["words"] == "accepted") == (mark["verdict"] == 0)
+        judged(mark, set())
         text += "{statement} {verdict}\n".format(**mark)
     for name in VERDICTS:
         assert thing["counts"][name] == sum(mark["name"] == name for mark in thing["verdicts"])
@@ -109,8 +134,15 @@ def price(thing):
 
 
 def tabulate(thing):
-    has(thing, REPORT | TABULATE)
+    has(thing, REPORT | TABULATE | {"at"} & set(thing))
     text = ""
+    if "at" in thing:
+        at = thing["at"]
+        has(at, AT)
+        assert 1 <= at["part"] <= thing["parts"] and 1 <= at["statement"] <= thing["statements"]
+        assert at["truth"] == (at["statement"] in thing["table"][at["part"] - 1]["statements"])
+        assert at["path"] is None or at["path"][0] == at["statement"]
+        assert at["turn"] is None or 1 <= at["turn"] <= len(at["path"])
     for at, row in enumerate(thing["table"]):
         has(row, ROW)
         assert row["part"] == at + 1
@@ -268,13 +300,13 @@ def told(thing):
         assert thing["status"] != 0
         return refused
     assert refused == ""
-    tells = {"check": check, "tabulate": tabulate, "review": review, "force": force, "run": run, "price": price, "lines": lines, "list": listed, "join": join, "stage": stage}
+    tells = {"check": check, "why": why, "tabulate": tabulate, "review": review, "force": force, "run": run, "price": price, "lines": lines, "list": listed, "join": join, "stage": stage}
     return tells[thing["call"]](thing)
 
 
 described = pathlib.Path(__file__).parents[2].joinpath("docs/REFERENCE.md").read_text()
 for names in (
-    VERDICTS, FAULT, REPORT, TOTAL, CHECK, PRICES, TICKS, MARK, TABULATE, ROW, REVIEW, CONDITION, FORCE, PLACE, ENDED, SPENT, FAULTED, PRICE, RUNS, LINES, LINE, LIST, VARIABLE, PAIR, JOIN, STAGES, KEPT, RETURNED
+    VERDICTS, FAULT, REPORT, TOTAL, CHECK, PRICES, TICKS, MARK, BECAUSE, STEP, CULPRITS, TABULATE, ROW, AT, REVIEW, CONDITION, FORCE, PLACE, ENDED, SPENT, FAULTED, PRICE, RUNS, LINES, LINE, LIST, VARIABLE, PAIR, JOIN, STAGES, KEPT, RETURNED
 ):
     for name in names:
         assert "`%s`" % name in described, name

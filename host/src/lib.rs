@@ -202,6 +202,9 @@ pub const PARTS: usize = 64;
 /// The words that a table must have: [`PART_WORDS`] for each of the most parts.
 pub const TABLE_WORDS: usize = PARTS * PART_WORDS;
 
+/// The words that there must be for a path: one for each of the most statements, and one more.
+pub const PATH_WORDS: usize = STATEMENTS + 1;
+
 /// The most differing parts of a review.
 pub const REVIEW_TABLES: usize = 128;
 
@@ -467,6 +470,54 @@ pub struct Reviewed {
     pub first: [u32; REVIEW_LINES],
 }
 
+/// A path through a program: the statements that it comes by, counted from 1, and how it goes on.
+#[derive(Clone, Debug, PartialEq, Eq, Hash)]
+pub struct Path {
+    /// The statements, from the one that was asked for on; at least one.
+    pub statements: Vec<u32>,
+    /// Where the path goes round for ever: the entry of `statements`, counted from 1, to which the last one steps
+    /// back. Else it goes on by any steps that exist: what it shows is settled by then.
+    pub turn: Option<u32>,
+}
+
+impl Path {
+    /// The statements that the path goes round by, none where it has no turn.
+    ///
+    /// ```
+    /// use rewrites::{witness, Witnessed};
+    ///
+    /// // Statement 2 may go round for ever.
+    /// let program = b"read i0\nif i0 goto 2 else 3\nwrite i0\n";
+    /// match witness(program, b"AF exit", 1, 1)? {
+    ///     Witnessed::Path(path) => assert_eq!((&path.statements[..], path.round()), (&[1, 2][..], &[2][..])),
+    ///     other => panic!("{:?}", other),
+    /// }
+    /// # Ok::<(), rewrites::Refusal>(())
+    /// ```
+    pub fn round(&self) -> &[u32] {
+        self.turn.map_or(&[], |turn| &self.statements[turn as usize - 1..])
+    }
+}
+
+/// What [`witness`] answers.
+#[derive(Clone, Debug, PartialEq, Eq, Hash)]
+pub enum Witnessed {
+    /// A path that bears out E of the part's path operator, or speaks against A of it.
+    Path(Path),
+    /// There is none. Tells whether the part is true at the statement; false for one that doesn't exist.
+    None(bool),
+}
+
+impl Witnessed {
+    /// The path, if there is one.
+    pub fn path(self) -> Option<Path> {
+        match self {
+            Witnessed::Path(path) => Some(path),
+            Witnessed::None(_) => None,
+        }
+    }
+}
+
 /// An arm of an `if`.
 #[derive(Clone, Copy, Debug, PartialEq, Eq, Hash)]
 #[repr(u8)]
@@ -650,6 +701,68 @@ impl fmt::Display for Verdict {
     }
 }
 
+/// What the last statement of a path does that speaks against a mark.
+#[derive(Clone, Copy, Debug, PartialEq, Eq, Hash)]
+#[repr(u8)]
+pub enum Culprit {
+    /// It uses the variable that an `rm` would leave unset.
+    Used = 1,
+    /// An accepted `cse` of the list makes it use that variable.
+    UsedByCse = 2,
+    /// It defines the variable of an `rpl` or a `cse` otherwise.
+    Redefined = 3,
+    /// It defines a variable of A or E.
+    OperandRedefined = 4,
+    /// It is statement 1: nothing was copied yet.
+    NothingCopied = 5,
+}
+
+impl Culprit {
+    /// Every culprit, in the order of their numbers.
+    pub const ALL: [Culprit; 5] = [
+        Culprit::Used,
+        Culprit::UsedByCse,
+        Culprit::Redefined,
+        Culprit::OperandRedefined,
+        Culprit::NothingCopied,
+    ];
+
+    /// The number by which the library names the culprit.
+    pub fn number(self) -> u8 {
+        self as u8
+    }
+}
+
+impl fmt::Display for Culprit {
+    fn fmt(&self, f: &mut fmt::Formatter<'_>) -> fmt::Result {
+        f.write_str(match self {
+            Culprit::Used => "the last statement uses the variable",
+            Culprit::UsedByCse => "an accepted cse makes the last statement use the variable",
+            Culprit::Redefined => "the last statement defines the variable",
+            Culprit::OperandRedefined => "the last statement defines a variable of the right side",
+            Culprit::NothingCopied => "statement 1: nothing was copied yet",
+        })
+    }
+}
+
+/// A path that speaks against a mark.
+#[derive(Clone, Debug, PartialEq, Eq, Hash)]
+pub struct Reason {
+    /// Its statements, counted from 1: the mark's own first, and the culprit last.
+    pub path: Vec<u32>,
+    /// What the last of them does.
+    pub culprit: Culprit,
+}
+
+/// What [`why`] answers.
+#[derive(Clone, Debug, PartialEq, Eq, Hash)]
+pub struct Because {
+    /// The verdict of the line.
+    pub verdict: Verdict,
+    /// With [`Verdict::Unmet`], and only then, a path.
+    pub reason: Option<Reason>,
+}
+
 /// What a finished [`join`] answers.
 #[derive(Clone, Copy, Debug, PartialEq, Eq)]
 pub struct Joined {
@@ -766,8 +879,8 @@ impl fmt::Display for Refusal {
     fn fmt(&self, f: &mut fmt::Formatter<'_>) -> fmt::Result {
         f.write_str(match self {
             Refusal::Buffer => {
-                "table under 1,024 words, or 2,048 of a review or a list, verdicts under 1,024 bytes, \
-                 new text under 34,816 bytes or stages under 280,000 bytes"
+                "table under 1,024 words, or 2,048 of a review or a list, path under 1,025 words, verdicts \
+                 under 1,024 bytes, new text under 34,816 bytes or stages under 280,000 bytes"
             }
             Refusal::Budget => "budget over 1,000,000",
             Refusal::Misspelled => {
@@ -1035,6 +1148,75 @@ pub fn review(program: &[u8], conditions: &[u8], table: &mut [u64]) -> Result<Re
     Ok(reviewed)
 }
 
+/// Tells a path that shows why a part of a condition, counted from 0 as in [`tabulate`]'s table, is true at a
+/// statement, counted from 1, or why it is false.
+///
+/// Negations before a path operator are looked through: the path is about the operator below them. It bears out E
+/// of that operator, or speaks against A of it. What a finite way settles, as for `EF`, `E[p U q]` or against `AG`,
+/// gets the shortest one that there is. Against `AF`, and for `EG`, the path goes round for ever: [`Path::turn`] tells
+/// where. `E[p W q]`, and against `A[p U q]`, may get either. Past operators have paths that go backward.
+///
+/// Where E is true or A false there is such a path, and it is told. Else there is none, as for a part without a path
+/// operator outside: [`Witnessed::None`] has the truth of the part, with all its negations.
+///
+/// Takes at most 384 KiB of stack, most where brackets stand within one another.
+///
+/// # Errors
+///
+/// For the program, [`Refusal::Misspelled`], [`Refusal::LineCount`], [`Refusal::Placement`] or
+/// [`Refusal::Target`]; else, for the condition, [`Refusal::ConditionLength`],
+/// [`Refusal::ConditionMisspelled`] or [`Refusal::ConditionParts`].
+///
+/// ```
+/// use rewrites::{witness, Path, Witnessed};
+///
+/// let program = b"read i0\ni1 := 7\nif i0 goto 2 else 4\nwrite i1\n";
+///
+/// // Part 2 is the whole. Statement 2 comes to the end by 3; statement 1 defines no i1.
+/// let answer = witness(program, b"E[def(i1) U use(i0)]", 2, 2)?;
+/// assert_eq!(answer, Witnessed::Path(Path { statements: vec![2, 3], turn: None }));
+/// assert_eq!(witness(program, b"E[def(i1) U use(i0)]", 2, 1)?, Witnessed::None(false));
+///
+/// // From 1 some path never ends: it goes round from 3 to the second statement of these.
+/// let answer = witness(program, b"!AF exit", 2, 1)?;
+/// assert_eq!(answer, Witnessed::Path(Path { statements: vec![1, 2, 3], turn: Some(2) }));
+/// # Ok::<(), rewrites::Refusal>(())
+/// ```
+pub fn witness(
+    program: &[u8],
+    condition: &[u8],
+    part: u32,
+    statement: u32,
+) -> Result<Witnessed, Refusal> {
+    let mut words = vec![0; PATH_WORDS];
+    let (mut length, mut turn, mut truth) = (0, 0, 0);
+    // SAFETY: the pointers come from references, so none is null, and those that are written
+    // through are the only ones to their places.
+    let number = unsafe {
+        raw::rewrites_witness(
+            program.as_ptr(),
+            program.len(),
+            condition.as_ptr(),
+            condition.len(),
+            part,
+            statement,
+            words.as_mut_ptr(),
+            words.len(),
+            &mut length,
+            &mut turn,
+            &mut truth,
+        )
+    };
+    if number != 0 {
+        return Err(Refusal::returned(number));
+    }
+    if length == 0 {
+        return Ok(Witnessed::None(truth == 1));
+    }
+    words.truncate(length as usize);
+    Ok(Witnessed::Path(Path { statements: words, turn: place(turn) }))
+}
+
 /// Tells what a driver can force on a program. The list, empty or with single spaces between, names the
 /// variables that are his: at an `if` on one of them he picks the arm, at every other the unit does,
 /// without regard to values.
@@ -1245,6 +1427,69 @@ pub fn judge(
     Ok(Judged { marks: mark_count, accepted, bytes })
 }
 
+/// Tells why a line of a list of marks, counted from 0, gets [`Verdict::Unmet`]: a path from its statement on that
+/// speaks against its condition. The list is judged as by [`judge`].
+///
+/// For `rm` the path goes forward to a statement that uses X, none between defining X; a use that an accepted `cse` of
+/// the list adds counts. For `rpl` and `cse` it goes backward to a statement that defines X or a variable of A or E, or
+/// to statement 1, with no copy on the way. It has at least one step, and no such path is shorter.
+///
+/// A line that the list hasn't gets [`Verdict::Missing`].
+///
+/// Takes at most 256 KiB of stack.
+///
+/// # Errors
+///
+/// For the program, [`Refusal::Misspelled`], [`Refusal::LineCount`], [`Refusal::Placement`] or
+/// [`Refusal::Target`]; else, for the marks, [`Refusal::MarkMisspelled`] or [`Refusal::MarkCount`].
+///
+/// ```
+/// use rewrites::{why, Because, Culprit, Reason, Verdict};
+///
+/// let program = b"read i0\ni1 := 7\nif i0 goto 4 else 5\ni1 := i1 + i0\ni2 := i1\nwrite i2\n";
+/// let marks = b"2: mark(rm, i1, 7)\n5: mark(rpl, i1, 7)\n4: mark(rpl, i1, 7)\n";
+///
+/// // Statement 4 uses i1, by way of 3; and so does 5.
+/// let answer = why(program, marks, 0)?;
+/// assert_eq!(answer.verdict, Verdict::Unmet);
+/// let reason = answer.reason.unwrap();
+/// assert_eq!((reason.path.len(), reason.culprit), (3, Culprit::Used));
+///
+/// // Before 5, statement 4 may have set i1 otherwise.
+/// let reason = Reason { path: vec![5, 4], culprit: Culprit::Redefined };
+/// assert_eq!(why(program, marks, 1)?, Because { verdict: Verdict::Unmet, reason: Some(reason) });
+/// assert_eq!(why(program, marks, 2)?, Because { verdict: Verdict::Accepted, reason: None });
+/// # Ok::<(), rewrites::Refusal>(())
+/// ```
+pub fn why(program: &[u8], marks: &[u8], line: u32) -> Result<Because, Refusal> {
+    let mut path = vec![0; PATH_WORDS];
+    let (mut verdict, mut length, mut culprit) = (0, 0, 0);
+    // SAFETY: the pointers come from references, so none is null, and those that are written
+    // through are the only ones to their places.
+    let number = unsafe {
+        raw::rewrites_why(
+            program.as_ptr(),
+            program.len(),
+            marks.as_ptr(),
+            marks.len(),
+            line,
+            path.as_mut_ptr(),
+            path.len(),
+            &mut verdict,
+            &mut length,
+            &mut culprit,
+        )
+    };
+    if number != 0 {
+        return Err(Refusal::returned(number));
+    }
+    path.truncate(length as usize);
+    let found = Verdict::ALL.iter().find(|v| u32::from(v.number()) == verdict);
+    let verdict = *found.unwrap_or_else(|| unreachable!("{} is no verdict", verdict));
+    let culprit = Culprit::ALL.iter().find(|c| u32::from(c.number()) == culprit);
+    Ok(Because { verdict, reason: culprit.map(|&culprit| Reason { path, culprit }) })
+}
+
 /// Tells the price of each statement of a program in ticks, before and after the accepted marks of a list
 /// are made, and the totals, by the table of prices that is handed in. The list is judged as by [`judge`].
 ///
@@ -1397,7 +1642,7 @@ pub fn blame_condition(condition: &[u8]) -> Option<u32> {
     place(unsafe { raw::rewrites_blame_condition(condition.as_ptr(), condition.len()) })
 }
 
-/// What one of the calls above returned: 0 is no place.
+/// A place that is counted from 1, as a call tells it: 0 is none.
 fn place(number: u32) -> Option<u32> {
     (number != 0).then_some(number)
 }

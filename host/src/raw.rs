@@ -66,6 +66,27 @@ extern "C" {
         first: *mut [u32; REVIEW_LINES],
     ) -> u8;
 
+    /// See [`crate::witness`] and the header.
+    ///
+    /// # Safety
+    ///
+    /// `program` points to `program_len` bytes, `condition` to `condition_len` bytes and `path` to
+    /// `path_len` words; each of them may be null where its length is 0. No other pointer is null.
+    /// Places that the call writes overlap no other place lent to it.
+    pub fn rewrites_witness(
+        program: *const u8,
+        program_len: usize,
+        condition: *const u8,
+        condition_len: usize,
+        part: u32,
+        statement: u32,
+        path: *mut u32,
+        path_len: usize,
+        length: *mut u32,
+        turn: *mut u32,
+        truth: *mut u32,
+    ) -> u8;
+
     /// See [`crate::force`] and the header.
     ///
     /// # Safety
@@ -108,6 +129,26 @@ extern "C" {
         mark_count: *mut u32,
         accepted: *mut u32,
         bytes: *mut u32,
+    ) -> u8;
+
+    /// See [`crate::why`] and the header.
+    ///
+    /// # Safety
+    ///
+    /// `program` points to `program_len` bytes, `marks` to `marks_len` bytes and `path` to `path_len`
+    /// words; each of them may be null where its length is 0. No other pointer is null. Places that the
+    /// call writes overlap no other place lent to it.
+    pub fn rewrites_why(
+        program: *const u8,
+        program_len: usize,
+        marks: *const u8,
+        marks_len: usize,
+        line: u32,
+        path: *mut u32,
+        path_len: usize,
+        verdict: *mut u32,
+        length: *mut u32,
+        culprit: *mut u32,
     ) -> u8;
 
     /// See [`crate::report`] and the header.

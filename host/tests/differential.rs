@@ -21,14 +21,16 @@ use oracle::listing::{self, Counts, Set};
 use oracle::liveness::{differing, Liveness};
 use oracle::machine::{self, kept_of, Outcome, Run, State, Values};
 use oracle::marks::{self, Judge, Kind, Mark};
+use oracle::paths::{self, check_why, check_witness, Because, Witnessed};
 use oracle::pricing::{self, in_force, kind, Prices, KIND_NAMES, OURS};
 use oracle::program::{is_kept, Expression, Operand, Operator, Program, Statement, LARGEST, LEAST};
 use oracle::review::{self, Reviewed, MOST_TABLES};
 use oracle::stages::{self, Stage};
+use oracle::steps::Steps;
 use rewrites::{
     raw, Outcome as Answer, Prices as Table, FIRST_KEPT, KEPT, KINDS, MOST_STEPS, VARIABLES,
 };
-use rewrites::{LIST_WORDS, MARKS, PART_WORDS, REVIEW_LINES, REVIEW_WORDS, STATEMENTS};
+use rewrites::{LIST_WORDS, MARKS, PART_WORDS, PATH_WORDS, REVIEW_LINES, REVIEW_WORDS, STATEMENTS};
 use rewrites::{PLACES, PLACE_BYTES, STAGES_BYTES, UNFORCED, VERDICT_BYTES};
 use rewrites::{TABLE_WORDS, TEXT_BYTES};
 use std::cmp::Ordering;
@@ -2188,6 +2190,436 @@ fn chain(random: &mut Random, size: usize) -> Program {
     }
     lines.push(Statement::Write(0));
     Program::new(lines).expect("a chain is taken")
+}
+
+// Paths
+
+/// The places beside a path that a call sets, with kept words between them.
+const LENGTH: usize = 0;
+const TURN: usize = 2;
+const TRUTH: usize = 4;
+const VERDICT: usize = 2;
+const CULPRIT: usize = 4;
+const PATH_PLACES: usize = 5;
+
+/// Steps through what is told of a part at a statement, and tells what it is.
+fn witness_agrees(
+    random: &mut Random,
+    case: &str,
+    (program, condition): (&[u8], &[u8]),
+    (part, statement): (u32, u32),
+    room: usize,
+) -> Result<(paths::Shown, Witnessed), u8> {
+    let (mut given, mut asked) = (Text::new(random, program), Text::new(random, condition));
+    let mut path = Lent::new(random, room, |bits| bits as u32);
+    let mut places = Lent::new(random, PATH_PLACES, |bits| bits as u32);
+    let (mut expected, mut expected_places) = (path.clone(), places.clone());
+    let read = if room < PATH_WORDS {
+        Err(1)
+    } else {
+        Program::read(program).and_then(|read| Ok((read, Condition::read(condition)?)))
+    };
+    let shown = || {
+        let (program, condition) = (escaped(program), escaped(condition));
+        format!("case {case}: part {part} at {statement}, {room} words, program {program} condition {condition}")
+    };
+    let (program, condition) = (given.part(), asked.part());
+    let (words, set) = (path.part(), places.part());
+    // SAFETY: the pointers come from references, and no two of the written places overlap.
+    let number = unsafe {
+        raw::rewrites_witness(
+            program.as_ptr(),
+            program.len(),
+            condition.as_ptr(),
+            condition.len(),
+            part,
+            statement,
+            words.as_mut_ptr(),
+            words.len(),
+            set.as_mut_ptr().add(LENGTH),
+            set.as_mut_ptr().add(TURN),
+            set.as_mut_ptr().add(TRUTH),
+        )
+    };
+    assert_eq!(number, read.as_ref().err().copied().unwrap_or(0), "number of {}", shown());
+    let answer = read.map(|(program, condition)| {
+        let (length, turn, truth) = (set[LENGTH] as usize, set[TURN], set[TRUTH]);
+        let expected_set = expected_places.part();
+        (expected_set[LENGTH], expected_set[TURN]) = (length as u32, turn);
+        let told = if length == 0 {
+            assert!(turn == 0 && truth <= 1, "turn {turn} and truth {truth} of {}", shown());
+            expected_set[TRUTH] = truth;
+            Witnessed::None(truth == 1)
+        } else {
+            assert!(length <= room, "{length} statements of {}", shown());
+            expected.part()[..length].copy_from_slice(&words[..length]);
+            Witnessed::Path(words[..length].to_vec(), turn)
+        };
+        match check_witness(&program, &condition, part, statement, &told) {
+            Ok(kind) => (kind, told),
+            Err(wrong) => panic!("{wrong}: {told:?} of {}", shown()),
+        }
+    });
+    path.assert_same(&expected, "path", shown);
+    places.assert_same(&expected_places, "places", shown);
+    given.assert_kept("program", shown);
+    asked.assert_kept("condition", shown);
+    answer
+}
+
+/// The part below a part's negations, and how many these are.
+fn below_negations(condition: &Condition, mut part: usize) -> (usize, usize) {
+    let mut negations = 0;
+    while let Part::Not(inner) = condition.parts()[part] {
+        (part, negations) = (inner, negations + 1);
+    }
+    (part, negations)
+}
+
+fn is_path_operator(part: &Part) -> bool {
+    matches!(part, Part::Next(..) | Part::Path(..))
+}
+
+/// A part to ask for: mostly one with a path operator, now and then one that isn't there.
+fn part_near(random: &mut Random, condition: &Condition) -> u32 {
+    let count = condition.parts().len();
+    let is_asked =
+        |&part: &usize| is_path_operator(&condition.parts()[below_negations(condition, part).0]);
+    let asked: Vec<usize> = (0..count).filter(is_asked).collect();
+    match random.below(24) {
+        0 => count as u32,
+        1 => (count + 64) as u32,
+        2 => random.pick(&[u32::MAX, 1 << 31, 1 << 16]),
+        3..=5 => random.below(count) as u32,
+        _ if asked.is_empty() => count as u32 - 1,
+        _ => random.pick(&asked) as u32,
+    }
+}
+
+/// A statement to ask for, now and then one that isn't there.
+fn statement_near(random: &mut Random, count: u32) -> u32 {
+    match random.below(24) {
+        0 => 0,
+        1 => count + 1,
+        2 => random.pick(&[u32::MAX, 1 << 31, count + (1 << 10)]),
+        3 => 1,
+        4 => count,
+        _ => random.between(1, count as usize) as u32,
+    }
+}
+
+/// What may be told of each path operator: X, F, G, U and W of E, then of A, and the same of the past.
+fn kinds_of_paths() -> impl Iterator<Item = Shown<(&'static str, paths::Shown)>> {
+    let operators = [["EX", "EF", "EU", "AX", "AG", "AW"], ["EY", "ER", "ES", "AY", "AM", "AB"]];
+    let rounds = [["EG", "AF"], ["EM", "AR"]];
+    let both = [["EW", "AU"], ["EB", "AS"]];
+    let with = |kinds: Vec<&'static str>, shown: paths::Shown| {
+        kinds.into_iter().map(move |kind| Shown((kind, shown)))
+    };
+    let all = [operators.concat(), rounds.concat(), both.concat()].concat();
+    with(all, paths::Shown::Nothing)
+        .chain(with([operators.concat(), both.concat()].concat(), paths::Shown::Way))
+        .chain(with([rounds.concat(), both.concat()].concat(), paths::Shown::Round))
+}
+
+const ASKED: [&str; 4] = ["both there", "no such part", "no such statement", "neither"];
+
+#[test]
+fn paths_of_conditions_are_right_when_stepped_through() {
+    let mut refusals = Tally::new("refusals of witness", 1..=8);
+    let mut sizes = Tally::new("sizes of programs with paths", sizes_of_programs());
+    let mut kinds = Tally::new("paths", kinds_of_paths());
+    let mut asked = Tally::new("parts and statements asked for", ASKED);
+    let mut lengths = Tally::new("statements of a path", 1..=30);
+    let mut turns = Tally::new("turns", 0..=16);
+    let mut negations = Tally::new("negations before an operator with a path", 0..=3);
+    let mut truths = Tally::new("truth where there is no path", [false, true]);
+    let mut ends = Tally::new(
+        "paths",
+        ["back to a statement that nothing steps to", "by `write`", "by statement 1"],
+    );
+    let mut rooms = rooms("words of a path", PATH_WORDS);
+    let mut of_programs = damages("damages of programs with paths");
+    let mut of_conditions = damages("damages of conditions with paths");
+    for (case, mut random) in cases("witness") {
+        let random = &mut random;
+        let program = match random.below(16) {
+            0 if !is_whole(case) => {
+                let size = random.between(3, 60);
+                chain(random, size)
+            }
+            _ => program(random, case),
+        };
+        let mut text = program.text();
+        let parts = random.between(1, 20);
+        let mut condition = match random.below(40) {
+            0 if !is_whole(case) => condition_text(random, &program),
+            _ => generate::condition(random, &program, parts),
+        };
+        let mut words = PATH_WORDS + random.below(3);
+        if !is_whole(case) {
+            match random.below(40) {
+                0 | 1 => damaged(random, &mut text, &mut of_programs),
+                2 => text = miscounted(random),
+                _ => {}
+            }
+            match random.below(20) {
+                0 | 1 => damaged(random, &mut condition, &mut of_conditions),
+                _ => {}
+            }
+            words = room(random, PATH_WORDS);
+        }
+        rooms.met(words);
+        let read = Condition::read(&condition);
+        let part = read.as_ref().map_or(0, |condition| part_near(random, condition));
+        let statement = statement_near(random, program.count());
+        let answer = witness_agrees(
+            random,
+            &case.to_string(),
+            (&text, &condition),
+            (part, statement),
+            words,
+        );
+        let (kind, told) = match answer {
+            Ok(answer) => answer,
+            Err(number) => {
+                refusals.met(number);
+                continue;
+            }
+        };
+        let (program, condition) =
+            (Program::read(&text).expect("it is taken"), read.expect("it is taken"));
+        sizes.met(program.count());
+        let has_part = (part as usize) < condition.parts().len();
+        asked.met(match (has_part, program.statement(statement).is_some()) {
+            (true, true) => ASKED[0],
+            (false, true) => ASKED[1],
+            (true, false) => ASKED[2],
+            (false, false) => ASKED[3],
+        });
+        let below = has_part.then(|| below_negations(&condition, part as usize));
+        let operator = below.map(|(bare, _)| condition.parts()[bare]).filter(is_path_operator);
+        if let Some(operator) = operator {
+            kinds.met(Shown((part_kind(&operator), kind)));
+        }
+        match told {
+            Witnessed::None(truth) => truths.met(truth),
+            Witnessed::Path(path, turn) => {
+                lengths.met(path.len());
+                turns.met(turn);
+                negations.met(below.map_or(0, |(_, count)| count));
+                let steps = Steps::new(&program);
+                let is_back = matches!(
+                    operator,
+                    Some(
+                        Part::Next(_, Direction::Backward, _)
+                            | Part::Path(_, Direction::Backward, _)
+                    )
+                );
+                let is_alone =
+                    |&n: &u32| n > 1 && steps.backward[n as usize - 1] == [n as usize - 1];
+                if is_back && path.iter().any(is_alone) {
+                    ends.met("back to a statement that nothing steps to");
+                }
+                if path.contains(&program.count()) {
+                    ends.met("by `write`");
+                }
+                if path.contains(&1) {
+                    ends.met("by statement 1");
+                }
+            }
+        }
+    }
+    refusals.report();
+    sizes.report();
+    kinds.report();
+    asked.report();
+    lengths.report();
+    turns.report();
+    negations.report();
+    truths.report();
+    ends.report();
+    rooms.report();
+    of_programs.report();
+    of_conditions.report();
+}
+
+/// Steps through what is told of a line of marks, and tells what it is.
+fn why_agrees(
+    random: &mut Random,
+    case: &str,
+    (program, list): (&[u8], &[u8]),
+    line: u32,
+    room: usize,
+) -> Result<Because, u8> {
+    let (mut given, mut asked) = (Text::new(random, program), Text::new(random, list));
+    let mut path = Lent::new(random, room, |bits| bits as u32);
+    let mut places = Lent::new(random, PATH_PLACES, |bits| bits as u32);
+    let (mut expected, mut expected_places) = (path.clone(), places.clone());
+    let read = if room < PATH_WORDS {
+        Err(1)
+    } else {
+        Program::read(program).and_then(|read| Ok((read, marks::read(list)?)))
+    };
+    let shown = || {
+        let (program, list) = (escaped(program), escaped(list));
+        format!("case {case}: line {line}, {room} words, program {program} marks {list}")
+    };
+    let (program, list) = (given.part(), asked.part());
+    let (words, set) = (path.part(), places.part());
+    // SAFETY: the pointers come from references, and no two of the written places overlap.
+    let number = unsafe {
+        raw::rewrites_why(
+            program.as_ptr(),
+            program.len(),
+            list.as_ptr(),
+            list.len(),
+            line,
+            words.as_mut_ptr(),
+            words.len(),
+            set.as_mut_ptr().add(VERDICT),
+            set.as_mut_ptr().add(LENGTH),
+            set.as_mut_ptr().add(CULPRIT),
+        )
+    };
+    assert_eq!(number, read.as_ref().err().copied().unwrap_or(0), "number of {}", shown());
+    let answer = read.map(|(program, list)| {
+        let (verdict, length, culprit) = (set[VERDICT], set[LENGTH] as usize, set[CULPRIT]);
+        assert!(length <= room && verdict < 256, "{length} statements of {}", shown());
+        let expected_set = expected_places.part();
+        (expected_set[VERDICT], expected_set[LENGTH]) = (verdict, length as u32);
+        expected_set[CULPRIT] = culprit;
+        let path = words[..length].to_vec();
+        expected.part()[..length].copy_from_slice(&path);
+        let told = Because { verdict: verdict as u8, path, culprit };
+        if let Err(wrong) = check_why(&program, &list, line, &told) {
+            panic!("{wrong}: {told:?} of {}", shown());
+        }
+        told
+    });
+    path.assert_same(&expected, "path", shown);
+    places.assert_same(&expected_places, "places", shown);
+    given.assert_kept("program", shown);
+    asked.assert_kept("marks", shown);
+    answer
+}
+
+/// The marks with a path, by what its last statement does.
+const REASONS: [&str; 8] = [
+    "rm, used",
+    "rm, used by an accepted cse",
+    "rpl, redefined",
+    "rpl, operand redefined",
+    "rpl, nothing copied",
+    "cse, redefined",
+    "cse, operand redefined",
+    "cse, nothing copied",
+];
+
+fn reason_kind(mark: &Mark, culprit: u32) -> &'static str {
+    match (mark.kind, culprit) {
+        (Kind::Remove(_), paths::USED) => REASONS[0],
+        (Kind::Remove(_), _) => REASONS[1],
+        (Kind::Replace(_), paths::REDEFINED) => REASONS[2],
+        (Kind::Replace(_), paths::OPERAND_REDEFINED) => REASONS[3],
+        (Kind::Replace(_), _) => REASONS[4],
+        (Kind::Reuse(_), paths::REDEFINED) => REASONS[5],
+        (Kind::Reuse(_), paths::OPERAND_REDEFINED) => REASONS[6],
+        (Kind::Reuse(_), _) => REASONS[7],
+    }
+}
+
+#[test]
+fn reasons_of_refused_marks_are_right_when_stepped_through() {
+    let mut refusals = Tally::new("refusals of why", [1, 2, 3, 4, 5, 9, 10]);
+    let mut sizes = Tally::new("sizes of programs with reasons", sizes_of_programs());
+    let mut counts = Tally::new("marks of a list with reasons", mark_counts());
+    let mut kinds = Tally::new("lines asked why", LINE_KINDS);
+    let mut verdicts = Tally::new("verdicts with reasons", [0, 11, 12, 13, 18, 14]);
+    let mut reasons = Tally::new("reasons", REASONS);
+    let mut lengths = Tally::new("statements of a reason", 2..=20);
+    let mut rooms = rooms("words of a reason", PATH_WORDS);
+    let mut of_programs = damages("damages of programs with reasons");
+    let mut of_lists = damages("damages of lists with reasons");
+    let mut ends = Tally::new(
+        "reasons",
+        ["round to the mark's statement", "back to a statement that nothing steps to"],
+    );
+    for (case, mut random) in cases("why") {
+        let random = &mut random;
+        let program = program(random, case);
+        let mut text = program.text();
+        let count = mark_count(random, case, (program.count() as usize + 4).min(40));
+        let mut list = marks::text(&generate::marks(random, &program, count));
+        let mut words = PATH_WORDS + random.below(3);
+        if !is_whole(case) {
+            match random.below(40) {
+                0 | 1 => damaged(random, &mut text, &mut of_programs),
+                2 => text = miscounted(random),
+                _ => {}
+            }
+            match random.below(20) {
+                0 => damaged(random, &mut list, &mut of_lists),
+                _ => {}
+            }
+            words = room(random, PATH_WORDS);
+        }
+        rooms.met(words);
+        // Mostly a line that gets 14, where there is one.
+        let read = Program::read(&text).and_then(|read| Ok((read, marks::read(&list)?)));
+        let unmet: Vec<usize> = read.as_ref().map_or_else(
+            |_| Vec::new(),
+            |(program, list)| {
+                let verdicts = Judge::new(program).verdicts(list);
+                (0..list.len()).filter(|&line| verdicts[line] == 14).collect()
+            },
+        );
+        let line = match random.below(4) {
+            0 => line_near(random, count),
+            _ if unmet.is_empty() => line_near(random, count),
+            _ => random.pick(&unmet) as u32,
+        };
+        let told = match why_agrees(random, &case.to_string(), (&text, &list), line, words) {
+            Ok(told) => told,
+            Err(number) => {
+                refusals.met(number);
+                continue;
+            }
+        };
+        let (program, list) = read.expect("they are taken");
+        sizes.met(program.count());
+        counts.met(list.len());
+        kinds.met(line_kind(line, list.len()));
+        verdicts.met(told.verdict);
+        if told.verdict != 14 {
+            continue;
+        }
+        let mark = &list[line as usize];
+        reasons.met(reason_kind(mark, told.culprit));
+        lengths.met(told.path.len());
+        if told.path[1..].contains(&mark.number) {
+            ends.met("round to the mark's statement");
+        }
+        let steps = Steps::new(&program);
+        let last = told.path[told.path.len() - 1] as usize;
+        if last > 1
+            && steps.backward[last - 1] == [last - 1]
+            && !matches!(mark.kind, Kind::Remove(_))
+        {
+            ends.met("back to a statement that nothing steps to");
+        }
+    }
+    refusals.report();
+    sizes.report();
+    counts.report();
+    kinds.report();
+    verdicts.report();
+    reasons.report();
+    lengths.report();
+    rooms.report();
+    of_programs.report();
+    of_lists.report();
+    ends.report();
 }
 
 // Lines of marks

@@ -25,6 +25,7 @@ enum {
     TABLE = 1024,
     REVIEW = 2048,
     LIST = 2048,
+    PATH = 1025,
     TEXT = 34816
 };
 
@@ -33,6 +34,7 @@ static int constants_answer(void) {
     CHECK(REWRITES_STATEMENTS == STATEMENTS && REWRITES_VARIABLES == VARIABLES && REWRITES_MARKS == MARKS);
     CHECK(REWRITES_PART_WORDS == PART && REWRITES_TABLE_WORDS == TABLE && REWRITES_REVIEW_WORDS == REVIEW);
     CHECK(REWRITES_LIST_WORDS == LIST && REWRITES_TEXT_BYTES == TEXT && REWRITES_VERDICT_BYTES == MARKS);
+    CHECK(REWRITES_PATH_WORDS == PATH && REWRITES_PATH_WORDS == REWRITES_STATEMENTS + 1);
     CHECK(REWRITES_PARTS * PART == TABLE && REWRITES_REVIEW_TABLES * PART == REVIEW);
     CHECK(REWRITES_PLACES * REWRITES_PLACE_BYTES == REWRITES_STAGES_BYTES);
     CHECK(REWRITES_VERSION == REWRITES_VERSION_MAJOR * 10000 + REWRITES_VERSION_MINOR * 100 + REWRITES_VERSION_PATCH);
@@ -848,6 +850,144 @@ static int stages_answer(void) {
     return 0;
 }
 
+/* The places beside a path, with a word on both sides of each. */
+enum { LENGTH = 1, TURN = 3, TRUTH = 5, PATH_PLACES = 7 };
+
+/* Whether these are the words of a path and of the places beside it, and all others are as they were. */
+static int told_so(const uint32_t *memory, const uint32_t *places, const char *path, uint32_t turn,
+                   uint32_t truth) {
+    const uint32_t length = (uint32_t)strlen(path);
+    size_t k;
+
+    for (k = 0; k < PATH + 8; k++) {
+        const int is_of_path = k >= 4 && k < 4 + length;
+        if (memory[k] != (is_of_path ? (uint32_t)(path[k - 4] - '0') : 700 + k)) return 0;
+    }
+    for (k = 0; k < PATH_PLACES; k += 2)
+        if (places[k] != 900 + k) return 0;
+    return places[LENGTH] == length && places[TURN] == turn && places[TRUTH] == truth;
+}
+
+/* Paths on P, each with its statements as digits. */
+static int witness_answers(void) {
+    uint8_t (*const witness)(const uint8_t *, size_t, const uint8_t *, size_t, uint32_t, uint32_t,
+                             uint32_t *, size_t, uint32_t *, uint32_t *, uint32_t *) = rewrites_witness;
+    static const struct {
+        const char *condition;
+        uint32_t part, statement;
+        const char *path; /* none where it is empty */
+        uint32_t turn, truth;
+    } asked[] = {
+        {"EX exit", 1, 5, "58", 0, 13},
+        {"AX exit", 1, 5, "56", 0, 13},
+        {"EX exit", 1, 6, "", 0, 0},
+        {"AX exit", 1, 8, "", 0, 1},
+        {"EF exit", 1, 1, "123458", 0, 13},
+        {"EF exit", 1, 8, "8", 0, 13},
+        {"EG true", 1, 8, "8", 1, 13},
+        {"AF exit", 1, 1, "1234567", 4, 13},
+        {"AF exit", 1, 5, "5674", 1, 13},
+        {"!!AF exit", 3, 5, "5674", 1, 13},
+        {"!AF exit", 2, 8, "", 0, 0},
+        {"!!AF exit", 3, 8, "", 0, 1},
+        {"AG !exit", 2, 7, "78", 0, 13},
+        {"E[!def(i2) U use(i2)]", 3, 5, "5674", 0, 13},
+        {"E[!def(i2) U use(i2)]", 2, 4, "", 0, 1},
+        {"E[!def(i2) U use(i2)]", 4, 4, "", 0, 0},
+        {"E[!def(i2) U use(i2)]", 0xffffffff, 4, "", 0, 0},
+        {"E[!def(i2) U use(i2)]", 3, 0, "", 0, 0},
+        {"E[!def(i2) U use(i2)]", 3, 9, "", 0, 0},
+        {"E[!def(i2) U use(i2)]", 3, 0xffffffff, "", 0, 0},
+        {"ER entry", 1, 6, "654321", 0, 13},
+        {"EY true", 1, 1, "11", 0, 13},
+        {"EM entry", 1, 1, "1", 1, 13},
+        {"(EF exit & AF exit)", 4, 8, "", 0, 1},
+    };
+    const uint8_t *p = (const uint8_t *)P, *c = (const uint8_t *)"AF exit";
+    const size_t length = strlen(P);
+    uint32_t memory[PATH + 8], *const path = memory + 4, places[PATH_PLACES];
+    uint32_t *const l = places + LENGTH, *const n = places + TURN, *const t = places + TRUTH;
+    size_t j, k;
+
+    for (k = 0; k < PATH + 8; k++) memory[k] = 700 + (uint32_t)k;
+    for (k = 0; k < PATH_PLACES; k++) places[k] = 900 + (uint32_t)k;
+    CHECK(witness(p, length, c, 7, 1, 1, path, PATH - 1, l, n, t) == REWRITES_BUFFER);
+    CHECK(witness(p, length - 1, c, 6, 1, 1, path, PATH - 1, l, n, t) == 1);
+    CHECK(witness(NULL, 0, NULL, 0, 1, 1, NULL, 0, l, n, t) == 1);
+    CHECK(witness(p, length - 1, c, 6, 1, 1, path, PATH, l, n, t) == 2);
+    CHECK(witness(NULL, 0, c, 7, 1, 1, path, PATH, l, n, t) == 3);
+    CHECK(witness(p, length, NULL, 0, 9, 9, path, PATH, l, n, t) == 7);
+    CHECK(witness(p, length, c, 6, 1, 1, path, PATH, l, n, t) == 7);
+    for (k = 0; k < PATH + 8; k++) CHECK(memory[k] == 700 + k);
+    for (k = 0; k < PATH_PLACES; k++) CHECK(places[k] == 900 + k);
+
+    for (j = 0; j < sizeof asked / sizeof *asked; j++) {
+        const char *condition = asked[j].condition;
+        for (k = 0; k < PATH + 8; k++) memory[k] = 700 + (uint32_t)k;
+        *l = 11, *n = 12, *t = 13;
+        CHECK(witness(p, length, (const uint8_t *)condition, strlen(condition), asked[j].part,
+                      asked[j].statement, path, PATH, l, n, t) == 0);
+        if (!told_so(memory, places, asked[j].path, asked[j].turn, asked[j].truth)) {
+            fprintf(stderr, "%s, part %u at %u\n", condition, (unsigned)asked[j].part,
+                    (unsigned)asked[j].statement);
+            return 1;
+        }
+    }
+    return 0;
+}
+
+/* Reasons on P, each with its statements as digits. The places beside a path have other names here. */
+static int why_answers(void) {
+    uint8_t (*const why)(const uint8_t *, size_t, const uint8_t *, size_t, uint32_t, uint32_t *, size_t,
+                         uint32_t *, uint32_t *, uint32_t *) = rewrites_why;
+    static const char list[] =
+        "3: mark(rm, i2, 7)\n4: mark(rpl, i2, 7)\n8: mark(rpl, i3, i1)\n4: mark(rpl, i1, i0)\n"
+        "7: mark(rm, i2, 7)\n9: mark(rm, i2, 7)\n";
+    static const struct {
+        uint32_t line;
+        const char *path;
+        uint32_t verdict, culprit;
+    } asked[] = {
+        {0, "34", REWRITES_UNMET, REWRITES_USED},
+        {1, "", REWRITES_ACCEPTED, REWRITES_NO_CULPRIT},
+        {2, "854", REWRITES_UNMET, REWRITES_REDEFINED},
+        {3, "", REWRITES_REPEATED, REWRITES_NO_CULPRIT},
+        {4, "", REWRITES_UNFIT, REWRITES_NO_CULPRIT},
+        {5, "", REWRITES_MISSING, REWRITES_NO_CULPRIT},
+        {6, "", REWRITES_MISSING, REWRITES_NO_CULPRIT},
+        {0xffffffff, "", REWRITES_MISSING, REWRITES_NO_CULPRIT},
+    };
+    const uint8_t *p = (const uint8_t *)P, *m = (const uint8_t *)list;
+    const size_t length = strlen(P), size = strlen(list);
+    uint32_t memory[PATH + 8], *const path = memory + 4, places[PATH_PLACES];
+    uint32_t *const l = places + LENGTH, *const v = places + TURN, *const c = places + TRUTH;
+    size_t j, k;
+
+    for (k = 0; k < PATH + 8; k++) memory[k] = 700 + (uint32_t)k;
+    for (k = 0; k < PATH_PLACES; k++) places[k] = 900 + (uint32_t)k;
+    CHECK(why(p, length, m, size, 0, path, PATH - 1, v, l, c) == REWRITES_BUFFER);
+    CHECK(why(p, length - 1, m, size - 1, 0, path, PATH - 1, v, l, c) == 1);
+    CHECK(why(NULL, 0, NULL, 0, 0, NULL, 0, v, l, c) == 1);
+    CHECK(why(p, length - 1, m, size - 1, 0, path, PATH, v, l, c) == 2);
+    CHECK(why(NULL, 0, m, size - 1, 0, path, PATH, v, l, c) == 3);
+    CHECK(why(p, length, m, size - 1, 0, path, PATH, v, l, c) == 9);
+    for (k = 0; k < PATH + 8; k++) CHECK(memory[k] == 700 + k);
+    for (k = 0; k < PATH_PLACES; k++) CHECK(places[k] == 900 + k);
+
+    for (j = 0; j < sizeof asked / sizeof *asked; j++) {
+        for (k = 0; k < PATH + 8; k++) memory[k] = 700 + (uint32_t)k;
+        *l = 11, *v = 12, *c = 13;
+        CHECK(why(p, length, m, size, asked[j].line, path, PATH, v, l, c) == 0);
+        if (!told_so(memory, places, asked[j].path, asked[j].verdict, asked[j].culprit)) {
+            fprintf(stderr, "line %u of the marks\n", (unsigned)asked[j].line);
+            return 1;
+        }
+    }
+    *l = 11, *v = 12, *c = 13;
+    CHECK(why(p, length, NULL, 0, 0, path, PATH, v, l, c) == 0 && *v == 11 && *l == 0 && *c == 0);
+    return 0;
+}
+
 /* Where a text is wrong, and 0 where it is about no place. */
 static int blame_answers(void) {
     uint32_t (*const program)(const uint8_t *, size_t) = rewrites_blame_program;
@@ -893,5 +1033,6 @@ int main(void) {
            tabulate_answers() || force_answers() || review_answers() || full_review_answers() ||
            judge_answers() ||
            below_zero_answers() || mark_line_answers() || list_answers() || join_answers() ||
-           stages_answer() || blame_answers() || version_answers();
+           stages_answer() || witness_answers() || why_answers() || blame_answers() ||
+           version_answers();
 }

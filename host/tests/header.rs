@@ -3,7 +3,7 @@
 mod common;
 
 use common::{compiled, installed, linked_by, P};
-use rewrites::{Arm, Refusal, Verdict};
+use rewrites::{Arm, Culprit, Refusal, Verdict};
 use std::collections::BTreeMap;
 use std::path::{Path, PathBuf};
 use std::process::Command;
@@ -102,7 +102,7 @@ fn snippet_program() -> String {
             program += &format!("if (!({})) return {checks};\n", held(told));
         }
     }
-    assert_eq!((calls, checks), (13, 13));
+    assert_eq!((calls, checks), (15, 15));
     program + "return refused ? 100 : 0;\n}\n"
 }
 
@@ -113,9 +113,15 @@ fn held(told: &str) -> &'static str {
             "ended == REWRITES_ENDED && value == 9 && steps == 12 && ticks == 36"
         }
         "4, 4, 4" => "parts == 4 && satisfied == 4 && first == 4",
+        "5 6 7 4, turn 0" => {
+            "path_length == 4 && path[0] == 5 && path[1] == 6 && path[2] == 7 && path[3] == 4 && turn == 0"
+        }
         "5, 3" => "tables == 5 && lines == 3",
         "1, 1, 8" => "parts == 1 && satisfied == 1 && first == 8",
         "2, 1, 100" => "marks == 2 && accepted == 1 && bytes == 100",
+        "REWRITES_UNMET, 3 4, REWRITES_USED" => {
+            "verdict == REWRITES_UNMET && path_length == 2 && path[0] == 3 && path[1] == 4 && culprit == REWRITES_USED"
+        }
         "8, 24, 24, 0" => "statements == 8 && given == 24 && rewritten == 24 && saved == 0",
         "his are in force" => {
             "prices[REWRITES_KIND_READ] == 1 && prices[REWRITES_KIND_DIVIDE] == 11"
@@ -190,6 +196,7 @@ fn the_headers_sizes_are_this_crates() {
         ("PARTS", rewrites::PARTS),
         ("PART_WORDS", rewrites::PART_WORDS),
         ("TABLE_WORDS", rewrites::TABLE_WORDS),
+        ("PATH_WORDS", rewrites::PATH_WORDS),
         ("REVIEW_LINES", rewrites::REVIEW_LINES),
         ("REVIEW_TABLES", rewrites::REVIEW_TABLES),
         ("REVIEW_WORDS", rewrites::REVIEW_WORDS),
@@ -218,7 +225,7 @@ fn the_headers_sizes_are_this_crates() {
 }
 
 #[test]
-fn the_headers_refusals_verdicts_and_arms_are_this_crates() {
+fn the_headers_refusals_verdicts_arms_and_culprits_are_this_crates() {
     let numbers = numbers();
     for refusal in Refusal::ALL {
         // The name of a size is taken.
@@ -231,6 +238,10 @@ fn the_headers_refusals_verdicts_and_arms_are_this_crates() {
     for verdict in Verdict::ALL {
         let name = name_in_c(&format!("{verdict:?}"));
         assert_eq!(numbers.get(&name), Some(&u64::from(verdict.number())), "{name}");
+    }
+    for culprit in Culprit::ALL {
+        let name = name_in_c(&format!("{culprit:?}"));
+        assert_eq!(numbers.get(&name), Some(&u64::from(culprit.number())), "{name}");
     }
     for arm in [Arm::Goto, Arm::Else] {
         assert_eq!(numbers.get(&name_in_c(&format!("{arm:?}"))), Some(&(arm as u64)));

@@ -1583,8 +1583,8 @@ fn refusals_print_their_words() {
     let words = [
         (
             1,
-            "table under 1,024 words, or 2,048 of a review or a list, verdicts under 1,024 bytes, \
-             new text under 34,816 bytes or stages under 280,000 bytes",
+            "table under 1,024 words, or 2,048 of a review or a list, path under 1,025 words, verdicts \
+             under 1,024 bytes, new text under 34,816 bytes or stages under 280,000 bytes",
         ),
         (15, "budget over 1,000,000"),
         (2, "some line isn't spelled as a statement, or the last lacks its byte 10"),

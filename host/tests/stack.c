@@ -1,8 +1,8 @@
 /* Prints how many bytes of stack the deepest calls take. Each runs in a thread whose stack was filled
    with a pattern before; what the thread alone overwrites is not counted. Exits with 0 where `run`,
    `judge`, `tabulate`, `review`, `mark_line`, `report`, `force`, `list`, `relist`, `join`, `prices`,
-   `keep`, `return` and the three that tell where a text is wrong take no more than the bytes given as
-   arguments. */
+   `keep`, `return`, the three that tell where a text is wrong, `witness` and `why` take no more than the
+   bytes given as arguments. */
 #define _POSIX_C_SOURCE 200112L
 #include "rewrites.h"
 
@@ -18,10 +18,11 @@
 #define TABLE 1024
 #define REVIEW 2048
 #define LIST 2048
+#define PATH 1025
 #define TEXT 34816
 #define STAGES 280000
 #define PATTERN 0xa5
-#define CALLS 16
+#define CALLS 18
 
 static uint8_t program[TEXT], condition[1024], conditions[32 * 1025], marks[64 * MARKS];
 static size_t program_len, condition_len, conditions_len, marks_len;
@@ -54,6 +55,24 @@ static void *review(void *unused) {
     static uint32_t tables, lines, table_of[32], parts[32], satisfied[32], first[32];
     number = rewrites_review(program, program_len, conditions, conditions_len, table, REVIEW, &tables,
                              &lines, table_of, parts, satisfied, first);
+    return unused;
+}
+
+/* The whole condition's part, at the statement from which all others are come by. */
+static uint32_t whole, path[PATH], length, turn, truth;
+
+static void *witness(void *unused) {
+    number = rewrites_witness(program, program_len, condition, condition_len, whole, 2, path, PATH,
+                              &length, &turn, &truth);
+    return unused;
+}
+
+/* The line that is asked for, and what is told of it. */
+static uint32_t asked, verdict, culprit;
+
+static void *why(void *unused) {
+    number = rewrites_why(program, program_len, marks, marks_len, asked, path, PATH, &verdict, &length,
+                          &culprit);
     return unused;
 }
 
@@ -241,6 +260,10 @@ int main(int count, char **arguments) {
     bytes = overwritten(report) - alone;
     printf("%7lu bytes of stack: report, 1,024 marks, of which 511 add a use\n", (unsigned long)bytes);
     fails += number != 0 || bytes > most[5];
+    bytes = overwritten(why) - alone;
+    printf("%7lu bytes of stack: why, 1,024 marks, of which 511 add a use: %u, %u statements, culprit %u\n",
+           (unsigned long)bytes, (unsigned)verdict, (unsigned)length, (unsigned)culprit);
+    fails += number != 0 || bytes > most[17] || verdict != 14 || length != 2 || culprit != 2;
     marks_len = 0;
 
     /* 1,024 lines: each goes to the line before. */
@@ -264,6 +287,12 @@ int main(int count, char **arguments) {
     bytes = overwritten(report) - alone;
     printf("%7lu bytes of stack: report, 1,024 marks\n", (unsigned long)bytes);
     fails += number != 0 || bytes > most[5];
+    /* Back from statement 3 by all others but the last to the first. */
+    asked = 2;
+    bytes = overwritten(why) - alone;
+    printf("%7lu bytes of stack: why, 1,024 marks: %u, %u statements, culprit %u\n", (unsigned long)bytes,
+           (unsigned)verdict, (unsigned)length, (unsigned)culprit);
+    fails += number != 0 || bytes > most[17] || verdict != 14 || length != STATEMENTS - 1;
     bytes = overwritten(mark_line) - alone;
     printf("%7lu bytes of stack: mark_line, the last of 1,024 marks\n", (unsigned long)bytes);
     fails += number != 0 || bytes > most[4];
@@ -340,6 +369,13 @@ int main(int count, char **arguments) {
                cases[k].depth, cases[k].open, cases[k].middle, number);
         fails += number != cases[k].number || bytes > most[6];
 
+        whole = (uint32_t)cases[k].depth * (*cases[k].close ? 2 : 1);
+        bytes = overwritten(witness) - alone;
+        printf("%7lu bytes of stack: witness, %4d of '%s', then '%s': %d, %u statements, turn %u\n",
+               (unsigned long)bytes, cases[k].depth, cases[k].open, cases[k].middle, number,
+               (unsigned)length, (unsigned)turn);
+        fails += number != cases[k].number || bytes > most[16];
+
         /* The same on each line of a review; where it is refused, on the last of 32. */
         conditions_len = 0;
         for (line = 1; line < 32 && cases[k].number != 0; line++)
@@ -349,6 +385,17 @@ int main(int count, char **arguments) {
         printf("%7lu bytes of stack: review, %4d of '%s', then '%s': %d\n", (unsigned long)bytes,
                cases[k].depth, cases[k].open, cases[k].middle, number);
         fails += number != cases[k].number || bytes > most[3];
+    }
+
+    /* A path by all statements, and one that goes round. */
+    for (line = 0; line < 2; line++) {
+        condition_len = 0;
+        put(line ? "AF exit" : "EF node(3)", 1);
+        whole = 1;
+        bytes = overwritten(witness) - alone;
+        printf("%7lu bytes of stack: witness, %u statements, turn %u\n", (unsigned long)bytes,
+               (unsigned)length, (unsigned)turn);
+        fails += number != 0 || bytes > most[16] || length != STATEMENTS - 2 || turn != (uint32_t)line;
     }
 
     /* 128 differing parts. */

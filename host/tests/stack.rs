@@ -13,9 +13,9 @@ use std::process::Command;
 use std::thread;
 
 /// What `run`, `judge`, `tabulate`, `review`, `mark_line`, `report`, `force`, `list`, `relist`, `join`, `prices`, `keep`, `return`,
-/// `blame_program`, `blame_marks` and `blame_condition` take at most, in KiB, as `include/rewrites.h` tells.
-const MOST: [u32; 16] =
-    [256, 384, 384, 384, 16, 512, 384, 256, 384, 256, 16, 256, 256, 256, 16, 32];
+/// `blame_program`, `blame_marks`, `blame_condition`, `witness` and `why` take at most, in KiB, as `include/rewrites.h` tells.
+const MOST: [u32; 18] =
+    [256, 384, 384, 384, 16, 512, 384, 256, 384, 256, 16, 256, 256, 256, 16, 32, 384, 256];
 
 #[test]
 fn no_call_takes_more_stack_than_is_told() {

@@ -15,6 +15,7 @@ pub mod listing;
 pub mod liveness;
 pub mod machine;
 pub mod marks;
+pub mod paths;
 pub mod pricing;
 pub mod program;
 pub mod review;

@@ -9,7 +9,7 @@ use crate::fault::Fault;
 use crate::files::{Text, Unread, MOST_BYTES};
 use crate::folder::{Folder, Report};
 use crate::output::reason;
-use crate::{review, tabulate};
+use crate::{path, review, tabulate, why};
 use rewrites::{Refusal, REVIEW_LINES};
 use serde::de::DeserializeOwned;
 use serde::{Deserialize, Serialize};
@@ -45,8 +45,25 @@ struct OfCondition {
 
 #[derive(Deserialize)]
 #[serde(deny_unknown_fields)]
+struct OfPath {
+    condition: String,
+    /// Counted from 1; null for the whole condition.
+    part: Option<u32>,
+    statement: u32,
+}
+
+#[derive(Deserialize)]
+#[serde(deny_unknown_fields)]
 struct OfMarks {
     marks: String,
+}
+
+#[derive(Deserialize)]
+#[serde(deny_unknown_fields)]
+struct OfMark {
+    marks: String,
+    /// Counted from 1.
+    line: u32,
 }
 
 #[derive(Deserialize)]
@@ -195,14 +212,15 @@ impl Desk {
         match call {
             "open" => read(body).and_then(|Nothing {}| written(&self.open())),
             "tabulate" => read(body).and_then(|asked: OfCondition| self.tabulate(&asked.condition)),
+            "witness" => read(body).and_then(|asked: OfPath| self.witness(&asked)),
             "check" => read(body).and_then(|asked: OfMarks| self.check(&asked.marks)),
+            "why" => read(body).and_then(|asked: OfMark| self.why(&asked)),
             "review" => read(body).and_then(|asked: OfReview| self.review(&asked.conditions)),
             "steps" => read(body).and_then(|asked: OfSteps| self.steps(&asked)),
             "read" => read(body).and_then(|asked: OfFile| self.paper_of(&asked.file)),
             "save" => read(body).and_then(|asked: Saved| self.save(&asked)),
             _ => {
-                let words =
-                    "no such call; expected open, tabulate, check, review, steps, read or save";
+                let words = "no such call; expected open, tabulate, witness, check, why, review, steps, read or save";
                 Err(Refused { status: 404, words: words.into() })
             }
         }
@@ -313,18 +331,37 @@ impl Desk {
         written(&Told { report: folder.report(call, answer), source: &source, place })
     }
 
+    /// A condition as it would be read from its file, where one byte 10 at the end doesn't count.
+    fn condition(&self, condition: &str, folder: &mut Folder) -> Option<Typed> {
+        let bare = condition.strip_suffix('\n').unwrap_or(condition).to_string();
+        self.typed(CONDITION, bare, folder)
+    }
+
     fn tabulate(&self, condition: &str) -> Result<Vec<u8>, Refused> {
         let folder = &mut Folder::new(&self.path);
         let given = self.given(folder);
-        // As in the file, one byte 10 at the end doesn't count.
-        let bare = condition.strip_suffix('\n').unwrap_or(condition).to_string();
-        let typed = self.typed(CONDITION, bare, folder);
+        let typed = self.condition(condition, folder);
         let answer = match (&given, &typed) {
             (Some(given), Some(typed)) => Some(tabulate::answer(given, &typed.text)),
             _ => None,
         };
         let typed: Vec<&Typed> = typed.iter().collect();
         self.told("tabulate", folder, given.as_ref(), &typed, answer)
+    }
+
+    /// A path that shows a part of a condition at a statement.
+    fn witness(&self, asked: &OfPath) -> Result<Vec<u8>, Refused> {
+        let folder = &mut Folder::new(&self.path);
+        let given = self.given(folder);
+        let typed = self.condition(&asked.condition, folder);
+        let answer = match (&given, &typed) {
+            (Some(given), Some(typed)) => {
+                Some(path::at(given, &typed.text, asked.part, asked.statement))
+            }
+            _ => None,
+        };
+        let typed: Vec<&Typed> = typed.iter().collect();
+        self.told("witness", folder, given.as_ref(), &typed, answer)
     }
 
     fn review(&self, conditions: &str) -> Result<Vec<u8>, Refused> {
@@ -353,6 +390,20 @@ impl Desk {
         });
         let typed: Vec<&Typed> = typed.iter().collect();
         self.told("check", folder, given.as_ref(), &typed, answer)
+    }
+
+    /// The path that speaks against a mark.
+    fn why(&self, asked: &OfMark) -> Result<Vec<u8>, Refused> {
+        let folder = &mut Folder::new(&self.path);
+        let given = self.given(folder);
+        let typed = self.typed(MARKS, ended(&asked.marks), folder);
+        let judged = judged(&given, &typed);
+        let answer = judged.as_ref().map(|judged| match judged {
+            Ok(judged) => why::answer(judged, asked.line),
+            Err(fault) => Err(fault.clone()),
+        });
+        let typed: Vec<&Typed> = typed.iter().collect();
+        self.told("why", folder, given.as_ref(), &typed, answer)
     }
 
     fn steps(&self, asked: &OfSteps) -> Result<Vec<u8>, Refused> {
@@ -388,7 +439,7 @@ impl<'a> Judged<'a> {
             Place { field: MARKS, begin, end }
         });
         Judged {
-            answer: judged.answer(),
+            answer: judged.answer(check::Paths::None),
             rewritten: shown_lines(&judged.program),
             changed: changed.collect(),
             places: places.collect(),

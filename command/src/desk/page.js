@@ -86,7 +86,35 @@ function asker(id, call, body, show, clear) {
   return now;
 }
 
-// A table with a row for each statement and a column for each of the columns, the leading one first.
+// The places of a path, a text for each statement that it comes by: its turns in order, and behind the last one where it goes round.
+function order(path, turn) {
+  const places = new Map();
+  path.forEach((n, i) => places.set(n, (places.has(n) ? places.get(n) + ' ' : '') + (i + 1)));
+  if (turn !== null) places.set(path[path.length - 1], places.get(path[path.length - 1]) + ' \u21a9 ' + turn);
+  return places;
+}
+
+// The same in a line.
+function led(path, turn) {
+  return path.join(' \u2192 ') + (turn === null ? '' : ' \u2192 ' + path[turn - 1] + ' and so on for ever');
+}
+
+// Shows the places of a path in a last column of a table with a row for each statement; without a path there is no such column.
+function lay(rows, places) {
+  const head = rows[0].closest('table').tHead.rows[0];
+  if (head.lastChild.className === 'step') [head, ...rows].forEach(tr => tr.lastChild.remove());
+  rows.forEach(tr => tr.classList.toggle('path', false));
+  if (places.size === 0) return;
+  make('th', 'path', head, 'step').scope = 'col';
+  rows.forEach((tr, i) => {
+    const text = places.get(i + 1) ?? '';
+    make('td', text, tr, 'step');
+    tr.classList.toggle('path', text !== '');
+  });
+}
+
+// A table with a row for each statement and a column for each of the columns, the leading one first. A path is asked for where
+// a row of a column is chosen.
 function marked(at, list, source, columns, lead, caption) {
   const table = make('table', null, null, 'marked' + (lead ? ' led' : '') + (columns.length > 20 ? ' many' : ''));
   make('caption', caption, table);
@@ -99,31 +127,33 @@ function marked(at, list, source, columns, lead, caption) {
     th.title = column.text;
     heads.push(th);
   };
-  const order = lead ? [columns.length - 1, ...columns.keys()].slice(0, columns.length) : [...columns.keys()];
-  if (lead) head(columns[order[0]], 'whole');
+  const sorted = lead ? [columns.length - 1, ...columns.keys()].slice(0, columns.length) : [...columns.keys()];
+  if (lead) head(columns[sorted[0]], 'whole');
   for (const [text, name] of [['n', 'number'], ['statement', 'text']]) { make('th', text, row, name).scope = 'col'; }
-  for (const k of lead ? order.slice(1) : order) head(columns[k]);
+  for (const k of lead ? sorted.slice(1) : sorted) head(columns[k]);
   const held = columns.map(column => new Set(column.statements));
   const body = make('tbody', null, table), rows = [];
   source.forEach((text, i) => {
     const tr = make('tr', null, body), n = i + 1;
     const cell = k => { const on = held[k].has(n); make('td', on ? '\u25cf' : '\u00b7', tr, on ? 'true' : ''); };
-    if (lead) { cell(order[0]); tr.firstChild.className += ' whole'; }
+    if (lead) { cell(sorted[0]); tr.firstChild.className += ' whole'; }
     const number = make('th', n, tr, 'number');
     number.scope = 'row';
+    number.tabIndex = i === 0 ? 0 : -1;
     const statement = make('th', text, tr, 'text');
     statement.scope = 'row';
-    for (const k of lead ? order.slice(1) : order) cell(k);
+    for (const k of lead ? sorted.slice(1) : sorted) cell(k);
     rows.push(tr);
   });
   at.replaceChildren(table);
 
-  let fixed = -1;
+  let fixed = -1, found = null; // the column that is held, and what is told of the path that is shown
   function show(k, n) {
     columns.forEach((_, j) => { items[j].parentNode.className = j === k ? 'on' : ''; });
-    heads.forEach((th, j) => th.classList.toggle('on', order[j] === k));
-    rows.forEach((tr, i) => { tr.className = k >= 0 && held[k].has(i + 1) ? 'on' : ''; });
+    heads.forEach((th, j) => th.classList.toggle('on', sorted[j] === k));
+    rows.forEach((tr, i) => { tr.classList.toggle('on', k >= 0 && held[k].has(i + 1)); });
     if (k < 0) return;
+    if (found && found.k === k && (n === undefined || n === found.n)) { by('told').textContent = found.words; return; }
     const here = n === undefined ? '' : ' Statement ' + n + ': ' + (held[k].has(n) ? 'true.' : 'false.');
     by('told').textContent = columns[k].label + '  ' + columns[k].text + ': true at ' + columns[k].satisfied + ' of ' + source.length + '.' + here;
   }
@@ -132,19 +162,60 @@ function marked(at, list, source, columns, lead, caption) {
     const cell = element.closest('th, td');
     if (!cell || !cell.parentNode.cells) return -1;
     const at = cell.cellIndex;
-    if (lead) return at === 0 ? order[0] : at < 3 ? -1 : order[at - 2];
-    return at < 2 ? -1 : order[at - 2];
+    if (lead) return at === 0 ? sorted[0] : at < 3 ? -1 : sorted[at - 2] ?? -1;
+    return at < 2 ? -1 : sorted[at - 2] ?? -1;
   }
   function statement(element) {
     const at = rows.indexOf(element.closest('tr'));
     return at < 0 ? undefined : at + 1;
   }
-  table.addEventListener('mouseover', e => { const k = column(e.target); if (k >= 0) show(k, statement(e.target)); });
+  // A table that grows under a pointer at rest tells nothing new.
+  let rest = '';
+  table.addEventListener('mousemove', e => { rest = e.screenX + ' ' + e.screenY; });
+  table.addEventListener('mouseover', e => {
+    const k = column(e.target), place = e.screenX + ' ' + e.screenY;
+    if (k >= 0 && place !== rest) show(k, statement(e.target));
+    rest = place;
+  });
   table.addEventListener('mouseleave', () => show(fixed));
   table.addEventListener('focusin', e => { const k = column(e.target); if (k >= 0) show(k); });
-  function hold(k) { fixed = fixed === k ? -1 : k; show(k); }
-  table.addEventListener('click', e => { const k = column(e.target); if (k >= 0) hold(k); });
-  table.addEventListener('keydown', e => { const k = column(e.target); if (k >= 0 && e.key === 'Enter') hold(k); });
+  function hold(k) { fixed = fixed === k ? -1 : k; found = null; lay(rows, new Map()); show(k); }
+  // Asks for the path of a column at a statement. Of two that are asked for the later is shown.
+  let asked = 0;
+  async function lead_to(k, n) {
+    const mine = ++asked;
+    fixed = k;
+    found = null;
+    show(k, n);
+    try {
+      const answer = await ask('witness', { condition: columns[k].condition, part: columns[k].part, statement: n });
+      if (mine !== asked || !('truth' in answer)) return;
+      lay(rows, answer.path ? order(answer.path, answer.turn) : new Map());
+      const shown = answer.path ? 'as this path shows: ' + led(answer.path, answer.turn) : 'no path shows it';
+      found = { k, n, words: columns[k].label + '  ' + columns[k].text + ': ' + answer.truth + ' at ' + n + ', ' + shown + '.' };
+      show(k, n);
+    } catch (error) {
+      if (mine === asked) trouble(error.message);
+    }
+  }
+  table.addEventListener('click', e => {
+    const k = column(e.target), n = statement(e.target);
+    if (k >= 0 && n !== undefined) lead_to(k, n);
+    else if (k >= 0) hold(k);
+  });
+  // Arrow keys go from number to number; Enter asks for the path of the column that is held there, or of the whole condition.
+  table.addEventListener('keydown', e => {
+    const k = column(e.target), n = statement(e.target);
+    if (n === undefined) { if (k >= 0 && e.key === 'Enter') hold(k); return; }
+    if (e.key === 'Enter') { lead_to(fixed < 0 ? columns.length - 1 : fixed, n); return; }
+    const next = rows[n - 1 + ({ ArrowUp: -1, ArrowDown: 1 }[e.key] ?? NaN)];
+    if (!next) return;
+    e.preventDefault();
+    e.target.tabIndex = -1;
+    const number = next.querySelector('.number');
+    number.tabIndex = 0;
+    number.focus();
+  });
 
   list.replaceChildren();
   columns.forEach((part, k) => {
@@ -174,7 +245,8 @@ const tabulate = asker('condition', 'tabulate', () => ({ condition: fields.condi
     return;
   }
   by('condition-answer').textContent = 'true at ' + answer.satisfied + ' of ' + answer.statements + ' statements, first ' + answer.first + '; parts ' + answer.parts;
-  const columns = answer.table.map(part => ({ label: String(part.part), text: part.text, satisfied: part.satisfied, statements: part.statements }));
+  const columns = answer.table.map(part => ({ label: String(part.part), text: part.text, satisfied: part.satisfied, statements: part.statements,
+    condition: answer.condition, part: part.part }));
   const caption = answer.condition + ' over ' + document.querySelector('h1').textContent + ': the whole condition first; \u25cf true, \u00b7 false';
   marked(by('condition-scroll'), by('condition-parts'), answer.source, columns, true, caption);
 }, () => empty('condition', 'condition-scroll', 'condition-parts'));
@@ -207,9 +279,10 @@ const check = asker('marks', 'check', () => ({ marks: fields.marks.text }), answ
     '; ticks given ' + ticks.given + ', rewritten ' + ticks.rewritten + ', saved ' + ticks.saved;
   const changed = new Set(answer.changed);
   const name = document.querySelector('h1').textContent;
-  grid(by('programs-scroll'), name + ': the given and the rewritten program', ['n', 'given', 'rewritten', 'changed', 'ticks before', 'after'],
+  const programs = grid(by('programs-scroll'), name + ': the given and the rewritten program', ['n', 'given', 'rewritten', 'changed', 'ticks before', 'after'],
     answer.source.map((text, i) => ({ name: changed.has(i + 1) ? 'changed' : '', cells: [[i + 1, 'number'], [text, 'text'], [answer.rewritten[i], 'text'],
       [changed.has(i + 1) ? 'changed' : ''], [answer.prices.before[i]], [answer.prices.after[i]]] })));
+  const rows = [...programs.tBodies[0].rows];
   const table = grid(by('verdicts-scroll'), name + ': the verdict on each mark', ['line', 'mark', 'verdict', 'in words', 'condition'],
     answer.verdicts.map(mark => ({ name: mark.name, cells: [[mark.line, 'number'], [mark.mark, 'text'], [mark.verdict], [mark.words, 'words'], ['']] })));
   answer.verdicts.forEach((mark, i) => {
@@ -217,9 +290,30 @@ const check = asker('marks', 'check', () => ({ marks: fields.marks.text }), answ
     button.type = 'button';
     button.title = 'Look at this condition';
     button.addEventListener('click', () => { fields.condition.text = mark.condition; open(by('tab-condition')); tabulate(); });
+    if (mark.name === 'unmet') because(table.tBodies[0].rows[i].cells[3], mark.line, rows);
   });
   if (!by('runs-panel').hidden) walk();
 }, null);
+
+// A button beside a verdict 14: the path that speaks against the mark, in the rows of the given program.
+function because(cell, line, rows) {
+  const button = make('button', 'Why?', cell, 'why');
+  button.type = 'button';
+  button.title = 'Show the path that speaks against this mark';
+  button.addEventListener('click', async () => {
+    try {
+      const answer = await ask('why', { marks: fields.marks.text, line });
+      // What was typed since may be of another list.
+      if (!answer.because || !cell.isConnected) return;
+      const { path } = answer.because, last = path[path.length - 1];
+      lay(rows, order(path.map(step => step.statement), null));
+      rows[path[0].statement - 1].scrollIntoView({ block: 'nearest' });
+      by('told').textContent = 'line ' + line + '  ' + answer.mark + ': ' + led(path.map(step => step.statement), null) + ': ' + last.statement + ' ' + last.does + '.';
+    } catch (error) {
+      trouble(error.message);
+    }
+  });
+}
 
 let at = 0, most = 0;
 function value(number) { return number === null ? '' : number; }
@@ -265,7 +359,8 @@ const review = asker('conditions', 'review', () => ({ conditions: fields.conditi
     return;
   }
   by('conditions-answer').textContent = 'conditions ' + answer.lines + ', tables ' + answer.tables;
-  const columns = answer.conditions.map(row => ({ label: String(row.line), text: row.condition, satisfied: row.satisfied, statements: row.statements }));
+  const columns = answer.conditions.map(row => ({ label: String(row.line), text: row.condition, satisfied: row.satisfied, statements: row.statements,
+    condition: row.condition, part: null }));
   const caption = 'A review over ' + document.querySelector('h1').textContent + '; \u25cf true, \u00b7 false';
   marked(by('review-scroll'), by('review-parts'), answer.source, columns, false, caption);
 }, () => empty('conditions', 'review-scroll', 'review-parts'));

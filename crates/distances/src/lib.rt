@@ -4,7 +4,7 @@ ghost use mathlib.Core.Path.{_≡_};
 ghost use mathlib.Core.Bool.{Bool, not, _&&_};
 ghost use Prim.Native.Nat.{ℕ, _+_, _*_, _≤_, _<_};
 ghost use lib.ListN.{length, getD};
-ghost use Rattle.bits.specs.Row.{member};
+ghost use Rattle.bits.specs.Row.{Zeros, member};
 ghost use Rattle.ctl.specs.Paths.{Graph};
 ghost use Rattle.graph.specs.Lists.{step, Linked};
 ghost use Rattle.graph.specs.Graphs.{places, Opposite, entries, edgesAt, headOf, stepOf};
@@ -15,6 +15,13 @@ use forcing::NONE;
 use graph::EDGES;
 use graph::ENTRIES;
 use graph::PLACES;
+
+// Numbers to be filled.
+pub fn blank_numbers() -> [u32; PLACES]
+    ensures { λ r. ⌜ Zeros places r ⌝ }
+{
+    [0; PLACES]
+}
 
 // Whether s is to have a number, where a step of it leads to a place that has one.
 fn joins(s: usize, through: &[u64], numbers: &[u32]) -> bool

@@ -17,7 +17,7 @@ use Rattle.lassos.proofs.Complete.{until-way}
 
 -- ---- a way with one place more in front
 
-way-cons : (step : ℕ → ℕ → Bool) (s t : ℕ) (ls : List ℕ) → step s t ≡ true → Way step t ls → Way step s (s ∷ ls)
+pub way-cons : (step : ℕ → ℕ → Bool) (s t : ℕ) (ls : List ℕ) → step s t ≡ true → Way step t ls → Way step s (s ∷ ls)
 way-cons step s t ls h w = record { some = omega arith; starts = refl; steps = goes }
   where
     goes : (i : ℕ) → suc i < length (s ∷ ls) → step (place (s ∷ ls) i) (place ls i) ≡ true

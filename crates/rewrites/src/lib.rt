@@ -5,6 +5,7 @@ ghost use Rattle.host_run.specs.Places.{RunExported};
 ghost use Rattle.host_tabulate.specs.Places.{TabulateExported};
 ghost use Rattle.host_force.specs.Exports.{ForceExported};
 ghost use Rattle.host_judge.specs.Places.{JudgeExported};
+ghost use Rattle.host_why.specs.Places.{WhyExported};
 ghost use Rattle.host_review.specs.Places.{ReviewExported};
 ghost use Rattle.host_mark_line.specs.Places.{MarkLineExported};
 ghost use Rattle.host_join.specs.Places.{JoinExported};
@@ -13,6 +14,7 @@ ghost use Rattle.host_report.specs.Places.{ReportExported};
 ghost use Rattle.host_listing.specs.Exports.{ListExported, RelistExported};
 ghost use Rattle.host_keep.specs.Places.{KeepExported};
 ghost use Rattle.host_return.specs.Places.{ReturnExported};
+ghost use Rattle.host_witness.specs.Places.{WitnessExported};
 ghost use Rattle.blame.specs.Blame.{TextBlamed};
 ghost use Rattle.mark_blame.specs.Blame.{LineTold};
 ghost use Rattle.condition_blame.specs.Blame.{Blamed};
@@ -255,6 +257,31 @@ pub extern "C" fn rewrites_return(
 }
 
 #[no_mangle]
+pub extern "C" fn rewrites_witness(
+    program: &[u8],
+    condition: &[u8],
+    part: u32,
+    statement: u32,
+    path: &mut [u32],
+    length: &mut u32,
+    turn: &mut u32,
+    truth: &mut u32,
+) -> u8
+    ensures { λ r. ⌜ WitnessExported (now (program .entry)) (now (condition .entry)) part statement (now (path .entry)) (now (path .exit)) r (record { length = now (length .entry); turn = now (turn .entry); truth = now (truth .entry) }) (record { length = now (length .exit); turn = now (turn .exit); truth = now (truth .exit) }) ⌝ }
+{
+    host_witness::export(
+        program,
+        condition,
+        part,
+        statement,
+        path,
+        length,
+        turn,
+        truth,
+    )
+}
+
+#[no_mangle]
 pub extern "C" fn rewrites_blame_program(program: &[u8]) -> u32
     ensures { λ line. ⌜ TextBlamed (now (program .entry)) line ⌝ }
 {
@@ -283,4 +310,19 @@ pub extern "C" fn rewrites_version() -> u32
     ensures { λ r. ⌜ r ≡ 100 ⌝ }
 {
     VERSION
+}
+
+#[no_mangle]
+pub extern "C" fn rewrites_why(
+    program: &[u8],
+    marks: &[u8],
+    line: u32,
+    path: &mut [u32],
+    verdict: &mut u32,
+    length: &mut u32,
+    culprit: &mut u32,
+) -> u8
+    ensures { λ r. ⌜ WhyExported (now (program .entry)) (now (marks .entry)) line (now (path .entry)) (now (path .exit)) r (record { verdict = now (verdict .entry); length = now (length .entry); culprit = now (culprit .entry) }) (record { verdict = now (verdict .exit); length = now (length .exit); culprit = now (culprit .exit) }) ⌝ }
+{
+    host_why::export(program, marks, line, path, verdict, length, culprit)
 }

@@ -15,7 +15,7 @@ use Rattle.rewriting.proofs.Accepted.{rewritten-unique}
 
 -- a mark gets one verdict only
 module _ (U : ℕ → ℕ → Type 0) (P : List Statement) (earlier : List Mark) (m : Mark) where
-  verdict-unique : (v w : Verdict) → Judged U P earlier m v → Judged U P earlier m w → v ≡ w
+  pub verdict-unique : (v w : Verdict) → Judged U P earlier m v → Judged U P earlier m w → v ≡ w
   verdict-unique Missing Missing a b = refl
   verdict-unique Missing Repeated a b = absurd (a (b .0))
   verdict-unique Missing Unfit a b = absurd (a (b .0))

@@ -118,3 +118,9 @@ module _ {P : List Statement} {n : ℕ} {codes : List (List ℕ)} {flow : List �
 pub added-all : {P : List Statement} {n : ℕ} {codes : List (List ℕ)} {flow : List ℕ} (ms : List Mark) {rows : List ℕ} {j : ℕ}
     → KnownBy (WidenedBelow P ms j) P n rows codes flow → j ≡ length ms → KnownBy (Widened P ms) P n rows codes flow
 added-all {P = P} {n = n} {codes = codes} {flow = flow} ms {rows = rows} s e = subst (λ (i : ℕ). KnownBy (WidenedBelow P ms i) P n rows codes flow) e s
+
+-- where no `cse` is accepted, what is known by the program's own uses is known by the widened ones
+pub none-widened : {P : List Statement} {n : ℕ} {rows : List ℕ} {codes : List (List ℕ)} {flow : List ℕ} (ms : List Mark) → Known P n rows codes flow
+    → ((x s : ℕ) → Widened P ms x s → usesOf P x s) → KnownBy (Widened P ms) P n rows codes flow
+none-widened ms k none =
+    record { size = k .size; few = k .few; found = facts-same (λ x s v b. (inl, none x s)) (k .found); flow-size = k .flow-size; flows = k .flows }

@@ -8,7 +8,7 @@ ghost use Rattle.base.specs.Decides.{Decides};
 ghost use Rattle.program.specs.Reading.{statements, Held};
 ghost use Rattle.truth.specs.Truth.{usesOf};
 ghost use Rattle.atoms.specs.Facts.{fact-words};
-ghost use Rattle.table.specs.Known.{Known, SomeKnown};
+ghost use Rattle.table.specs.Known.{KnownBy, Known, SomeKnown};
 ghost use Rattle.marks.specs.Reading.{most, Taken};
 ghost use Rattle.marks.specs.Marks.{ValidMark};
 ghost use Rattle.marks.specs.declared.Mark.{Mark as MarkOf};
@@ -155,7 +155,7 @@ pub fn judge(
 )
     requires { ⌜ Held p × Known (statements p) (p .count) (now rows) (now codes) (now flow) ⌝ }
     requires { ⌜ SomeTaken (now marks) × (most ≤ length (now verdicts)) ⌝ }
-    ensures { λ _. ⌜ ((ms : List MarkOf) → Taken (now (marks .entry)) ms → VerdictsOf (Widened (statements p) ms) (statements p) ms (now (verdicts .entry)) (now (verdicts .exit))) ⌝ }
+    ensures { λ _. ⌜ ((ms : List MarkOf) → Taken (now (marks .entry)) ms → VerdictsOf (Widened (statements p) ms) (statements p) ms (now (verdicts .entry)) (now (verdicts .exit)) × KnownBy (Widened (statements p) ms) (statements p) (p .count) (now (rows .exit)) (now (codes .entry)) (now (flow .entry))) ⌝ }
 {
     let n = p.count;
     if verdicts::judge(marks, p, &*rows, codes, flow, verdicts) {

@@ -5,9 +5,9 @@ ghost use mathlib.Core.Path.{_≡_};
 ghost use mathlib.Core.Bool.{false, true, not, _&&_};
 ghost use Prim.Native.Nat.{ℕ, _*_, _≤_, _<_};
 ghost use lib.ListN.{length};
-ghost use Rattle.bits.specs.Row.{Zeros, member};
+ghost use Rattle.bits.specs.Row.{member};
 ghost use Rattle.ctl.specs.Paths.{E, Paths, quant, So};
-ghost use Rattle.graph.specs.Graphs.{places, edgesAt, stepOf, DirectionsAt};
+ghost use Rattle.graph.specs.Graphs.{edgesAt, stepOf, DirectionsAt};
 ghost use Rattle.labelling.specs.Labels.{Said, Labelled};
 ghost use Rattle.lassos.specs.Dual.{dual};
 ghost use Rattle.witness.specs.Witness.{Witness};
@@ -17,12 +17,6 @@ use graph::ENTRIES;
 use graph::PLACES;
 use labelling::Operator;
 use walks::Trail;
-
-fn blank_numbers() -> [u32; PLACES]
-    ensures { λ r. ⌜ Zeros places r ⌝ }
-{
-    [0; PLACES]
-}
 
 // A way from s to the goal through the set, or a lasso within the set where there is none.
 fn trail(
@@ -43,7 +37,7 @@ fn trail(
     let head = &steps[..PLACES];
     let link = &steps[PLACES..PLACES + EDGES];
     let to = &steps[PLACES + EDGES..ENTRIES];
-    let mut numbers = blank_numbers();
+    let mut numbers = distances::blank_numbers();
     distances::measure(n, opposite, through, goal, &mut numbers);
     if numbers[s] != forcing::NONE {
         let end = walks::walk(&head[..n], link, to, s, &numbers, path, 0);

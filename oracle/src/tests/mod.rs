@@ -13,6 +13,7 @@ mod listing;
 mod mark_lines;
 mod naive;
 mod open_points;
+mod paths;
 mod pricing;
 mod review;
 mod stages;

@@ -1,13 +1,14 @@
 //! The tuned calls against the plain ones.
 
-use crate::condition::{tabulate, TABLE_WORDS};
+use crate::condition::{tabulate, Condition, TABLE_WORDS};
 use crate::forcing::{force, Arm, UNFORCED};
 use crate::generate::{self, Random, WrongDriver};
 use crate::machine::run;
 use crate::marks::{self, judge, TEXT_BYTES, VERDICT_BYTES};
+use crate::paths::{check_why, check_witness, Because, Witnessed, PATH_WORDS};
 use crate::pricing;
 use crate::program::{Program, MOST_LINES};
-use crate::tuned;
+use crate::tuned::{self, Told};
 
 /// A program's text, damaged or of pieces in some cases.
 fn program_text(random: &mut Random, program: &Program) -> Vec<u8> {
@@ -180,4 +181,60 @@ fn tuned_games_are_the_plain_ones() {
         lists += usize::from(answer == Err(22));
     }
     assert!((3_000..12_000).contains(&refused) && lists > 500, "{refused} {lists}");
+}
+
+/// Paths needn't be the same: each is stepped through.
+#[test]
+fn tuned_paths_are_right() {
+    let random = &mut Random::new(29);
+    for case in 0..20_000 {
+        let size = generate::size(random);
+        let program = generate::program(random, size);
+        let (text, parts) = (program_text(random, &program), random.between(1, 20));
+        let condition = generate::condition(random, &program, parts);
+        let condition =
+            if random.chance(10) { generate::damage(random, &condition) } else { condition };
+        let (part, statement) = (random.below(parts + 1) as u32, random.below(size + 2) as u32);
+        let room = random.pick(&[PATH_WORDS, PATH_WORDS, PATH_WORDS, PATH_WORDS - 1]);
+        let mut path = vec![7; room];
+        let told = tuned::witness(&text, &condition, part, statement, &mut path);
+        let read = if room < PATH_WORDS {
+            Err(1)
+        } else {
+            Program::read(&text).and_then(|read| Ok((read, Condition::read(&condition)?)))
+        };
+        assert_eq!(told.err(), read.as_ref().err().copied(), "case {case}");
+        if let (Ok(told), Ok((program, condition))) = (told, read) {
+            let told = match told {
+                Told::Path { length, turn } => {
+                    Witnessed::Path(path[..length as usize].to_vec(), turn)
+                }
+                Told::None(truth) => Witnessed::None(truth),
+            };
+            check_witness(&program, &condition, part, statement, &told)
+                .unwrap_or_else(|wrong| panic!("case {case}: {wrong}"));
+        }
+    }
+}
+
+#[test]
+fn tuned_reasons_are_right() {
+    let random = &mut Random::new(30);
+    for case in 0..20_000 {
+        let size = generate::size(random);
+        let program = generate::program(random, size);
+        let (text, count) = (program_text(random, &program), random.below(20));
+        let list = marks::text(&generate::marks(random, &program, count));
+        let list = if random.chance(10) { generate::damage(random, &list) } else { list };
+        let line = random.below(count + 2) as u32;
+        let mut path = vec![7; PATH_WORDS];
+        let told = tuned::why(&text, &list, line, &mut path);
+        let read = Program::read(&text).and_then(|read| Ok((read, marks::read(&list)?)));
+        assert_eq!(told.err(), read.as_ref().err().copied(), "case {case}");
+        if let (Ok((verdict, length, culprit)), Ok((program, list))) = (told, read) {
+            let path = path[..length as usize].to_vec();
+            check_why(&program, &list, line, &Because { verdict, path, culprit })
+                .unwrap_or_else(|wrong| panic!("case {case}: {wrong}"));
+        }
+    }
 }

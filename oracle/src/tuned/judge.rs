@@ -10,9 +10,10 @@ use crate::pricing::{price, Prices};
 use crate::program::{Expression, Operand, Operator, Statement, MOST_LINES};
 
 /// What verdicts are found from.
-struct Judge<const W: usize> {
-    flow: Flow<W>,
-    rows: Rows<W>,
+pub struct Judge<const W: usize> {
+    pub flow: Flow<W>,
+    /// `using` has also what statements gain by the accepted lines of `cse`.
+    pub rows: Rows<W>,
 }
 
 /// The statements that a search has to look at yet, and all that it met.
@@ -42,14 +43,14 @@ impl<const W: usize> Search<W> {
 }
 
 /// The assignment that `rpl` and `cse` ask for on each path back.
-trait Source: Copy {
+pub trait Source: Copy {
     fn variable(self) -> u8;
     fn right(self) -> Expression;
     fn is(self, statement: &Statement) -> bool;
 }
 
 #[derive(Clone, Copy)]
-struct Copied(u8, Operand);
+pub struct Copied(pub u8, pub Operand);
 
 impl Source for Copied {
     fn variable(self) -> u8 {
@@ -68,7 +69,7 @@ impl Source for Copied {
 
 /// One that doesn't set what it is computed from.
 #[derive(Clone, Copy)]
-struct Computed(u8, Expression);
+pub struct Computed(pub u8, pub Expression);
 
 impl Source for Computed {
     fn variable(self) -> u8 {
@@ -113,7 +114,7 @@ impl<const W: usize> Judge<W> {
     }
 
     /// Where what an assignment before has stored still holds: nothing of it is defined, and the program has started.
-    fn carrying(&self, source: impl Source) -> Row<W> {
+    pub fn carrying(&self, source: impl Source) -> Row<W> {
         let mut row = self.rows.transparent(&self.flow.all, &source.right());
         row = without(&row, &self.rows.defining[usize::from(source.variable())]);
         row[0] &= !1;
@@ -202,12 +203,12 @@ fn make(mark: &Mark, statement: &mut Statement) {
 const UNDECIDED: u8 = 255;
 
 /// A way to find whether a mark's condition is true at its statement.
-trait Way {
+pub trait Way {
     fn is_true<const W: usize>(judge: &Judge<W>, program: &Program, mark: &Mark, at: At) -> bool;
 }
 
 /// By a search from the statement.
-struct BySearch;
+pub struct BySearch;
 
 impl Way for BySearch {
     #[inline(always)]
@@ -249,6 +250,22 @@ fn make_in<T: Way, const W: usize>(
     list: &List,
     verdicts: &mut [u8],
 ) -> (u32, u32) {
+    let (_, accepted) = judge_in::<T, W>(program, list, verdicts);
+    for (mark, verdict) in list.marks().iter().zip(verdicts.iter()) {
+        if *verdict == 0 {
+            make(mark, &mut program.statements_mut()[mark.number as usize - 1]);
+        }
+    }
+    (list.marks().len() as u32, accepted)
+}
+
+/// Fills the verdicts of a list; what they are found from, and how many marks are accepted.
+#[inline(always)]
+pub fn judge_in<T: Way, const W: usize>(
+    program: &Program,
+    list: &List,
+    verdicts: &mut [u8],
+) -> (Judge<W>, u32) {
     let mut judge = Judge::<W> { flow: Flow::new(program), rows: Rows::new(program) };
     let (mut named, mut accepted) = ([0; W], 0);
     for (mark, verdict) in list.marks().iter().zip(verdicts.iter_mut()) {
@@ -287,12 +304,7 @@ fn make_in<T: Way, const W: usize>(
             *verdict = if is_true { 0 } else { 14 };
         }
     }
-    for (mark, verdict) in list.marks().iter().zip(verdicts.iter()) {
-        if *verdict == 0 {
-            make(mark, &mut program.statements_mut()[mark.number as usize - 1]);
-        }
-    }
-    (list.marks().len() as u32, accepted)
+    (judge, accepted)
 }
 
 /// Makes the accepted marks of a list in the program.

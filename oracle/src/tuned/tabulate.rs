@@ -72,8 +72,8 @@ pub trait Parts {
 }
 
 /// The parts of a condition, as many as may be; all are counted.
-struct List {
-    parts: Filled<Part, MOST_PARTS>,
+pub struct List {
+    pub parts: Filled<Part, MOST_PARTS>,
 }
 
 impl Parts for List {
@@ -84,7 +84,11 @@ impl Parts for List {
 }
 
 impl List {
-    fn read(&mut self, text: &[u8]) -> Result<(), u8> {
+    pub fn new() -> List {
+        List { parts: Filled::new() }
+    }
+
+    pub fn read(&mut self, text: &[u8]) -> Result<(), u8> {
         read(self, text)?;
         if self.parts.count() > MOST_PARTS {
             return Err(8);
@@ -352,7 +356,7 @@ pub fn tabulate_program(
     condition: &[u8],
     table: &mut [u64],
 ) -> Result<(u32, u32, u32), u8> {
-    let mut list = List { parts: Filled::new() };
+    let mut list = List::new();
     list.read(condition)?;
     let parts = list.parts.items();
     let (satisfied, first) = if is_short(program) {

@@ -58,7 +58,7 @@ rewrite-requires c κs =
     let k = c .before .before .before .before .before .before .before .before .before .before .before .before .before .before .before .before .before .before .before .before .before in
     let p = program-taken (k .before .before .before .before) in
     let m = marks-taken k in
-    (p .1, some-judged (p .0) (m .1) (c .before .before .before .before .judge .ensures (m .0) (m .1)) (k .before .before .before .before .before .before .before .before .if1 .left))
+    (p .1, some-judged (p .0) (m .1) (c .before .before .before .before .judge .ensures (m .0) (m .1) .0) (k .before .before .before .before .before .before .before .before .if1 .left))
 
 write-requires : tie.Need-write-requires
 write-requires c κs =
@@ -66,14 +66,14 @@ write-requires c κs =
     let p = program-taken (k .before .before .before .before) in
     let m = marks-taken k in
     let w = c .before .before .rewrite .ensures (m .0) (m .1) in
-    (w .held, omega (arith, k .before .before .before .before .before .before .before .if2 .left, text-short (p .0) (m .1) (c .before .before .before .before .before .before .before .judge .ensures (m .0) (m .1)) w))
+    (w .held, omega (arith, k .before .before .before .before .before .before .before .if2 .left, text-short (p .0) (m .1) (c .before .before .before .before .before .before .before .judge .ensures (m .0) (m .1) .0) w))
 
 cast-t45 : tie.Need-cast-t45
 cast-t45 c =
     let k = c .before .before .before .before .before .before .before .before .before .before .before .before .before .before .before .before .before .before .before .before .before .before .before .before .before .before .before in
     let p = program-taken (k .before .before .before .before) in
     let m = marks-taken k in
-    omega (arith, c .before .before .write .ensures .after, text-short (p .0) (m .1) (c .before .before .before .before .before .before .before .before .before .before .judge .ensures (m .0) (m .1)) (c .before .before .before .before .before .rewrite .ensures (m .0) (m .1)))
+    omega (arith, c .before .before .write .ensures .after, text-short (p .0) (m .1) (c .before .before .before .before .before .before .before .before .before .before .judge .ensures (m .0) (m .1) .0) (c .before .before .before .before .before .rewrite .ensures (m .0) (m .1)))
 
 returns-4 : tie.Need-returns-4
 returns-4 c =
@@ -89,7 +89,7 @@ returns-5 c =
     let k = c .before .before .before .before .before .before .before .before .before .before .before .before .before .before .before .before .before .before .before .before .before .before .before .before .before .before .before in
     let p = program-taken (k .before .before .before .before) in
     let m = marks-taken k in
-    let judged = c .before .before .before .before .before .before .before .before .before .before .judge .ensures (m .0) (m .1) in
+    let judged = c .before .before .before .before .before .before .before .before .before .before .judge .ensures (m .0) (m .1) .0 in
     let rewritten = c .before .before .before .before .before .rewrite .ensures (m .0) (m .1) in
     finished (p .0) (m .1) judged rewritten (k .before .before .before .before .before .before .before .before .if1 .left, k .before .before .before .before .before .before .before .if2 .left) (m .2) (c .before .before .write .ensures)
 

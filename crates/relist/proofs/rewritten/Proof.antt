@@ -26,12 +26,12 @@ rewrite-requires c κs =
     let pre = c .before .before .before .before .before .before .before .before .before .before .before .before .before .before .before .before .before .before .before .before .before .pre in
     let m = pre .1 .1 in
     let buffer = c .before .before .before .before .before .before .before .before .verdict-buffer in
-    (pre .0, some-judged (own-text (pre .1 .0)) (m .taken) (c .before .before .before .judge .ensures (m .ms) (m .taken)) (omega (arith, buffer .ensures)))
+    (pre .0, some-judged (own-text (pre .1 .0)) (m .taken) (c .before .before .before .judge .ensures (m .ms) (m .taken) .0) (omega (arith, buffer .ensures)))
 
 returns : tie.Need-returns
 returns c = λ ms taken.
     let pre = c .before .before .before .before .before .before .before .before .before .before .before .before .before .before .before .before .before .before .before .before .before .before .pre in
-    round (pre .0) (pre .1 .0) taken (c .before .before .before .before .judge .ensures ms taken) (c .rewrite .ensures ms taken)
+    round (pre .0) (pre .1 .0) taken (c .before .before .before .before .judge .ensures ms taken .0) (c .rewrite .ensures ms taken)
 
 pub rewritten-spec : {M : Type 1} → statement M
 rewritten-spec =

@@ -11,6 +11,7 @@ use Rattle.marks.specs.Marks.{markAt}
 use Rattle.rewriting.specs.Verdicts.{Widened}
 use Rattle.rewriting.proofs.Uses.{judged-as}
 use Rattle.widening.proofs.Again.{verdicts-by}
+use Rattle.widening.proofs.Uses.{none-widened}
 use borrow.Author.Needs.{needs}
 use Rattle.widening.proofs.judge.Statement.{statement}
 use Rattle.widening.proofs.judge.Tie as tie
@@ -36,21 +37,23 @@ returns c = λ ms t.
     let first = c .before .before .before .before .before .before .before .before .before .before .before .before .before .judge .ensures ms t .0 in
     let wide = c .before .before .before .before .before .before .before .widen .ensures P _ _ _ (s .pre .0 .1) ms t (first .judged) in
     let by = verdicts-by wide t (c .before .before .judge-again .ensures P (known-in wide) ms t (first .judged)) in
-    record { judged = by .judged; same = by .same ∙ first .same; past = λ j l. by .past j l ∙ first .past j l }
+    (record { judged = by .judged; same = by .same ∙ first .same; past = λ j l. by .past j l ∙ first .past j l }, wide)
 
 returns-2 : tie.Need-returns-2
 returns-2 c = λ ms t.
     let s = c .before .before .before .before .before .before .before .before .before .before in
     let P = statements (s .args .p) in
     let told = c .before .before .before .judge .ensures ms t in
-    let first = told .0 in
-    record {
-      judged = λ j l.
-          let v = first .judged j l in
-          (v .0, judged-as (usesOf P) (Widened P ms) P (take j ms) (λ x p. (inl, told .1 (c .if1 .left) x p)) (markAt ms j) (v .0) (v .1), v .2);
-      same = first .same;
-      past = first .past;
-    }
+    let first = told .0 in (
+      record {
+        judged = λ j l.
+            let v = first .judged j l in
+            (v .0, judged-as (usesOf P) (Widened P ms) P (take j ms) (λ x p. (inl, told .1 (c .if1 .left) x p)) (markAt ms j) (v .0) (v .1), v .2);
+        same = first .same;
+        past = first .past;
+      },
+      none-widened ms (s .pre .0 .1) (told .1 (c .if1 .left)),
+    )
 
 pub judge-spec : {M : Type 1} → statement M
 judge-spec =

@@ -1,0 +1,2 @@
+pub mod RefusedMarks
+pub mod Ends

@@ -1,0 +1,3 @@
+pub mod Rows
+pub mod Culprits
+pub mod Paths
