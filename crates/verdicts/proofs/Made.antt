@@ -13,8 +13,9 @@ use Rattle.language.specs.declared.Statement.{Statement}
 use Rattle.language.specs.declared.Statement.the-variants.{Read}
 use Rattle.program.specs.Program.{most}
 use Rattle.program.specs.Program as program
-use Rattle.program.specs.Reading.{entry, statementIn, statements, Held}
-use Rattle.program.specs.declared.Entry.{Entry}
+use Rattle.program.specs.Reading.{statements, Held}
+use Rattle.encoding.specs.Encoding.{statementIn}
+use Rattle.encoding.specs.declared.Entry.{Entry}
 use Rattle.program.specs.declared.Program.{Program}
 use Rattle.program.proofs.Held.{held, at-held, length-held}
 use Rattle.bits.specs.Row.{countBelow}
