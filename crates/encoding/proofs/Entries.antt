@@ -9,7 +9,7 @@ use Rattle.language.specs.declared.Expression.the-variants.{Binary}
 use Rattle.language.specs.declared.Statement.{Statement}
 use Rattle.language.specs.declared.Statement.the-variants.{Assign}
 use Rattle.encoding.specs.declared.Entry.{Entry}
-use Rattle.encoding.specs.Encoding.{Packed, operandIn, operatorIn, statementBy, statementIn}
+use Rattle.encoding.specs.Encoding.{Packed, operandIn, operatorIn, statementBy, statementIn, leftIn, rightIn}
 
 -- the last operator has all further kinds
 pub operator-high : (m : ℕ) → 4 < m → operatorIn m ≡ Divide
@@ -41,3 +41,8 @@ packed k a b x hk ha hb hx e f =
     let g : head / 32 % 2 ≡ b = omega arith in
     let w : head / 64 ≡ x = omega arith in
     record { kind-part = omega arith; variable-part = rw w (omega arith); first-part = rw d e; second-part = rw g f }
+
+-- what an entry holds, where its kind is an operator's
+pub binary-entry : (e : Entry) → 4 < e .head % 16 → statementIn e ≡ Assign (e .head / 64 % 256) (Binary (leftIn e) (operatorIn (e .head % 16 - 5)) (rightIn e))
+unfolding statementIn
+binary-entry e h = kind-high (e .head % 16) (e .head / 64 % 256) (eqb (e .head / 16 % 2) 1) (eqb (e .head / 32 % 2) 1) (e .first) (e .second) h

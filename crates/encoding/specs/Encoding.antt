@@ -43,6 +43,13 @@ statementBy (suc (suc (suc (suc (suc k))))) x a b m n = Assign x (Binary (operan
 unfoldable pub statementIn : Entry → Statement
 statementIn e = statementBy (e .head % 16) (e .head / 64 % 256) (eqb (e .head / 16 % 2) 1) (eqb (e .head / 32 % 2) 1) (e .first) (e .second)
 
+-- its operands, where its kind has them
+abbrev pub leftIn : Entry → Operand
+leftIn e = operandIn (eqb (e .head / 16 % 2) 1) (e .first)
+
+abbrev pub rightIn : Entry → Operand
+rightIn e = operandIn (eqb (e .head / 32 % 2) 1) (e .second)
+
 -- a head has these parts
 pub record Packed (head kind : ℕ) (a b : Bool) (x : ℕ) : Type 0 where
   pub kind-part : head % 16 ≡ kind
