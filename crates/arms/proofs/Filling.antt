@@ -8,7 +8,7 @@ use lib.ListN.{length, getD, set, length-set}
 use lib.Seq.{getD-set-same, getD-set-other}
 use borrow.Author.Count.{below-more, below-none}
 use Rattle.language.specs.declared.Statement.{Statement}
-use Rattle.program.specs.declared.Entry.{Entry}
+use Rattle.encoding.specs.declared.Entry.{Entry}
 use Rattle.program.specs.declared.Program.{Program}
 use Rattle.program.specs.Program.{at, Targets, WellFormed}
 use Rattle.program.specs.Reading.{statements, Held}

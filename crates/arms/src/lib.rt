@@ -42,7 +42,7 @@ fn own(p: Program, named: &[u64], mine: &mut [u64])
     let mut s: usize = 0;
     while s < n {
         let e = p.entries[s];
-        let t = e.statement;
+        let t = encoding::statement_of(e);
         if asked(t, named) {
             bits::insert(mine, s);
             s += 1;
@@ -111,7 +111,7 @@ fn fill(p: Program, mine: &[u64], numbers: &[u32], arms: &mut [u8])
     let mut s: usize = 0;
     while s < n {
         let e = p.entries[s];
-        let t = e.statement;
+        let t = encoding::statement_of(e);
         let own = bits::contains(mine, s);
         arms[s] = of_statement(t, own, numbers, s);
         s += 1;

@@ -151,7 +151,7 @@ pub fn find(p: Program, rows: &mut [u64], codes: &mut [[u64; CODE_WORDS]])
     let mut s: usize = 0;
     while s < n {
         let e = p.entries[s];
-        let i = e.statement;
+        let i = encoding::statement_of(e);
         note(i, s, rows);
         if s < codes.len() {
             let words = codes::words_of(codes::statement_code(i));

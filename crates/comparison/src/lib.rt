@@ -164,9 +164,9 @@ pub fn steps(
             };
         }
         let e = p.entries[i];
-        let s = e.statement;
+        let s = encoding::statement_of(e);
         let f = q.entries[i];
-        let t = f.statement;
+        let t = encoding::statement_of(f);
         let old = *values;
         let other = *others;
         let next = machine::step(s, place, input, values);

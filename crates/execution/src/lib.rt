@@ -37,8 +37,7 @@ pub fn run(
     while steps < budget {
         let i = at as usize;
         let e = program.entries[i];
-        let s = e.statement;
-        let next = machine::step(s, at, input, &mut values);
+        let next = dispatch::step(e, at, input, &mut values);
         steps += 1;
         ticks += prices[i] as u64;
         match next {

@@ -11,10 +11,11 @@ use borrow.Author.Count.{below-more}
 use borrow.Author.Tests.{eq-eqb}
 use Rattle.language.specs.declared.Statement.{Statement}
 use Rattle.base.proofs.Bools.{or-left, or-right}
-use Rattle.program.specs.declared.Entry.{Entry}
+use Rattle.encoding.specs.declared.Entry.{Entry}
 use Rattle.program.specs.declared.Program.{Program}
 use Rattle.program.specs.Program.{at, most, WellFormed}
-use Rattle.program.specs.Reading.{statementIn, statements, Held}
+use Rattle.program.specs.Reading.{statements, Held}
+use Rattle.encoding.specs.Encoding.{statementIn}
 use Rattle.program.proofs.Held.{held, at-held, length-held}
 use Rattle.graph.specs.Graphs.{places}
 use Rattle.flow.specs.Edges.{Follow, goes, Successors, Inside}

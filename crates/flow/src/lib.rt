@@ -167,7 +167,7 @@ pub fn of(p: Program, flow: &mut [u16])
     let mut s: usize = 0;
     while s < n {
         let e = p.entries[s];
-        let t = e.statement;
+        let t = encoding::statement_of(e);
         let r = successors_of(t, s);
         first[s] = r.first;
         second[s] = r.second;

@@ -14,7 +14,7 @@ use Rattle.language.specs.declared.Statement.{Statement}
 use Rattle.language.specs.declared.Statement.the-variants.{Assign, Skip}
 use Rattle.statement_writer.specs.Writing.{Put}
 use Rattle.statement_writer.proofs.Puts.{put-then, put-length, room}
-use Rattle.program.specs.declared.Entry.{Entry}
+use Rattle.encoding.specs.declared.Entry.{Entry}
 use Rattle.program.specs.declared.Program.{Program}
 use Rattle.program.specs.Program.{at, text, most, Targets, WellFormed}
 use Rattle.program.specs.Reading.{statements, Held}

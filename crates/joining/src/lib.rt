@@ -71,14 +71,14 @@ pub fn write(road: Program, creeper: Program, out: &mut [u8]) -> usize
     let mut s: usize = 0;
     while s < last {
         let e = road.entries[s];
-        let i = e.statement;
+        let i = encoding::statement_of(e);
         at = statement_writer::line(out, at, i);
         s += 1;
     }
     let write = road.entries[last];
     let read = creeper.entries[0];
-    let written = write.statement;
-    let begun = read.statement;
+    let written = encoding::statement_of(write);
+    let begun = encoding::statement_of(read);
     let x = writes(written);
     let y = reads(begun);
     let seam = Statement::Assign(y, Expression::Single(Operand::Variable(x)));
@@ -87,7 +87,7 @@ pub fn write(road: Program, creeper: Program, out: &mut [u8]) -> usize
     let mut k: usize = 1;
     while k < size {
         let e = creeper.entries[k];
-        let i = e.statement;
+        let i = encoding::statement_of(e);
         let j = moved(i, d);
         at = statement_writer::line(out, at, j);
         k += 1;

@@ -42,8 +42,8 @@ fn changed(p: Program, q: Program) -> [u64; ROW_WORDS]
     while s < n {
         let e = p.entries[s];
         let f = q.entries[s];
-        let i = e.statement;
-        let j = f.statement;
+        let i = encoding::statement_of(e);
+        let j = encoding::statement_of(f);
         if codes::same_statement(j, i) {
             s += 1;
         } else {

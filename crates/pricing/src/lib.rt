@@ -110,7 +110,7 @@ pub fn prices_of(p: Program, table: &[u32; KINDS]) -> [u32; MOST]
     let mut s: usize = 0;
     while s < n {
         let e = entries[s];
-        let t = e.statement;
+        let t = encoding::statement_of(e);
         prices[s] = price_of(t, table);
         s += 1;
     }

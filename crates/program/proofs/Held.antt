@@ -10,9 +10,9 @@ use Rattle.lines.proofs.Texts.{valid-at}
 use Rattle.language.specs.Spelling.{Valid}
 use Rattle.language.specs.declared.Statement.{Statement}
 use Rattle.language.specs.declared.Statement.the-variants.{Read, Write, Assign, Branch, Skip}
-use Rattle.program.specs.declared.Entry.{Entry}
+use Rattle.encoding.specs.declared.Entry.{Entry}
+use Rattle.encoding.specs.Encoding.{statementIn}
 use Rattle.program.specs.Program.{AllValid, at, most, Targets, WellFormed}
-use Rattle.program.specs.Reading.{entry, statementIn}
 
 -- within a list the default is never asked
 pub getD-within : {A : Type 0} (l : List A) (i : ℕ) (d e : A) → i < length l → getD l i d ≡ getD l i e
@@ -30,9 +30,13 @@ targets-wider n m (Assign x e) l t = tt
 targets-wider n m (Branch x a b) l t = ((t .0 .0, omega arith), (t .1 .0, omega arith))
 targets-wider n m Skip l t = tt
 
+-- the entry that code finds past the last
+abbrev pub zeros : Entry
+zeros = record { head = 0; first = 0; second = 0 }
+
 -- the statement in the code's entry at place s
 abbrev pub held : List Entry → ℕ → Statement
-held es s = getD es s (entry (Read 0)) .statement
+held es s = statementIn (getD es s zeros)
 
 -- the statement at a place is the one in the entry there, and what is known of it
 module _ (es : List Entry) (n s : ℕ) (inside : s < length (map statementIn (take n es))) where
@@ -40,8 +44,8 @@ module _ (es : List Entry) (n s : ℕ) (inside : s < length (map statementIn (ta
   at-held =
       let front = take n es in
       let below : s < n = omega (arith, length-map front statementIn, length-take n es) in
-      getD-within (map statementIn front) s Skip (Read 0) inside ∙ List·getD-map statementIn front s (entry (Read 0))
-      ∙ ap statementIn (getD-take n es s (entry (Read 0)) below)
+      getD-within (map statementIn front) s Skip (statementIn zeros) inside ∙ List·getD-map statementIn front s zeros
+      ∙ ap statementIn (getD-take n es s zeros below)
 
   pub held-valid : WellFormed (map statementIn (take n es)) → Valid (held es s)
   held-valid w = rw at-held at (at-valid (map statementIn (take n es)) s (w .valid) inside)
@@ -52,10 +56,6 @@ module _ (es : List Entry) (n s : ℕ) (inside : s < length (map statementIn (ta
 
 pub length-held : (es : List Entry) (n : ℕ) → n ≤ length es → length (map statementIn (take n es)) ≡ n
 length-held es n fits = length-map (take n es) statementIn ∙ length-take-le n es fits
-
-pub statements-entries : (P : List Statement) → map statementIn (map entry P) ≡ P
-statements-entries [] = refl
-statements-entries (s ∷ P) = rw (statements-entries P)
 
 -- the claim holds of the statements before place s
 abbrev pub SoFar : (ℕ → ℕ → Statement → Type 0) → List Entry → ℕ → ℕ → Type 0

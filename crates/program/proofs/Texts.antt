@@ -1,11 +1,11 @@
 -- A program's text is lines, each told by the reader of a line, and what is known once all are read. Assumes nothing.
-use mathlib.Core.Path.{_≡_, refl, sym, _∙_}
+use mathlib.Core.Path.{_≡_, refl, ap, sym, _∙_}
 use mathlib.Core.List.{List, [], _∷_, _++_, map}
 use mathlib.Core.Bool.{Bool, true, false}
 use Prim.Native.Nat.{ℕ, _+_, _≤_, _<_}
 use native.Mathlib.Omega.{arith}
 use native.Mathlib.Numerals.{add-one}
-use lib.ListN.{length, take, drop, set, length-append, length-map}
+use lib.ListN.{length, take, drop, set, length-append}
 use lib.Seq.{take-all, take-suc-set, take-append-le}
 use Rattle.lines.specs.Lines.{LineOf, NoLine}
 use Rattle.lines.proofs.Texts.{Unambiguous}
@@ -18,11 +18,11 @@ use Rattle.language.specs.declared.Statement.{Statement}
 use Rattle.statement_reader.specs.declared.StatementRead.{StatementRead}
 use Rattle.statement_reader.specs.declared.StatementRead.the-variants.{Found, Misspelled}
 use Rattle.statement_reader.proofs.Lines.{line-unique, line-right}
-use Rattle.program.specs.declared.Entry.{Entry}
+use Rattle.encoding.specs.declared.Entry.{Entry}
+use Rattle.encoding.specs.Encoding.{statementIn}
 use Rattle.program.specs.declared.Refusal.{Refusal}
 use Rattle.program.specs.Program.{Spells, fewest, most, Counted, Placed, Aimed, Taken}
-use Rattle.program.specs.Reading.{Refused, entry, statementIn, Kept, LinesRead}
-use Rattle.program.proofs.Held.{statements-entries}
+use Rattle.program.specs.Reading.{Refused, Kept, LinesRead}
 
 -- the line of a statement at the front of a text is that of one valid statement only
 pub statements-unambiguous : Unambiguous spell Valid
@@ -43,25 +43,23 @@ module _ (t : List ℕ) (at : ℕ) {r : StatementRead} (told : parsedStatement t
     unfolding parseLine
     line-of {j} ends h = line-right t at (Found e j) (rw ends at h) (rw (← told, is, ← ended, ends))
 
-map-append : (P Q : List Statement) → map entry (P ++ Q) ≡ map entry P ++ map entry Q
-map-append [] Q = refl
-map-append (s ∷ P) Q = rw (map-append P Q)
+map-append : (es fs : List Entry) → map statementIn (es ++ fs) ≡ map statementIn es ++ map statementIn fs
+map-append [] fs = refl
+map-append (e ∷ es) fs = rw (map-append es fs)
 
--- the first entries are kept: there is room for one more
-module _ (es : List Entry) (n : ℕ) (P : List Statement) (s : Statement) (l : length es ≡ most) (c : n ≡ length P) (k : take n es ≡ take most (map entry P)) where
-  pub kept-more : n < most → take (n + 1) (set es n (entry s)) ≡ take most (map entry (P ++ s ∷ []))
-  kept-more h =
-      let a : length (map entry P) ≡ length P = length-map P entry in
-      let b : length (map entry P ++ entry s ∷ []) ≡ length (map entry P) + 1 = length-append (map entry P) (entry s ∷ []) in
+-- the first statements are kept: there is room for one more
+module _ (es : List Entry) (n : ℕ) (P : List Statement) (s : Statement) (l : length es ≡ most) (c : n ≡ length P) (k : map statementIn (take n es) ≡ take most P) where
+  pub kept-more : n < most → (e : Entry) → statementIn e ≡ s → map statementIn (take (n + 1) (set es n e)) ≡ take most (P ++ s ∷ [])
+  kept-more h e is =
+      let b : length (P ++ s ∷ []) ≡ length P + 1 = length-append P (s ∷ []) in
       let p : n < length es = omega arith in
-      rw (add-one, take-suc-set es n (entry s) p, k, map-append P (s ∷ []), take-all most (map entry P) (omega arith), take-all most (map entry P ++ entry s ∷ []) (omega arith))
+      rw (add-one, take-suc-set es n e p, map-append (take n es) (e ∷ []), k, is, take-all most P (omega arith), take-all most (P ++ s ∷ []) (omega arith))
 
   -- or there is none
-  pub kept-same : most ≤ n → take (n + 1) es ≡ take most (map entry (P ++ s ∷ []))
+  pub kept-same : most ≤ n → map statementIn (take (n + 1) es) ≡ take most (P ++ s ∷ [])
   kept-same h =
-      let a : length (map entry P) ≡ length P = length-map P entry in
-      let b : most ≤ length (map entry P) = omega arith in
-      take-all (n + 1) es (omega arith) ∙ sym (take-all n es (omega arith)) ∙ k ∙ rw (map-append P (s ∷ []), take-append-le most (map entry P) (entry s ∷ []) b)
+      let b : most ≤ length P = omega arith in
+      ap (map statementIn) (take-all (n + 1) es (omega arith) ∙ sym (take-all n es (omega arith))) ∙ k ∙ sym (take-append-le most P (s ∷ []) b)
 
 -- what reading all lines told, by whether they are spelled right
 pub lines-spelled : (t : List ℕ) (b : Bool) (n : ℕ) (es : List Entry) → b ≡ true → LinesRead t b n es → Kept t n es
@@ -77,9 +75,7 @@ module _ {t : List ℕ} {n : ℕ} {es : List Entry} (k : Kept t n es) where
   -- no more than `most` lines are kept whole
   module _ (low : fewest ≤ n) (high : n ≤ most) where
     kept-statements : map statementIn (take n es) ≡ k .P
-    kept-statements =
-        let l = length-map (k .P) entry in
-        rw (k .kept ∙ take-all most (map entry (k .P)) (omega arith)) (statements-entries (k .P))
+    kept-statements = k .kept ∙ take-all most (k .P) (omega arith)
 
     kept-spells : Spells t (map statementIn (take n es))
     kept-spells = rw kept-statements (k .spells)

@@ -6,7 +6,8 @@ use Prim.Native.Nat.{ℕ, _≤_}
 use lib.ListN.{length, take}
 use Rattle.language.specs.declared.Statement.{Statement}
 use Rattle.program.specs.Program.{Spells, Counted, Placed, Aimed, Taken, most}
-use Rattle.program.specs.declared.Entry.{Entry}
+use Rattle.encoding.specs.declared.Entry.{Entry}
+use Rattle.encoding.specs.Encoding.{statementIn}
 use Rattle.program.specs.declared.Program.{Program}
 use Rattle.program.specs.declared.Refusal.{Refusal}
 use Rattle.program.specs.declared.Refusal.the-variants.{Misspelled, LineCount, Placement, Target}
@@ -28,12 +29,6 @@ Refused t LineCount = (P : List Statement) × Spells t P × (Counted P → ⊥)
 Refused t Placement = (P : List Statement) × Spells t P × Counted P × (Placed P → ⊥)
 Refused t Target = (P : List Statement) × Spells t P × Counted P × Placed P × (Aimed P → ⊥)
 
-abbrev pub entry : Statement → Entry
-entry s = record { statement = s }
-
-abbrev pub statementIn : Entry → Statement
-statementIn e = e .statement
-
 -- the statements that the code's value holds
 abbrev pub statements : Program → List Statement
 statements p = map statementIn (take (p .count) (p .entries))
@@ -53,7 +48,7 @@ pub record Kept (t : List ℕ) (n : ℕ) (es : List Entry) : Type 0 where
   pub P : List Statement
   pub spells : Spells t P
   pub counted : n ≡ length P
-  pub kept : take n es ≡ take most (map entry P)
+  pub kept : map statementIn (take n es) ≡ take most P
   pub room : length es ≡ most
 
 -- what reading all lines tells, by whether they are spelled right

@@ -2,11 +2,12 @@
 ghost use mathlib.Core.Path.{_≡_};
 ghost use mathlib.Core.Bool.{false};
 ghost use Prim.Native.Nat.{_≤_, _+_};
-ghost use lib.ListN.{length, replicate};
+ghost use lib.ListN.{length};
 ghost use Rattle.program.specs.Program.{text, most, Inner, InPlace, IsTarget, Targets};
 ghost use Rattle.base.specs.Decides.{Decides};
-ghost use Rattle.program.specs.Reading.{entry, statements, Held, LinesRead, ProgramRead, number};
+ghost use Rattle.program.specs.Reading.{statements, Held, LinesRead, ProgramRead, number};
 ghost use Rattle.statement_writer.specs.Writing.{Put};
+use encoding::Entry;
 use language::Statement;
 use statement_reader::StatementRead;
 use tokens::WordRead;
@@ -22,10 +23,6 @@ pub const TEXT_ROOM: usize = MOST * LINE_ROOM;
 
 // The words of a set of statements: one bit for each.
 pub const ROW_WORDS: usize = MOST / 64;
-
-pub struct Entry {
-    pub statement: Statement,
-}
 
 // The first `count` entries are the statements. They come last, so that those of two programs that lie side by side are a multiple of 16 bytes
 // apart: some processors copy a whole number of pages by 8 bytes sixteen times slower.
@@ -62,10 +59,12 @@ struct Lines {
 
 // An array to be filled.
 fn blank() -> [Entry; MOST]
-    ensures { λ r. ⌜ r ≡ replicate most (entry Statement.Skip) ⌝ }
+    ensures { λ r. ⌜ length r ≡ most ⌝ }
 {
     [Entry {
-        statement: Statement::Skip,
+        head: 0,
+        first: 0,
+        second: 0,
     }; MOST]
 }
 
@@ -95,7 +94,7 @@ fn read_lines(s: &[u8]) -> Lines
             return misspelled(count, entries);
         };
         if count < MOST {
-            entries[count] = Entry { statement: e };
+            entries[count] = encoding::entry_of(e);
         }
         count += 1;
         at = next;
@@ -204,7 +203,7 @@ pub fn read(s: &[u8]) -> Reading
     let mut i: usize = 0;
     while i < count {
         let e = entries[i];
-        let t = e.statement;
+        let t = encoding::statement_of(e);
         if !in_place(t, i, count) {
             return refused(Refusal::Placement, entries);
         }
@@ -213,7 +212,7 @@ pub fn read(s: &[u8]) -> Reading
     let mut j: usize = 0;
     while j < count {
         let e = entries[j];
-        let t = e.statement;
+        let t = encoding::statement_of(e);
         if !is_aimed(t, count) {
             return refused(Refusal::Target, entries);
         }
@@ -250,7 +249,7 @@ pub fn write(p: Program, out: &mut [u8]) -> usize
     let mut s: usize = 0;
     while s < n {
         let e = p.entries[s];
-        let t = e.statement;
+        let t = encoding::statement_of(e);
         at = statement_writer::line(out, at, t);
         s += 1;
     }

@@ -186,7 +186,7 @@ pub fn steps(
         }
         let i = place as usize;
         let e = p.entries[i];
-        let s = e.statement;
+        let s = encoding::statement_of(e);
         let mut new = *values;
         let next = machine::step(s, place, input, &mut new);
         k += 1;

@@ -13,10 +13,11 @@ use Rattle.language.specs.declared.Statement.{Statement}
 use Rattle.language.specs.declared.Statement.the-variants.{Read}
 use Rattle.program.specs.Program.{most}
 use Rattle.program.specs.Program as program
-use Rattle.program.specs.Reading.{entry, statementIn, statements, Held}
-use Rattle.program.specs.declared.Entry.{Entry}
+use Rattle.program.specs.Reading.{statements, Held}
+use Rattle.encoding.specs.Encoding.{statementIn}
+use Rattle.encoding.specs.declared.Entry.{Entry}
 use Rattle.program.specs.declared.Program.{Program}
-use Rattle.program.proofs.Held.{held, at-held, length-held}
+use Rattle.program.proofs.Held.{zeros, held, at-held, length-held}
 use Rattle.bits.specs.Row.{countBelow}
 use Rattle.bits.proofs.Counts.{count-le, count-one, count-none}
 use Rattle.marks.specs.Marks.{names, Spells, markAt}
@@ -90,8 +91,8 @@ module _ {given es : List Entry} {t : List ℕ} {ms : List Mark} {vs : List ℕ}
           let same : names (markAt ms i) ≡ names m = omega arith in
           here .1 (rw (← mark-is) (rw same at (named-earlier ms i j h (omega arith))))
 
-      made-here : MadeSoFar given (set es (place m) (entry (makes m (held given (place m))))) t ms vs (accepted + 1) (j + 1) k
-      made-here = record {
+      made-here : (f : Entry) → statementIn f ≡ makes m (held given (place m)) → MadeSoFar given (set es (place m) f) t ms vs (accepted + 1) (j + 1) k
+      made-here f holds = record {
         begins = line-next (s .begins) is l;
         made = below-more (λ i. getD vs i 0 ≡ 0 → held new (place (markAt ms i)) ≡ makes (markAt ms i) (held given (place (markAt ms i)))) j
             (λ i h z. other (place (markAt ms i)) (apart i h z) ∙ s .made i h z)
@@ -101,16 +102,16 @@ module _ {given es : List Entry} {t : List ℕ} {ms : List Mark} {vs : List ℕ}
       }
         where
           new : List Entry
-          new = set es (place m) (entry (makes m (held given (place m))))
+          new = set es (place m) f
 
           other : (u : ℕ) → (u ≡ place m → ⊥) → held new u ≡ held es u
-          other u f = ap (λ (x : Entry). x .statement) (getD-set-other es (place m) u (entry (makes m (held given (place m)))) (entry (Read 0)) f)
+          other u d = ap statementIn (getD-set-other es (place m) u f zeros d)
 
           same-place : held new (place m) ≡ makes m (held given (place m))
-          same-place = let h = high in ap (λ (x : Entry). x .statement) (getD-set-same es (place m) (entry (makes m (held given (place m)))) (entry (Read 0)) (omega arith))
+          same-place = let h = high in ap statementIn (getD-set-same es (place m) f zeros (omega arith)) ∙ holds
 
-      pub made-more : (n : ℕ) → n ≡ names m → (i : Statement) → i ≡ makes m (held given (n - 1)) → MadeSoFar given (set es (n - 1) (entry i)) t ms vs (accepted + 1) (j + 1) k
-      made-more n q i z = rw (z, q) made-here
+      pub made-more : (n : ℕ) → n ≡ names m → (f : Entry) → statementIn f ≡ makes m (held given (n - 1)) → MadeSoFar given (set es (n - 1) f) t ms vs (accepted + 1) (j + 1) k
+      made-more n q f z = rw q (made-here f (rw q at z))
 
   pub accepted-few : accepted ≤ j
   accepted-few = omega (arith, s .counted, count-le (λ i. eqb (getD vs i 0) 0) j)

@@ -20,7 +20,6 @@ use codes::CODE_WORDS;
 use language::Statement;
 use marks::Mark;
 use marks::read::MarkRead;
-use program::Entry;
 use program::MOST;
 use program::Program;
 use rewriting::Verdict;
@@ -141,7 +140,7 @@ pub fn judge(
         };
         let place = place_of(m);
         let e = p.entries[place];
-        let i = e.statement;
+        let i = encoding::statement_of(e);
         let v = verdict_of(m, i, n, rows, codes, flow, &named, &mut keys, &mut memory);
         let b = rewriting::number_of(v);
         verdicts[j] = b;
@@ -181,10 +180,8 @@ pub fn rewrite(marks: &[u8], p: Program, verdicts: &[u8]) -> Rewriting
             let n = rewriting::statement_of(m);
             let place = (n - 1) as usize;
             let e = p.entries[place];
-            let i = e.statement;
-            entries[place] = Entry {
-                statement: making::makes(m, i),
-            };
+            let i = encoding::statement_of(e);
+            entries[place] = encoding::entry_of(making::makes(m, i));
             accepted += 1;
             j += 1;
             at = k;

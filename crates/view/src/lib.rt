@@ -126,7 +126,7 @@ fn write_rows(out: &mut [u8], at: usize, table: &[u64], n: usize, p: Program) ->
     let mut s: usize = 0;
     while s < count {
         let e = entries[s];
-        let i = e.statement;
+        let i = encoding::statement_of(e);
         to = write_row(out, to, table, n, s, i);
         s += 1;
     }

@@ -24,18 +24,18 @@ element-copy-out-e : tie.Need-element-copy-out-e Inv-loop μ-loop
 element-copy-out-e c = omega (arith, c .before .before .before .before .before .pre .0 .few, c .before .before .before .before .before .pre .0 .room)
 
 contains-requires : tie.Need-contains-requires Inv-loop μ-loop
-contains-requires c κs = omega (arith, c .before .before .before .before .before .before .pre .1 .1)
+contains-requires c κs = omega (arith, c .before .before .before .before .before .before .before .pre .1 .1)
 
 of-statement-requires : tie.Need-of-statement-requires Inv-loop μ-loop
-of-statement-requires c κs = let a = c .before .before .before .before .before .before .before in (omega (arith, a .pre .1 .1), entry-targets _ (a .pre .0) (a .pre .1 .0) _ _ (a .pre .1 .1 .1) (c .before .before .loop-test .taken))
+of-statement-requires c κs = let a = c .before .before .before .before .before .before .before .before in (omega (arith, a .pre .1 .1), rw (c .before .statement-of .ensures) (entry-targets _ (a .pre .0) (a .pre .1 .0) _ _ (a .pre .1 .1 .1) (c .before .before .before .loop-test .taken)))
 
 slice-write-arms : tie.Need-slice-write-arms Inv-loop μ-loop
-slice-write-arms c = omega (arith, c .before .before .before .before .before .before .before .before .pre .1 .1, c .before .before .before .before .loop .inv .1 .size)
+slice-write-arms c = omega (arith, c .before .before .before .before .before .before .before .before .before .pre .1 .1, c .before .before .before .before .before .loop .inv .1 .size)
 
 loop-again : tie.Need-loop-again Inv-loop μ-loop
 loop-again c =
-    let w = c .before .before .before .before .loop in
-    (omega arith, filled-more _ _ _ _ _ _ _ _ (w .inv .1) (slice-write-arms c) (c .before .contains .ensures) (c .of-statement .ensures))
+    let w = c .before .before .before .before .before .loop in
+    (omega arith, filled-more _ _ _ _ _ _ _ _ (w .inv .1) (slice-write-arms c) (c .before .contains .ensures) (rw (c .before .before .statement-of .ensures) at (c .of-statement .ensures)))
 
 same-length : tie.Need-same-length Inv-loop μ-loop
 same-length c = c .before .loop .inv .1 .size
@@ -52,6 +52,7 @@ fill-spec =
     loop-holds
     mul-e
     element-copy-out-e
+    (λ c κs. search needs)
     contains-requires
     of-statement-requires
     slice-write-arms

@@ -27,21 +27,21 @@ element-copy-out-e c = omega (arith, c .before .before .before .before .before .
 
 asked-requires : tie.Need-asked-requires Inv-loop μ-loop
 asked-requires c κs =
-    let a = c .before .before .before .before .before .before .before .before .before in
-    (entry-valid _ (a .pre .0) (a .pre .1 .0) _ (c .before .loop-test .taken), a .pre .1 .1 .0)
+    let a = c .before .before .before .before .before .before .before .before .before .before in
+    (rw (c .statement-of .ensures) (entry-valid _ (a .pre .0) (a .pre .1 .0) _ (c .before .before .loop-test .taken)), a .pre .1 .1 .0)
 
 insert-requires : tie.Need-insert-requires Inv-loop μ-loop
-insert-requires c κs = omega (arith, c .before .before .before .before .before .before .before .before .before .before .before .before .pre .1 .1, c .before .before .before .before .before .loop .inv .1, c .before .before .before .before .before .before .before .before .clear .kept .0)
+insert-requires c κs = omega (arith, c .before .before .before .before .before .before .before .before .before .before .before .before .before .pre .1 .1, c .before .before .before .before .before .before .loop .inv .1, c .before .before .before .before .before .before .before .before .before .clear .kept .0)
 
 loop-again : tie.Need-loop-again Inv-loop μ-loop
 loop-again c =
-    let w = c .before .before .before .before .before .before .before .before .loop in
-    (omega arith, c .before .before .insert .kept .0 ∙ w .inv .1, owned-in (w .inv .2) (c .before .before .insert .ensures) (sym (c .before .before .before .before .before .asked .ensures) ∙ c .before .before .before .before .if1 .taken))
+    let w = c .before .before .before .before .before .before .before .before .before .loop in
+    (omega arith, c .before .before .insert .kept .0 ∙ w .inv .1, owned-in (w .inv .2) (c .before .before .insert .ensures) (sym (rw (c .before .before .before .before .before .before .statement-of .ensures) at (c .before .before .before .before .before .asked .ensures)) ∙ c .before .before .before .before .if1 .taken))
 
 loop-again-2 : tie.Need-loop-again-2 Inv-loop μ-loop
 loop-again-2 c =
-    let w = c .before .before .before .before .loop in
-    (omega arith, w .inv .1, owned-out (w .inv .2) (sym (c .before .asked .ensures) ∙ c .if1 .left))
+    let w = c .before .before .before .before .before .loop in
+    (omega arith, w .inv .1, owned-out (w .inv .2) (sym (rw (c .before .before .statement-of .ensures) at (c .before .asked .ensures)) ∙ c .if1 .left))
 
 same-length : tie.Need-same-length Inv-loop μ-loop
 same-length c = c .before .loop .inv .1 ∙ c .before .before .before .before .clear .kept .0
@@ -59,6 +59,7 @@ own-spec =
     loop-holds
     mul-e
     element-copy-out-e
+    (λ c κs. search needs)
     asked-requires
     insert-requires
     (λ c. search needs)

@@ -6,7 +6,7 @@ use lib.ListN.{length}
 use borrow.Author.Needs.{needs}
 use Rattle.program.proofs.Held.{at-held}
 use Rattle.program.specs.Reading.{statements}
-use Rattle.codes.specs.Codes.{codeWords}
+use Rattle.codes.specs.Codes.{statementCode, codeWords}
 use Rattle.atoms.proofs.Found.{FoundBelow, found-none, found-coded, found-uncoded, found-all, count-size, place-valid}
 use Rattle.atoms.proofs.find.Statement.{statement}
 use Rattle.atoms.proofs.find.Tie as tie
@@ -22,25 +22,27 @@ loop-holds c = (omega arith, found-none _ _ _ (c .before .pre .1 .1))
 
 note-requires : tie.Need-note-requires Inv-loop μ-loop
 note-requires c κs =
-    let g = c .before .before .before .before .before in
-    (place-valid (g .args .t1) (g .pre .0) (g .pre .1 .0) _ (c .before .before .loop-test .taken), omega (arith, g .pre .0 .few), c .before .before .before .loop .inv .1 .many)
+    let g = c .before .before .before .before .before .before in
+    (rw (c .before .statement-of .ensures) (place-valid (g .args .t1) (g .pre .0) (g .pre .1 .0) _ (c .before .before .before .loop-test .taken)), omega (arith, g .pre .0 .few), c .before .before .before .before .loop .inv .1 .many)
 
 loop-again : tie.Need-loop-again Inv-loop μ-loop
 loop-again c =
-    let g = c .before .before .before .before .before .before .before .before .before .before .before in
+    let g = c .before .before .before .before .before .before .before .before .before .before .before .before in
     let p = g .args .t1 in
-    let w = c .before .before .before .before .before .before .before .before .before .loop in
+    let w = c .before .before .before .before .before .before .before .before .before .before .loop in
     let inside : w .s < length (statements p) = omega (arith, count-size p (g .pre .0)) in
-    let words = c .words-of .ensures ∙ ap codeWords (c .before .statement-code .ensures) in
-    (omega arith, found-coded _ _ _ (at-held (p .entries) (p .count) (w .s) inside) _ _ _ _ (w .inv .1) (c .before .before .before .before .before .note .ensures) (omega (arith, w .inv .1 .many-codes)) _ words)
+    let n = c .before .before .before .before .before in
+    let told = n .before .before .statement-of .ensures in
+    let words = c .words-of .ensures ∙ ap codeWords (c .before .statement-code .ensures ∙ ap statementCode told) in
+    (omega arith, found-coded _ _ _ (at-held (p .entries) (p .count) (w .s) inside) _ _ _ _ (w .inv .1) (rw told at (n .note .ensures)) (omega (arith, w .inv .1 .many-codes)) _ words)
 
 loop-again-2 : tie.Need-loop-again-2 Inv-loop μ-loop
 loop-again-2 c =
-    let g = c .before .before .before .before .before .before .before .before .before in
+    let g = c .before .before .before .before .before .before .before .before .before .before in
     let p = g .args .t1 in
-    let w = c .before .before .before .before .before .before .before .loop in
+    let w = c .before .before .before .before .before .before .before .before .loop in
     let inside : w .s < length (statements p) = omega (arith, count-size p (g .pre .0)) in
-    (omega arith, found-uncoded _ _ _ (at-held (p .entries) (p .count) (w .s) inside) _ _ _ _ (w .inv .1) (c .before .before .before .note .ensures) (omega (arith, w .inv .1 .many-codes)))
+    (omega arith, found-uncoded _ _ _ (at-held (p .entries) (p .count) (w .s) inside) _ _ _ _ (w .inv .1) (rw (c .before .before .before .before .before .statement-of .ensures) at (c .before .before .before .note .ensures)) (omega (arith, w .inv .1 .many-codes)))
 
 same-length : tie.Need-same-length Inv-loop μ-loop
 same-length c = omega (arith, c .before .loop .inv .1 .many, c .before .before .before .pre .1 .1 .many)
@@ -62,6 +64,7 @@ find-spec =
     loop-holds
     (λ c. search needs)
     (λ c. search needs)
+    (λ c κs. search needs)
     note-requires
     (λ c κs. search needs)
     (λ c κs. search needs)

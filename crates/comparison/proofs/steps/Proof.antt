@@ -60,30 +60,32 @@ returns-2 c =
 
 step-requires : tie.Need-step-requires Inv-loop μ-loop
 step-requires c κs =
-    let l = c .before .before .before .before .before .before .before .before .before .before .before in
+    let l = c .before .before .before .before .before .before .before .before .before .before .before .before .before in
     let s = l .before .before .before in
-    right (s .args .t1) (l .loop .place) (s .pre .0) (l .loop .inv .inside)
+    rw (c .before .before .before .before .before .statement-of .ensures) (right (s .args .t1) (l .loop .place) (s .pre .0) (l .loop .inv .inside))
 
 step-requires-2 : tie.Need-step-requires-2 Inv-loop μ-loop
 step-requires-2 c κs =
-    let l = c .before .before .before .before .before .before .before .before .before .before .before .before .before in
+    let l = c .before .before .before .before .before .before .before .before .before .before .before .before .before .before .before in
     let s = l .before .before .before in
-    right (s .args .t2) (l .loop .place) (s .pre .1 .0) (omega (arith, s .pre .1 .1 .0, l .loop .inv .inside))
+    rw (c .before .before .before .before .before .statement-of2 .ensures) (right (s .args .t2) (l .loop .place) (s .pre .1 .0) (omega (arith, s .pre .1 .1 .0, l .loop .inv .inside)))
 
 line-requires : tie.Need-line-requires Inv-loop μ-loop
 line-requires c κs =
-    let t = c .before .before .before .before .before .before .before .before .before .before .before .before .before .before .before .before .before .before .before in
+    let t = c .before .before .before .before .before .before .before .before .before .before .before .before .before .before .before .before .before .before .before .before .before in
     let s = t .before .before .before .before .before in
     let k = t .before .before .loop .place in
     let i = t .before .before .loop .inv in
     let a = right (s .args .t1) k (s .pre .0) (i .inside) in
     let b = right (s .args .t2) k (s .pre .1 .0) (omega (arith, s .pre .1 .1 .0, i .inside)) in
-    ((a .0, a .1 .0), ((b .0, b .1 .0), (a .1 .1, omega (arith, t .if1 .left, i .fits, i .same))))
+    rw (c .before .before .before .before .before .before .before .before .before .before .before .before .before .before .before .statement-of .ensures, c .before .before .before .before .before .before .before .before .before .before .before .before .before .statement-of2 .ensures) ((a .0, a .1 .0), ((b .0, b .1 .0), (a .1 .1, omega (arith, t .if1 .left, i .fits, i .same))))
 
 loop-again : tie.Need-loop-again Inv-loop μ-loop
 loop-again c =
     let y = c .before .before .before .before .before .before .before .before .before .before in
-    let f = y .before .before .before .before .before .before .before .before in
+    let f = y .before .before .before .before .before .before .before .before .before .before in
+    let one = y .before .before .before .before .before .before .before .before .statement-of .ensures in
+    let two = y .before .before .before .before .before .before .statement-of2 .ensures in
     let t = f .before .before .before .before in
     let s = t .before .before .before .before .before in
     let i = t .before .before .loop .inv in
@@ -91,29 +93,31 @@ loop-again c =
     let a = y .before .before .step in
     let b = y .step2 in
     let goes = rw (c .before .before .before .before .before .before .before .way .given .1) at (c .before .before .before .before .before .before .before .before .before .way-on .ensures) in
-    going-more (s .args .t1) (s .args .t2) _ _ _ _ _ (a .last .1 .1 .1 .0) (b .last .1 .1 .1 .0) (a .result) (b .result) (a .ensures) (b .ensures)
+    going-more (s .args .t1) (s .args .t2) _ _ _ _ _ (a .last .1 .1 .1 .0) (b .last .1 .1 .1 .0) (a .result) (b .result) (rw one at (a .ensures)) (rw two at (b .ensures))
     (s .pre .0) (s .pre .1 .0) (λ rows m n. decided-true (g .result) (true-of-not (g .result) (f .if2 .left)) (g .ensures (statements (s .args .t1)) rows (i .inside) m n))
-    i (t .before .loop-test .taken) _ goes (omega (arith, t .if1 .left, i .fits, i .same)) (c .before .before .line .ensures .1) (c .before .before .line .ensures .0)
+    i (t .before .loop-test .taken) _ goes (omega (arith, t .if1 .left, i .fits, i .same)) (c .before .before .line .ensures .1) (rw (one, two) at (c .before .before .line .ensures .0))
 
 line-requires-2 : tie.Need-line-requires-2 Inv-loop μ-loop
 line-requires-2 c κs =
-    let t = c .before .before .before .before .before .before .before .before .before .before .before .before .before .before .before .before .before .before in
+    let t = c .before .before .before .before .before .before .before .before .before .before .before .before .before .before .before .before .before .before .before .before in
     let s = t .before .before .before .before .before in
     let k = t .before .before .loop .place in
     let i = t .before .before .loop .inv in
     let a = right (s .args .t1) k (s .pre .0) (i .inside) in
     let b = right (s .args .t2) k (s .pre .1 .0) (omega (arith, s .pre .1 .1 .0, i .inside)) in
-    ((a .0, a .1 .0), ((b .0, b .1 .0), (a .1 .1, omega (arith, t .if1 .left, i .fits, i .same))))
+    rw (c .before .before .before .before .before .before .before .before .before .before .before .before .before .before .statement-of .ensures, c .before .before .before .before .before .before .before .before .before .before .before .before .statement-of2 .ensures) ((a .0, a .1 .0), ((b .0, b .1 .0), (a .1 .1, omega (arith, t .if1 .left, i .fits, i .same))))
 
 same-length-3 : tie.Need-same-length-3 Inv-loop μ-loop
 same-length-3 c =
     put-length (c .before .before .line2 .ensures .0)
-    ∙ c .before .before .before .before .before .before .before .before .before .before .before .before .before .before .before .before .before .before .before .before .before .before .before .loop .inv .same
+    ∙ c .before .before .before .before .before .before .before .before .before .before .before .before .before .before .before .before .before .before .before .before .before .before .before .before .before .loop .inv .same
 
 returns-3 : tie.Need-returns-3 Inv-loop μ-loop
 returns-3 c =
     let y = c .before .before .before .before .before .before .before .before .before in
-    let f = y .before .before .before .before .before .before .before .before in
+    let f = y .before .before .before .before .before .before .before .before .before .before in
+    let one = y .before .before .before .before .before .before .before .before .statement-of .ensures in
+    let two = y .before .before .before .before .before .before .statement-of2 .ensures in
     let t = f .before .before .before .before in
     let s = t .before .before .before .before .before in
     let i = t .before .before .loop .inv in
@@ -124,9 +128,9 @@ returns-3 c =
     let b = y .step2 in
     let us = a .last .1 .1 .1 .0 in
     let over = (rw (c .before .before .before .before .before .before .enum-told .given .1) at (c .before .before .before .before .before .before .before .before .way-on .ensures)) us .1 in
-    ended-step (s .args .t1) (s .args .t2) _ _ _ _ _ us (b .last .1 .1 .1 .0) (a .result) (b .result) (a .ensures) (b .ensures)
+    ended-step (s .args .t1) (s .args .t2) _ _ _ _ _ us (b .last .1 .1 .1 .0) (a .result) (b .result) (rw one at (a .ensures)) (rw two at (b .ensures))
     (s .pre .0) (s .pre .1 .0) (λ rows m n. decided-true (g .result) (true-of-not (g .result) (f .if2 .left)) (g .ensures (statements (s .args .t1)) rows (i .inside) m n))
-    i (t .before .loop-test .taken) _ _ refl refl refl refl refl over end (w .ensures .0)
+    i (t .before .loop-test .taken) _ _ refl refl refl refl refl over end (rw (one, two) at (w .ensures .0))
 
 same-length-4 : tie.Need-same-length-4 Inv-loop μ-loop
 same-length-4 c = c .before .loop .inv .same
@@ -150,8 +154,10 @@ steps-spec =
     returns-2
     (λ c. search needs)
     (λ c. search needs)
+    (λ c κs. search needs)
     (λ c. search needs)
     (λ c. search needs)
+    (λ c κs. search needs)
     step-requires
     step-requires-2
     (λ c. search needs)

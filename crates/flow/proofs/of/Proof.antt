@@ -29,22 +29,22 @@ element-copy-out-e c = omega (arith, c .before .before .before .before .before .
 
 successors-of-requires : tie.Need-successors-of-requires Inv-loop μ-loop
 successors-of-requires c κs =
-    let p = c .before .before .before .before .before .before .args .t1 in
-    let pre = c .before .before .before .before .before .before .pre in
-    (omega (arith, graph-room _ (pre .0 .few)), held-targets (p .entries) (p .count) (c .before .before .loop .s) (rw (statements-size p (pre .0)) (c .before .loop-test .taken)) (pre .1 .0))
+    let p = c .before .before .before .before .before .before .before .args .t1 in
+    let pre = c .before .before .before .before .before .before .before .pre in
+    (omega (arith, graph-room _ (pre .0 .few)), rw (c .statement-of .ensures) (held-targets (p .entries) (p .count) (c .before .before .before .loop .s) (rw (statements-size p (pre .0)) (c .before .before .loop-test .taken)) (pre .1 .0)))
 
 array-write-first : tie.Need-array-write-first Inv-loop μ-loop
-array-write-first c = let few = graph-room _ (c .before .before .before .before .before .before .before .pre .0 .few) in omega (arith, c .before .before .before .loop .inv .1 .first-size, c .before .before .before .before .before .row .ensures .size)
+array-write-first c = let few = graph-room _ (c .before .before .before .before .before .before .before .before .pre .0 .few) in omega (arith, c .before .before .before .before .loop .inv .1 .first-size, c .before .before .before .before .before .before .row .ensures .size)
 
 array-write-second : tie.Need-array-write-second Inv-loop μ-loop
-array-write-second c = let few = graph-room _ (c .before .before .before .before .before .before .before .pre .0 .few) in omega (arith, c .before .before .before .loop .inv .1 .second-size, c .before .before .before .before .row2 .ensures .size)
+array-write-second c = let few = graph-room _ (c .before .before .before .before .before .before .before .before .pre .0 .few) in omega (arith, c .before .before .before .before .loop .inv .1 .second-size, c .before .before .before .before .before .row2 .ensures .size)
 
 loop-again : tie.Need-loop-again Inv-loop μ-loop
 loop-again c =
-    let p = c .before .before .before .before .before .before .before .args .t1 in
-    let pre = c .before .before .before .before .before .before .before .pre in
-    let w = c .before .before .before .loop in
-    (omega arith, listed-more p (pre .0) _ _ (c .before .before .before .before .before .row .ensures .size) (c .before .before .before .before .row2 .ensures .size) _ _ (w .s) (w .inv .1) _ _ (c .before .before .loop-test .taken) (c .successors-of .ensures))
+    let p = c .before .before .before .before .before .before .before .before .args .t1 in
+    let pre = c .before .before .before .before .before .before .before .before .pre in
+    let w = c .before .before .before .before .loop in
+    (omega arith, listed-more p (pre .0) _ _ (c .before .before .before .before .before .before .row .ensures .size) (c .before .before .before .before .before .row2 .ensures .size) _ _ (w .s) (w .inv .1) _ _ (c .before .before .before .loop-test .taken) (rw (c .before .statement-of .ensures) at (c .successors-of .ensures)))
 
 slice-aggregate-draw : tie.Need-slice-aggregate-draw Inv-loop μ-loop
 slice-aggregate-draw c = sym (c .before .before .loop .inv .1 .first-size ∙ c .before .before .before .before .row .ensures .size)
@@ -77,6 +77,7 @@ of-spec =
     loop-holds
     mul-e
     element-copy-out-e
+    (λ c κs. search needs)
     successors-of-requires
     (λ c. search needs)
     array-write-first

@@ -58,27 +58,27 @@ element-copy-out-e c = let s = sizes (c .before .before .before) in omega arith
 
 line-requires : tie.Need-line-requires Inv-loop μ-loop Inv-loop2 μ-loop2
 line-requires c κs =
-    let b = c .before .before .before .before .before in
+    let b = c .before .before .before .before .before .before in
     let s = sizes b in
     let p = b .pre in
-    let w = c .before .before .before .loop in
-    let l = c .before .before .loop-test .taken in
-    line-room (w .inv .1) (omega arith) _ (road-line (p .0 .0) (p .0 .1) (p .1 .0 .0) (p .1 .0 .1) (w .s) l)
+    let w = c .before .before .before .before .loop in
+    let l = c .before .before .before .loop-test .taken in
+    line-room (w .inv .1) (omega arith) _ (c .before .statement-of .ensures ∙ road-line (p .0 .0) (p .0 .1) (p .1 .0 .0) (p .1 .0 .1) (w .s) l)
 
 add-s : tie.Need-add-s Inv-loop μ-loop Inv-loop2 μ-loop2
-add-s c = let s = sizes (c .before .before .before .before .before .before .before .before) in omega arith
+add-s c = let s = sizes (c .before .before .before .before .before .before .before .before .before) in omega arith
 
 loop-less : tie.Need-loop-less Inv-loop μ-loop Inv-loop2 μ-loop2
 loop-less c = omega arith
 
 loop-again : tie.Need-loop-again Inv-loop μ-loop Inv-loop2 μ-loop2
 loop-again c =
-    let b = c .before .before .before .before .before .before .before .before in
+    let b = c .before .before .before .before .before .before .before .before .before in
     let s = sizes b in
     let p = b .pre in
-    let w = c .before .before .before .before .before .before .loop in
-    let l = c .before .before .before .before .before .loop-test .taken in
-    (omega arith, written-more (w .inv .1) (omega arith) _ (road-line (p .0 .0) (p .0 .1) (p .1 .0 .0) (p .1 .0 .1) (w .s) l) (c .before .before .line .ensures))
+    let w = c .before .before .before .before .before .before .before .loop in
+    let l = c .before .before .before .before .before .before .loop-test .taken in
+    (omega arith, written-more (w .inv .1) (omega arith) _ (c .before .before .before .before .statement-of .ensures ∙ road-line (p .0 .0) (p .0 .1) (p .1 .0 .0) (p .1 .0 .1) (w .s) l) (c .before .before .line .ensures))
 
 -- ---- the seam
 
@@ -95,33 +95,33 @@ before-seam c = let e : c .before .loop .s ≡ c .before .before .before .args .
 
 line-requires-2 : tie.Need-line-requires-2 Inv-loop μ-loop Inv-loop2 μ-loop2
 line-requires-2 c κs =
-    let b = c .before .before .before .before .before .before .before .before in
+    let b = c .before .before .before .before .before .before .before .before .before .before in
     let s = sizes b in
     let p = b .pre in
-    line-room (before-seam (c .before .before .before .before .before)) (omega arith) _
-    (seam-line (p .0 .0) (p .0 .1) (p .1 .0 .0) (p .1 .0 .1) refl _ _ (c .before .before .writes .ensures) (c .before .reads .ensures))
+    line-room (before-seam (c .before .before .before .before .before .before .before)) (omega arith) _
+    (seam-line (p .0 .0) (p .0 .1) (p .1 .0 .0) (p .1 .0 .1) refl _ _ (rw (c .before .before .before .before .statement-of2 .ensures) at (c .before .before .writes .ensures)) (rw (c .before .before .before .statement-of3 .ensures) at (c .before .reads .ensures)))
 
 cast-d : tie.Need-cast-d Inv-loop μ-loop Inv-loop2 μ-loop2
-cast-d c = let s = sizes (c .before .before .before .before .before .before .before .before .before .before .before) in omega arith
+cast-d c = let s = sizes (c .before .before .before .before .before .before .before .before .before .before .before .before .before) in omega arith
 
-after-seam : (c : tie.After-slice-known3 Inv-loop μ-loop Inv-loop2 μ-loop2) → let b = c .before .before .before .before .before .before .before .before .before .before .before in
+after-seam : (c : tie.After-slice-known3 Inv-loop μ-loop Inv-loop2 μ-loop2) → let b = c .before .before .before .before .before .before .before .before .before .before .before .before .before in
     Written (joined (statements (b .args .t1)) (statements (b .args .t2))) (b .args .out .now) (c .before .before .line2 .last .0) (c .before .before .line2 .result)
     (b .args .t1 .count - 1 + 1)
 after-seam c =
-    let b = c .before .before .before .before .before .before .before .before .before .before .before in
+    let b = c .before .before .before .before .before .before .before .before .before .before .before .before .before in
     let s = sizes b in
     let p = b .pre in
-    written-more (before-seam (c .before .before .before .before .before .before .before .before)) (omega arith) _
-    (seam-line (p .0 .0) (p .0 .1) (p .1 .0 .0) (p .1 .0 .1) refl _ _ (c .before .before .before .before .before .writes .ensures) (c .before .before .before .before .reads .ensures))
+    written-more (before-seam (c .before .before .before .before .before .before .before .before .before .before)) (omega arith) _
+    (seam-line (p .0 .0) (p .0 .1) (p .1 .0 .0) (p .1 .0 .1) refl _ _ (rw (c .before .before .before .before .before .before .before .statement-of2 .ensures) at (c .before .before .before .before .before .writes .ensures)) (rw (c .before .before .before .before .before .before .statement-of3 .ensures) at (c .before .before .before .before .reads .ensures)))
     (c .before .before .line2 .ensures)
 
 -- ---- the creeper's lines
 
 loop2-holds : tie.Need-loop2-holds Inv-loop μ-loop Inv-loop2 μ-loop2
-loop2-holds c = let s = sizes (c .before .before .before .before .before .before .before .before .before .before .before) in behind-none (omega arith)
+loop2-holds c = let s = sizes (c .before .before .before .before .before .before .before .before .before .before .before .before .before) in behind-none (omega arith)
 
 abbrev start : tie.After-slice-known3 Inv-loop μ-loop Inv-loop2 μ-loop2 → tie.Start Inv-loop μ-loop Inv-loop2 μ-loop2
-start c = c .before .before .before .before .before .before .before .before .before .before .before
+start c = c .before .before .before .before .before .before .before .before .before .before .before .before .before
 
 mul-e-2 : tie.Need-mul-e-2 Inv-loop μ-loop Inv-loop2 μ-loop2
 mul-e-2 c = let s = sizes (start (c .before .before)) in omega arith
@@ -131,10 +131,10 @@ element-copy-out-e-2 c = let s = sizes (start (c .before .before)) in omega arit
 
 moved-requires : tie.Need-moved-requires Inv-loop μ-loop Inv-loop2 μ-loop2
 moved-requires c κs =
-    let b = start (c .before .before .before) in
+    let b = start (c .before .before .before .before) in
     let s = sizes b in
     let p = b .pre in
-    (creeper-targets (p .0 .0) (p .0 .1) (p .1 .0 .0) (p .1 .0 .1) (c .before .before .loop2 .k) (c .before .loop2-test .taken), omega arith)
+    (rw (c .statement-of4 .ensures) (creeper-targets (p .0 .0) (p .0 .1) (p .1 .0 .0) (p .1 .0 .1) (c .before .before .before .loop2 .k) (c .before .before .loop2-test .taken)), omega arith)
 
 -- what is written before the line at place k
 module _ (c : tie.After-slice-known3 Inv-loop μ-loop Inv-loop2 μ-loop2) {q : List ℕ} {k j : ℕ}
@@ -146,22 +146,22 @@ module _ (c : tie.After-slice-known3 Inv-loop μ-loop Inv-loop2 μ-loop2) {q : L
 
 line-requires-3 : tie.Need-line-requires-3 Inv-loop μ-loop Inv-loop2 μ-loop2
 line-requires-3 c κs =
-    let k = c .before .before .before .before .before in
+    let k = c .before .before .before .before .before .before in
     let p = start k .pre in
-    let w = c .before .before .before .before .loop2 in
-    let l = creeper-lines (p .0 .0) (p .0 .1) (p .1 .0 .0) (p .1 .0 .1) refl (w .k) (w .inv .begun) (c .before .before .before .loop2-test .taken) in
-    line-room (lines k (w .inv)) (l .1) _ (c .before .moved .ensures ∙ l .0)
+    let w = c .before .before .before .before .before .loop2 in
+    let l = creeper-lines (p .0 .0) (p .0 .1) (p .1 .0 .0) (p .1 .0 .1) refl (w .k) (w .inv .begun) (c .before .before .before .before .loop2-test .taken) in
+    line-room (lines k (w .inv)) (l .1) _ ((rw (c .before .before .statement-of4 .ensures) at (c .before .moved .ensures)) ∙ l .0)
 
 add-k : tie.Need-add-k Inv-loop μ-loop Inv-loop2 μ-loop2
-add-k c = let s = sizes (start (c .before .before .before .before .before .before .before .before)) in omega arith
+add-k c = let s = sizes (start (c .before .before .before .before .before .before .before .before .before)) in omega arith
 
 loop2-less : tie.Need-loop2-less Inv-loop μ-loop Inv-loop2 μ-loop2
 loop2-less c = omega arith
 
 loop2-again : tie.Need-loop2-again Inv-loop μ-loop Inv-loop2 μ-loop2
 loop2-again c =
-    behind-more (c .before .before .before .before .before .before .before .loop2 .inv) (c .before .before .before .before .before .before .loop2-test .taken) _
-    (c .before .before .before .before .moved .ensures) (c .before .before .line3 .ensures)
+    behind-more (c .before .before .before .before .before .before .before .before .loop2 .inv) (c .before .before .before .before .before .before .before .loop2-test .taken) _
+    (rw (c .before .before .before .before .before .statement-of4 .ensures) at (c .before .before .before .before .moved .ensures)) (c .before .before .line3 .ensures)
 
 same-length : tie.Need-same-length Inv-loop μ-loop Inv-loop2 μ-loop2
 same-length c = written-length (lines (c .before .before) (c .before .loop2 .inv))
@@ -183,6 +183,7 @@ write-spec =
     loop-holds
     mul-e
     element-copy-out-e
+    (λ c κs. search needs)
     line-requires
     add-s
     loop-less
@@ -192,11 +193,14 @@ write-spec =
     (λ c. search needs)
     (λ c κs. search needs)
     (λ c κs. search needs)
+    (λ c κs. search needs)
+    (λ c κs. search needs)
     line-requires-2
     cast-d
     loop2-holds
     mul-e-2
     element-copy-out-e-2
+    (λ c κs. search needs)
     moved-requires
     line-requires-3
     add-k

@@ -28,20 +28,22 @@ loop-holds c =
 
 loop-again : tie.Need-loop-again Inv-loop μ-loop
 loop-again c =
-    let g = c .before .before .before .before .before .before .before in
-    let w = c .before .before .before .before .before .loop in
+    let g = c .before .before .before .before .before .before .before .before .before in
+    let w = c .before .before .before .before .before .before .before .loop in
     let t = c .before .same-statement in
+    let told = rw (c .before .before .statement-of2 .ensures, c .before .before .before .statement-of .ensures) at (t .ensures) in
     let differs =
-    place-differs (g .args .t1) (g .args .t2) (g .pre .0) (g .pre .1) (g .pre .2) (w .s) (c .before .before .before .before .loop-test .taken) (t .result) (t .ensures) in
+    place-differs (g .args .t1) (g .args .t2) (g .pre .0) (g .pre .1) (g .pre .2) (w .s) (c .before .before .before .before .before .before .loop-test .taken) (t .result) told in
     (omega arith, w .inv .1, label-skip _ _ _ (w .inv .2) (not (t .result)) differs (ap not (c .if1 .taken)))
 
 loop-again-2 : tie.Need-loop-again-2 Inv-loop μ-loop
 loop-again-2 c =
-    let g = c .before .before .before .before .before .before .before .before .before .before in
-    let w = c .before .before .before .before .before .before .before .before .loop in
+    let g = c .before .before .before .before .before .before .before .before .before .before .before .before in
+    let w = c .before .before .before .before .before .before .before .before .before .before .loop in
     let t = c .before .before .before .before .same-statement in
+    let told = rw (c .before .before .before .before .before .statement-of2 .ensures, c .before .before .before .before .before .before .statement-of .ensures) at (t .ensures) in
     let differs =
-    place-differs (g .args .t1) (g .args .t2) (g .pre .0) (g .pre .1) (g .pre .2) (w .s) (c .before .before .before .before .before .before .before .loop-test .taken) (t .result) (t .ensures) in
+    place-differs (g .args .t1) (g .args .t2) (g .pre .0) (g .pre .1) (g .pre .2) (w .s) (c .before .before .before .before .before .before .before .before .before .loop-test .taken) (t .result) told in
     let insert = c .before .insert in
     (omega arith, insert .kept .0 ∙ w .inv .1, label-join _ _ _ (w .inv .2) (differs .0 (ap not (c .before .before .before .if1 .left))) _ (insert .ensures))
 
@@ -63,6 +65,8 @@ changed-spec =
     (λ c. search needs)
     (λ c. search needs)
     (λ c. search needs)
+    (λ c κs. search needs)
+    (λ c κs. search needs)
     (λ c κs. search needs)
     (λ c. search needs)
     (λ c. search needs)

@@ -6,8 +6,8 @@ use native.Mathlib.Omega.{arith}
 use borrow.Author.Needs.{needs}
 use lib.ListN.{length, take, set}
 use Rattle.program.specs.Program.{most}
-use Rattle.program.specs.Reading.{statementIn}
-use Rattle.program.specs.declared.Entry.{Entry}
+use Rattle.encoding.specs.Encoding.{statementIn}
+use Rattle.encoding.specs.declared.Entry.{Entry}
 use Rattle.program.proofs.Held.{held, at-held, length-held}
 use Rattle.pricing.specs.Prices.{price}
 use Rattle.pricing.proofs.Columns.{begun, begun-none, begun-length, begun-more, begun-all}
@@ -43,13 +43,13 @@ loop-holds c = record { room = c .before .before .pre .room; few = c .before .be
 
 loop-again : tie.Need-loop-again Inv-loop μ-loop
 loop-again c =
-    let l = c .before .before .before .loop in
+    let l = c .before .before .before .before .loop in
     let i = l .inv in
     record {
       room = i .room;
       few = i .few;
       within = omega arith;
-      filled = more i (c .before .before .loop-test .taken) (c .price-of .ensures);
+      filled = more i (c .before .before .before .loop-test .taken) (rw (c .before .statement-of .ensures) at (c .price-of .ensures));
     }
 
 returns : tie.Need-returns Inv-loop μ-loop
@@ -66,8 +66,9 @@ prices-of-spec =
     (λ c. search needs)
     (λ c. search needs)
     (λ c κs. search needs)
+    (λ c κs. search needs)
     (λ c. search needs)
-    (λ c. omega (arith, long (c .before .before .before .loop .inv), c .before .before .before .loop .inv .few))
+    (λ c. omega (arith, long (c .before .before .before .before .loop .inv), c .before .before .before .before .loop .inv .few))
     (λ c. search needs)
     (λ c. search needs)
     loop-again

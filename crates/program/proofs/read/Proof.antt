@@ -9,9 +9,10 @@ use borrow.Author.Needs.{needs}
 use borrow.Author.Tests.{not-true, not-false}
 use lib.ListN.{length, take}
 use Rattle.language.specs.declared.Statement.{Statement}
-use Rattle.program.specs.declared.Entry.{Entry}
+use Rattle.encoding.specs.declared.Entry.{Entry}
+use Rattle.encoding.specs.Encoding.{statementIn}
 use Rattle.program.specs.Program.{fewest, most, InPlace, Placed, Targets}
-use Rattle.program.specs.Reading.{statementIn, Kept}
+use Rattle.program.specs.Reading.{Kept}
 use Rattle.base.proofs.Decides.{decided-true, decided-false}
 use Rattle.program.proofs.Held.{SoFar, so-far-more, each-holds, each-fails}
 use Rattle.program.proofs.Texts.{lines-spelled, lines-misspelled, count-refused, place-refused, target-refused, lines-taken}
@@ -71,16 +72,16 @@ loop-holds c =
 returns-4 : tie.Need-returns-4 Inv-loop μ-loop Inv-loop2 μ-loop2
 returns-4 c =
     let p = c .before .before in
-    let h = p .before .before .before in
+    let h = p .before .before .before .before in
     let i = h .loop .inv in
-    let misplaced = each-fails InPlace _ _ (fits i) (h .loop .i) (p .before .before .loop-test .taken) (decided-false (p .in-place .result) (not-true _ (c .before .if4 .taken)) (p .in-place .ensures)) in
+    let misplaced = each-fails InPlace _ _ (fits i) (h .loop .i) (p .before .before .before .loop-test .taken) (decided-false (p .in-place .result) (not-true _ (c .before .if4 .taken)) (rw (p .before .statement-of .ensures) at (p .in-place .ensures))) in
     rw (c .refused4 .ensures .0) (place-refused (i .lines) (i .low) (i .high) misplaced, c .refused4 .ensures .1)
 
 loop-again : tie.Need-loop-again Inv-loop μ-loop Inv-loop2 μ-loop2
 loop-again c =
-    let h = c .before .before .before .before in
+    let h = c .before .before .before .before .before in
     let i = h .loop .inv in
-    more i (omega arith) (so-far-more InPlace _ _ (fits i) (h .loop .i) (c .before .before .before .loop-test .taken) (i .so-far) (decided-true (c .before .in-place .result) (not-false _ (c .if4 .left)) (c .before .in-place .ensures)))
+    more i (omega arith) (so-far-more InPlace _ _ (fits i) (h .loop .i) (c .before .before .before .before .loop-test .taken) (i .so-far) (decided-true (c .before .in-place .result) (not-false _ (c .if4 .left)) (rw (c .before .before .statement-of .ensures) at (c .before .in-place .ensures))))
 
 loop2-holds : tie.Need-loop2-holds Inv-loop μ-loop Inv-loop2 μ-loop2
 loop2-holds c =
@@ -92,16 +93,16 @@ loop2-holds c =
 returns-5 : tie.Need-returns-5 Inv-loop μ-loop Inv-loop2 μ-loop2
 returns-5 c =
     let a = c .before .before in
-    let h = a .before .before .before in
+    let h = a .before .before .before .before in
     let i = h .loop2 .inv in
-    let beside = each-fails Aims _ _ (fits (i .0)) (h .loop2 .j) (a .before .before .loop2-test .taken) (decided-false (a .is-aimed .result) (not-true _ (c .before .if5 .taken)) (a .is-aimed .ensures)) in
+    let beside = each-fails Aims _ _ (fits (i .0)) (h .loop2 .j) (a .before .before .before .loop2-test .taken) (decided-false (a .is-aimed .result) (not-true _ (c .before .if5 .taken)) (rw (a .before .statement-of2 .ensures) at (a .is-aimed .ensures))) in
     rw (c .refused5 .ensures .0) (target-refused (i .0 .lines) (i .0 .low) (i .0 .high) (i .1) beside, c .refused5 .ensures .1)
 
 loop2-again : tie.Need-loop2-again Inv-loop μ-loop Inv-loop2 μ-loop2
 loop2-again c =
-    let h = c .before .before .before .before in
+    let h = c .before .before .before .before .before in
     let i = h .loop2 .inv in (
-      more (i .0) (omega arith) (so-far-more Aims _ _ (fits (i .0)) (h .loop2 .j) (c .before .before .before .loop2-test .taken) (i .0 .so-far) (decided-true (c .before .is-aimed .result) (not-false _ (c .if5 .left)) (c .before .is-aimed .ensures))),
+      more (i .0) (omega arith) (so-far-more Aims _ _ (fits (i .0)) (h .loop2 .j) (c .before .before .before .before .loop2-test .taken) (i .0 .so-far) (decided-true (c .before .is-aimed .result) (not-false _ (c .if5 .left)) (rw (c .before .before .statement-of2 .ensures) at (c .before .is-aimed .ensures)))),
       i .1,
     )
 
@@ -131,6 +132,7 @@ read-spec =
     (λ c. search needs)
     (λ c κs. search needs)
     (λ c κs. search needs)
+    (λ c κs. search needs)
     returns-4
     (λ c. search needs)
     (λ c. search needs)
@@ -138,6 +140,7 @@ read-spec =
     loop2-holds
     (λ c. search needs)
     (λ c. search needs)
+    (λ c κs. search needs)
     (λ c κs. search needs)
     (λ c κs. search needs)
     returns-5

@@ -6,21 +6,20 @@ use mathlib.Core.Logic.{⊎-elim}
 use Prim.Native.Nat.{ℕ, _-_}
 use native.Mathlib.Omega.{arith}
 use borrow.Author.Needs.{needs}
-use lib.ListN.{length, take, length-set, length-replicate}
+use lib.ListN.{length, take, length-set}
 use Rattle.lines.proofs.Walk.{line-further}
 use Rattle.lines.proofs.Reading as reading
 use Rattle.language.specs.Spelling.{spell, Valid}
-use Rattle.language.specs.declared.Statement.the-variants.{Skip}
-use Rattle.program.specs.declared.Entry.{Entry}
+use Rattle.encoding.specs.declared.Entry.{Entry}
+use Rattle.encoding.specs.Encoding.{statementIn}
 use Rattle.program.specs.Program.{most}
-use Rattle.program.specs.Reading.{entry}
 use Rattle.program.proofs.Texts.{statements-unambiguous, no-statement, no-end, line-of, kept-more, kept-same}
 use Rattle.program.proofs.read_lines.Statement.{statement}
 use Rattle.program.proofs.read_lines.Tie as tie
 
 record SoFar (t : List ℕ) (es : List Entry) (n at : ℕ) : Type 0 where
   lines : reading.SoFar spell Valid t n at
-  kept : take n es ≡ take most (map entry (lines .read))
+  kept : map statementIn (take n es) ≡ take most (lines .read)
   room : length es ≡ most
 
 abbrev Inv-loop : tie.InvT-loop
@@ -31,7 +30,7 @@ abbrev μ-loop : tie.MeasureT-loop
 
 loop-holds : tie.Need-loop-holds Inv-loop μ-loop
 unfolding reading.none-yet
-loop-holds c = record { lines = reading.none-yet spell Valid _; kept = refl; room = ap length (c .blank .ensures) ∙ length-replicate most (entry Skip) }
+loop-holds c = record { lines = reading.none-yet spell Valid _; kept = refl; room = c .blank .ensures }
 
 returns : tie.Need-returns Inv-loop μ-loop
 returns c =
@@ -74,10 +73,10 @@ loop-again c =
       lines = reading.one-more (i .lines) (line-of _ (h .loop .at) (p .before .before .statement .ensures .0) (e .1) (w .word .ensures .0) (c .before .before .next .given .1) (w .word .ensures .1 (omega arith)));
       kept =
           ⊎-elim
-          (λ w. rw (w .1) (kept-more (h .loop .entries) (h .loop .count) (i .lines .read) (e .0 .0) (i .room) (i .lines .counted) (i .kept) (w .0 .taken)))
+          (λ w. rw (w .2) (kept-more (h .loop .entries) (h .loop .count) (i .lines .read) (e .0 .0) (i .room) (i .lines .counted) (i .kept) (w .0 .taken) _ (w .1 .ensures)))
           (λ w. rw (w .1) (kept-same (h .loop .entries) (h .loop .count) (i .lines .read) (e .0 .0) (i .room) (i .lines .counted) (i .kept) (w .0 .left)))
           (c .if1 .came);
-      room = ⊎-elim (λ w. ap length (w .1) ∙ length-set (h .loop .entries) (h .loop .count) (entry (e .0 .0)) ∙ i .room) (λ w. ap length (w .1) ∙ i .room) (c .if1 .came);
+      room = ⊎-elim (λ w. ap length (w .2) ∙ length-set (h .loop .entries) (h .loop .count) _ ∙ i .room) (λ w. ap length (w .1) ∙ i .room) (c .if1 .came);
     }
 
 returns-3 : tie.Need-returns-3 Inv-loop μ-loop
@@ -104,6 +103,7 @@ read-lines-spec =
     (λ c. search needs)
     (λ c κs. search needs)
     returns-2
+    (λ c κs. search needs)
     mul-entries
     array-set-from-entries
     add-count

@@ -13,9 +13,9 @@ use Rattle.statement_writer.specs.Writing.{Put}
 use Rattle.statement_writer.proofs.Puts.{put-then, room}
 use Rattle.language.specs.declared.Statement.{Statement}
 use Rattle.language.specs.declared.Statement.the-variants.{Skip}
-use Rattle.program.specs.declared.Entry.{Entry}
+use Rattle.encoding.specs.declared.Entry.{Entry}
+use Rattle.encoding.specs.Encoding.{statementIn}
 use Rattle.program.specs.Program.{at, text, most}
-use Rattle.program.specs.Reading.{statementIn}
 use Rattle.program.proofs.Held.{held, length-held, at-held}
 use Rattle.program.proofs.write.Statement.{statement}
 use Rattle.program.proofs.write.Tie as tie
@@ -66,12 +66,13 @@ element-copy-out-e : tie.Need-element-copy-out-e Inv-loop μ-loop
 element-copy-out-e c = search needs
 
 line-requires : tie.Need-line-requires Inv-loop μ-loop
-line-requires c κs = line-room (c .before .before .before .loop .inv) (c .before .before .loop-test .taken)
+line-requires c κs = rw (c .before .statement-of .ensures) (line-room (c .before .before .before .before .loop .inv) (c .before .before .before .loop-test .taken))
 
 loop-again : tie.Need-loop-again Inv-loop μ-loop
 loop-again c =
-    let i = c .before .before .before .before .before .before .loop .inv in
-    record { room = i .room; few = i .few; fits = i .fits; within = omega arith; put = rw (line-text i (c .before .before .before .before .before .loop-test .taken)) (put-then (i .put) (c .before .before .line .ensures)) }
+    let i = c .before .before .before .before .before .before .before .loop .inv in
+    let told = c .before .before .before .before .statement-of .ensures in
+    record { room = i .room; few = i .few; fits = i .fits; within = omega arith; put = rw (line-text i (c .before .before .before .before .before .before .loop-test .taken)) (put-then (i .put) (rw told at (c .before .before .line .ensures))) }
 
 same-length : tie.Need-same-length Inv-loop μ-loop
 same-length c = ap length (c .before .loop .inv .put .text) ∙ simp length-sets
@@ -93,6 +94,7 @@ write-spec =
     loop-holds
     mul-e
     element-copy-out-e
+    (λ c κs. search needs)
     line-requires
     (λ c. search needs)
     (λ c. search needs)

@@ -33,22 +33,24 @@ returns c =
 
 step-requires : tie.Need-step-requires Inv-loop μ-loop
 step-requires c κs =
-    let l = c .before .before .before .before .before in
+    let l = c .before .before .before .before .before .before in
     let i = l .loop .inv in
     let p = l .before .before .args .t1 in
     let w = l .before .before .pre .0 in
-    (held-valid (p .entries) (p .count) _ (i .inside) w, (held-targets (p .entries) (p .count) _ (i .inside) w, omega (arith, i .inside, w .counted .1)))
+    let told = c .before .before .statement-of .ensures in
+    (rw told (held-valid (p .entries) (p .count) _ (i .inside) w), (rw told (held-targets (p .entries) (p .count) _ (i .inside) w), omega (arith, i .inside, w .counted .1)))
 
 line-requires : tie.Need-line-requires Inv-loop μ-loop
 line-requires c κs =
-    let l = c .before .before .before .before .before .before .before .before .before .before .before .before .before in
+    let l = c .before .before .before .before .before .before .before .before .before .before .before .before .before .before in
     let i = l .loop .inv in
     let p = l .before .before .args .t1 in
-    let w = l .before .before .pre .0 in (
-      held-valid (p .entries) (p .count) _ (i .inside) w,
+    let w = l .before .before .pre .0 in
+    let told = c .before .before .before .before .before .before .before .before .before .before .statement-of .ensures in (
+      rw told (held-valid (p .entries) (p .count) _ (i .inside) w),
       (
-        held-targets (p .entries) (p .count) _ (i .inside) w,
-        (omega (arith, i .inside, w .counted .1), omega (arith, c .before .before .before .before .before .before .before .before .before .before .before .if1 .left, i .fits, i .same)),
+        rw told (held-targets (p .entries) (p .count) _ (i .inside) w),
+        (omega (arith, i .inside, w .counted .1), omega (arith, c .before .before .before .before .before .before .before .before .before .before .before .before .if1 .left, i .fits, i .same)),
       ),
     )
 
@@ -57,28 +59,30 @@ loop-again c =
     let line = c .before .before .line in
     let next = c .before .before .before .before .before .before .before in
     let step = next .before .before .before in
-    let l = step .before .before .before .before .before .before in
+    let l = step .before .before .before .before .before .before .before in
+    let told = step .before .before .before .statement-of .ensures in
     let i = l .loop .inv in
     let goes = rw (next .way .given .1) at (next .before .before .way-on .ensures) in
-    going-more (l .before .before .args .t1) _ _ _ _ _ (step .step .ensures) i (step .before .before .before .before .before .loop-test .taken)
-    (omega (arith, step .before .before .before .before .if1 .left, i .fits, i .same)) (line .ensures .1) _ (l .before .before .pre .0) goes (line .ensures .0)
+    going-more (l .before .before .args .t1) _ _ _ _ _ (rw told at (step .step .ensures)) i (step .before .before .before .before .before .before .loop-test .taken)
+    (omega (arith, step .before .before .before .before .before .if1 .left, i .fits, i .same)) (line .ensures .1) _ (l .before .before .pre .0) goes (rw told at (line .ensures .0))
 
 last-line-requires : tie.Need-last-line-requires Inv-loop μ-loop
 last-line-requires c κs =
-    let l = c .before .before .before .before .before .before .before .before .before .before in
+    let l = c .before .before .before .before .before .before .before .before .before .before .before in
     let i = l .loop .inv in
     let p = l .before .before .args .t1 in
-    let w = l .before .before .pre .0 in (
-      held-valid (p .entries) (p .count) _ (i .inside) w,
+    let w = l .before .before .pre .0 in
+    let told = c .before .before .before .before .before .before .before .statement-of .ensures in (
+      rw told (held-valid (p .entries) (p .count) _ (i .inside) w),
       (
-        held-targets (p .entries) (p .count) _ (i .inside) w,
-        (omega (arith, i .inside, w .counted .1), omega (arith, c .before .before .before .before .before .before .before .before .if1 .left, i .fits, i .same)),
+        rw told (held-targets (p .entries) (p .count) _ (i .inside) w),
+        (omega (arith, i .inside, w .counted .1), omega (arith, c .before .before .before .before .before .before .before .before .before .if1 .left, i .fits, i .same)),
       ),
     )
 
 same-length-2 : tie.Need-same-length-2 Inv-loop μ-loop
 same-length-2 c =
-    let loop = c .before .before .before .before .before .before .before .before .before .before .before .before .before .loop in
+    let loop = c .before .before .before .before .before .before .before .before .before .before .before .before .before .before .loop in
     put-length (c .before .before .last-line .ensures .0) ∙ loop .inv .same
 
 returns-2 : tie.Need-returns-2 Inv-loop μ-loop
@@ -86,12 +90,13 @@ returns-2 c =
     let line = c .before .before .last-line in
     let next = c .before .before .before .before in
     let step = next .before .before .before in
-    let l = step .before .before .before .before .before .before in
+    let l = step .before .before .before .before .before .before .before in
+    let told = step .before .before .before .statement-of .ensures in
     let i = l .loop .inv in
     let us = step .step .last .1 .1 .1 .0 in
     let over = (rw (next .enum-told .given .1) at (next .before .before .way-on .ensures)) us .1 in
-    ends (l .before .before .args .t1) _ _ _ us (step .step .result) (step .step .ensures) i (step .before .before .before .before .before .loop-test .taken)
-    (omega (arith, step .before .before .before .before .if1 .left, i .fits, i .same)) (line .ensures .1) _ _ refl refl refl refl over (line .ensures .0)
+    ends (l .before .before .args .t1) _ _ _ us (step .step .result) (rw told at (step .step .ensures)) i (step .before .before .before .before .before .before .loop-test .taken)
+    (omega (arith, step .before .before .before .before .before .if1 .left, i .fits, i .same)) (line .ensures .1) _ _ refl refl refl refl over (rw told at (line .ensures .0))
 
 same-length-3 : tie.Need-same-length-3 Inv-loop μ-loop
 same-length-3 c = c .before .loop .inv .same
@@ -112,6 +117,7 @@ steps-spec =
     (λ c. search needs)
     (λ c. search needs)
     (λ c. search needs)
+    (λ c κs. search needs)
     step-requires
     (λ c. search needs)
     (λ c κs. search needs)

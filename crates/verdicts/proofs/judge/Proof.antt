@@ -1,5 +1,5 @@
 use mathlib.Core.List.{List}
-use mathlib.Core.Path.{_≡_, refl, _∙_}
+use mathlib.Core.Path.{_≡_, refl, sym, _∙_}
 use Prim.Native.Nat.{_-_, _<_}
 use native.Mathlib.Omega.{arith}
 use borrow.Author.Needs.{needs}
@@ -63,14 +63,14 @@ remembered : (c : Marked) → Remembers (usedIn (start c .args .rows .now)) (sta
 remembered c = loop c .loop .inv .3 _ (known-in (start c .pre .0 .1))
 
 slice-aggregate-verdict-of-2 : tie.Need-slice-aggregate-verdict-of-2 Inv-loop μ-loop
-slice-aggregate-verdict-of-2 c = omega (arith, remembered (c .before .before .before .before .before) .many-keys)
+slice-aggregate-verdict-of-2 c = omega (arith, remembered (c .before .before .before .before .before .before) .many-keys)
 
 slice-aggregate-verdict-of-3 : tie.Need-slice-aggregate-verdict-of-3 Inv-loop μ-loop
-slice-aggregate-verdict-of-3 c = omega (arith, remembered (c .before .before .before .before .before .before) .many-rows)
+slice-aggregate-verdict-of-3 c = omega (arith, remembered (c .before .before .before .before .before .before .before) .many-rows)
 
 verdict-of-requires : tie.Need-verdict-of-requires Inv-loop μ-loop
 verdict-of-requires c κs =
-    let marked = c .before .before .before .before .before .before in
+    let marked = c .before .before .before .before .before .before .before in
     let i = loop marked .loop .inv in (
       record { P = statements (start marked .args .t2); known = known-in (start marked .pre .0 .1) },
       ((line-of _ _ (marked .m .given .1) (marked .before .before .line .ensures) .valid, i .1), i .3),
@@ -78,30 +78,31 @@ verdict-of-requires c κs =
 
 slice-write-verdicts : tie.Need-slice-write-verdicts Inv-loop μ-loop
 slice-write-verdicts c =
-    let marked = c .before .before .before .before .before .before .before .before .before .before in
+    let marked = c .before .before .before .before .before .before .before .before .before .before .before in
     omega (arith, loop marked .loop .inv .0, start marked .pre .1 .1, below marked)
 
 add-j : tie.Need-add-j Inv-loop μ-loop
-add-j c = omega (arith, below (c .before .before .before .before .before .before .before .before .before .before .before .before .before .before))
+add-j c = omega (arith, below (c .before .before .before .before .before .before .before .before .before .before .before .before .before .before .before))
 
 loop-less : tie.Need-loop-less Inv-loop μ-loop
 loop-less c =
-    let marked = c .before .before .before .before .before .before .before .before .before .before .before .before .before .before in
+    let marked = c .before .before .before .before .before .before .before .before .before .before .before .before .before .before .before in
     line-further _ _ (marked .m .given .1) (marked .before .before .line .ensures)
 
 loop-again : tie.Need-loop-again Inv-loop μ-loop
 loop-again c =
-    let marked = c .before .before .before .before .before .before .before .before .before .before .before .before .before .before in
+    let marked = c .before .before .before .before .before .before .before .before .before .before .before .before .before .before .before in
     let l = loop marked .loop in
-    let place = c .before .before .before .before .before .before .before .before .before .before .before .before .place-of in
+    let place = c .before .before .before .before .before .before .before .before .before .before .before .before .before .place-of in
     let v = c .before .before .before .before .before .before .before .verdict-of in
     let b = c .before .before .before .before .number-of in
+    let told = c .before .before .before .before .before .before .before .before .before .before .before .statement-of .ensures in
     let k = start marked .pre .0 in (
       length-set (l .verdicts) (l .j) (b .result) ∙ l .inv .0,
       omega (arith, c .before .before .note .kept, l .inv .1),
       (λ ms t.
           judged-more (l .inv .2 ms t) (marked .m .given .1) (marked .before .before .line .ensures) (v .result) _ (b .ensures)
-          (λ earlier g. v .ensures .0 _ (k .1) earlier (statement-at _ (k .0) (marked .m .given .0 .0) _ (place .ensures .1)) g)
+          (λ earlier g. v .ensures .0 _ (k .1) earlier (λ i. statement-at _ (k .0) (marked .m .given .0 .0) _ (place .ensures .1) i ∙ sym told) g)
           (λ s. c .before .before .note .ensures _ (k .1 .few) s) _ (c .is-reuse .ensures) (slice-write-verdicts (c .before .before .before .before))),
       v .ensures .1,
     )
@@ -132,6 +133,7 @@ judge-spec =
     (λ c κs. search needs)
     (λ c. search needs)
     (λ c. search needs)
+    (λ c κs. search needs)
     (λ c. search needs)
     slice-aggregate-verdict-of-2
     slice-aggregate-verdict-of-3

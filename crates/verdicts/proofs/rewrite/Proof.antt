@@ -74,24 +74,24 @@ element-copy-out-e : tie.Need-element-copy-out-e Inv-loop μ-loop
 element-copy-out-e c = omega (arith, c .statement-of .ensures, room (c .before .before .before .before), inside (c .before))
 
 array-set-from-entries : tie.Need-array-set-from-entries Inv-loop μ-loop
-array-set-from-entries c = omega (arith, c .before .before .statement-of .ensures, room (c .before .before .before .before .before .before), inside (c .before .before .before))
+array-set-from-entries c = omega (arith, c .before .before .before .before .statement-of .ensures, room (c .before .before .before .before .before .before .before .before), inside (c .before .before .before .before .before))
 
 add-accepted : tie.Need-add-accepted Inv-loop μ-loop
-add-accepted c = omega (arith, few (c .before .before .before .before .before .before), below (c .before .before .before .before .before .before))
+add-accepted c = omega (arith, few (c .before .before .before .before .before .before .before .before), below (c .before .before .before .before .before .before .before .before))
 
 add-j : tie.Need-add-j Inv-loop μ-loop
-add-j c = omega (arith, below (c .before .before .before .before .before .before))
+add-j c = omega (arith, below (c .before .before .before .before .before .before .before .before))
 
 loop-less : tie.Need-loop-less Inv-loop μ-loop
-loop-less c = line-further _ _ (c .before .before .before .before .before .before .m .given .1) (c .before .before .before .before .before .before .before .before .line .ensures)
+loop-less c = line-further _ _ (c .before .before .before .before .before .before .before .before .m .given .1) (c .before .before .before .before .before .before .before .before .before .before .line .ensures)
 
 loop-again : tie.Need-loop-again Inv-loop μ-loop
 loop-again c =
-    let marked = c .before .before .before .before .before .before in
+    let marked = c .before .before .before .before .before .before .before .before in
     let l = loop marked .loop in (
       length-set (l .entries) _ _ ∙ l .inv .0,
       λ ms t. made-more (l .inv .1 ms t) (marked .m .given .1) (marked .before .before .line .ensures) (statements (start marked .args .t2)) (verdicts-same (start marked .pre .1) t)
-          (room-on marked) (c .before .before .before .if1 .taken) _ (c .before .before .statement-of .ensures) _ (c .makes .ensures),
+          (room-on marked) (c .before .before .before .before .before .if1 .taken) _ (c .before .before .before .before .statement-of .ensures) _ (c .entry-of .ensures ∙ (rw (c .before .before .statement-of2 .ensures) at (c .before .makes .ensures))),
     )
 
 add-j-2 : tie.Need-add-j-2 Inv-loop μ-loop
@@ -135,6 +135,8 @@ rewrite-spec =
     (λ c. search needs)
     (λ c. search needs)
     element-copy-out-e
+    (λ c κs. search needs)
+    (λ c κs. search needs)
     (λ c κs. search needs)
     (λ c. search needs)
     array-set-from-entries

@@ -7,9 +7,9 @@ use borrow.Author.Needs.{needs}
 use lib.ListN.{length, take}
 use Rattle.statement_writer.specs.Writing.{Put}
 use Rattle.language.specs.declared.Statement.{Statement}
-use Rattle.program.specs.declared.Entry.{Entry}
+use Rattle.encoding.specs.declared.Entry.{Entry}
 use Rattle.program.specs.Program.{at, most}
-use Rattle.program.specs.Reading.{statementIn}
+use Rattle.encoding.specs.Encoding.{statementIn}
 use Rattle.program.proofs.Held.{held, length-held, at-held}
 use Rattle.view.specs.View.{upTo, row, rows}
 use Rattle.view.specs.Writing.{truthIn, Tabled, RowFits}
@@ -79,10 +79,10 @@ array-copy-out-e : tie.Need-array-copy-out-e Inv-loop μ-loop
 array-copy-out-e c = search needs
 
 write-row-requires : tie.Need-write-row-requires Inv-loop μ-loop
-write-row-requires c κs = row-fits (c .before .before .before .loop .inv) (c .before .before .loop-test .taken)
+write-row-requires c κs = rw (c .before .statement-of .ensures) (row-fits (c .before .before .before .before .loop .inv) (c .before .before .before .loop-test .taken))
 
 loop-again : tie.Need-loop-again Inv-loop μ-loop
-loop-again c = inv-more (c .before .before .before .before .before .before .loop .inv) (c .before .before .before .before .before .loop-test .taken) (c .before .before .write-row .ensures)
+loop-again c = inv-more (c .before .before .before .before .before .before .before .loop .inv) (c .before .before .before .before .before .before .loop-test .taken) (rw (c .before .before .before .before .statement-of .ensures) at (c .before .before .write-row .ensures))
 
 same-length : tie.Need-same-length Inv-loop μ-loop
 same-length c = put-length (c .before .loop .inv .put)
@@ -104,6 +104,7 @@ write-rows-spec =
     loop-holds
     mul-e
     array-copy-out-e
+    (λ c κs. search needs)
     write-row-requires
     (λ c. search needs)
     (λ c. search needs)
