@@ -3,8 +3,8 @@
 
    Each call takes any bytes. It returns 0 with a result, or the number of the refusal: the first
    that applies, in the order given with the call. A refused call changes nothing that was lent. A
-   finished call changes only the places that its result sets. rewrites_our_prices, which is never
-   refused, returns nothing.
+   finished call changes only the places that its result sets. rewrites_our_prices returns nothing,
+   the rewrites_blame calls a place, and rewrites_version a number; these are never refused.
 
    A pointer with a length beside it may be null where the length is 0: nothing is read or written
    there. No other pointer may be null. Places that a call writes may not overlap each other or any

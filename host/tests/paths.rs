@@ -1,5 +1,5 @@
-//! Executed cases of paths. Expected ones are worked out from the request's words, by hand; where the contract leaves a choice, the
-//! program has none.
+//! Executed cases of paths. Expected ones are worked out from the request's words, by hand; where the contract leaves a choice, what
+//! the code tells is expected: a way before a path that goes round, and the shortest round.
 
 mod common;
 
