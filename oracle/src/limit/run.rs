@@ -1,0 +1,351 @@
+//! Runs in two ways: step by step, and, once a run has made more steps than its program has statements, by stretches, each up to
+//! the next jump: its steps and ticks are added at once, `skip` is left out, and two steps go by one code.
+
+use super::read::{self, Instruction, Program, INPUT};
+use crate::machine::{kept_of, Outcome, Values, LARGEST_BUDGET, VALUES};
+use crate::pricing::{in_force, Prices, KINDS};
+use crate::program::MOST_LINES;
+use std::mem::MaybeUninit;
+use std::sync::atomic::{compiler_fence, Ordering};
+
+/// Steps and ticks in one number, which are added and compared at once: steps from this bit on.
+const STEP_BIT: u32 = 40;
+const TICKS: u64 = (1 << STEP_BIT) - 1;
+
+/// A run is made by stretches once it has made so many steps for each statement.
+const STEPS_BEFORE: u32 = 2;
+
+/// Where a run stands, and what it has taken.
+#[derive(Clone, Copy)]
+struct Place {
+    at: usize,
+    taken: u64,
+}
+
+impl Place {
+    fn steps(&self) -> u32 {
+        (self.taken >> STEP_BIT) as u32
+    }
+
+    fn ticks(&self) -> u64 {
+        self.taken & TICKS
+    }
+
+    fn fault(&self) -> Outcome {
+        Outcome::Fault { statement: self.at as u32 + 1, steps: self.steps(), ticks: self.ticks() }
+    }
+
+    fn ended(&self, value: u32, file: &[u32]) -> Outcome {
+        let kept = kept_of(&variables(file));
+        Outcome::Ended { value: value as i32, steps: self.steps(), kept, ticks: self.ticks() }
+    }
+}
+
+fn variables(file: &[u32]) -> Values {
+    file[..VALUES].try_into().expect("so many values")
+}
+
+/// The value at a place of the file.
+macro_rules! at {
+    ($file:ident, $place:expr) => {{
+        debug_assert!(usize::from($place) < $file.len());
+        // SAFETY: a place of an instruction is that of a variable, of the input, or of a constant that was put down.
+        unsafe { *$file.get_unchecked(usize::from($place)) }
+    }};
+}
+
+/// What an instruction assigns; or where it divides by 0, what is done.
+macro_rules! value {
+    (Copy, $file:ident, $step:ident, $fault:expr) => {
+        at!($file, $step.a)
+    };
+    (Plus, $file:ident, $step:ident, $fault:expr) => {
+        at!($file, $step.a).wrapping_add(at!($file, $step.b))
+    };
+    (Minus, $file:ident, $step:ident, $fault:expr) => {
+        at!($file, $step.a).wrapping_sub(at!($file, $step.b))
+    };
+    (Times, $file:ident, $step:ident, $fault:expr) => {
+        at!($file, $step.a).wrapping_mul(at!($file, $step.b))
+    };
+    (Less, $file:ident, $step:ident, $fault:expr) => {
+        u32::from((at!($file, $step.a) as i32) < at!($file, $step.b) as i32)
+    };
+    (Equal, $file:ident, $step:ident, $fault:expr) => {
+        u32::from(at!($file, $step.a) == at!($file, $step.b))
+    };
+    (Divide, $file:ident, $step:ident, $fault:expr) => {{
+        let divisor = at!($file, $step.b) as i32;
+        if divisor == 0 {
+            return $fault;
+        }
+        (at!($file, $step.a) as i32).wrapping_div(divisor) as u32
+    }};
+}
+
+/// Runs step by step until so many steps are made, or answers.
+fn step_on(
+    instructions: &[Instruction],
+    file: &mut [u32],
+    prices: &[u64; KINDS],
+    place: &mut Place,
+    until: u32,
+) -> Option<Outcome> {
+    for _ in place.steps()..until {
+        let step = instructions[place.at];
+        place.taken += prices[usize::from(step.code)];
+        let value = match step.code {
+            read::SKIP => {
+                place.at += 1;
+                continue;
+            }
+            read::BRANCH => {
+                let target = if at!(file, step.x) != 0 { step.a } else { step.b };
+                place.at = usize::from(target);
+                continue;
+            }
+            read::WRITE => return Some(place.ended(at!(file, step.x), file)),
+            read::PLUS => value!(Plus, file, step, None),
+            read::MINUS => value!(Minus, file, step, None),
+            read::TIMES => value!(Times, file, step, None),
+            read::LESS => value!(Less, file, step, None),
+            read::EQUAL => value!(Equal, file, step, None),
+            read::DIVIDE => value!(Divide, file, step, Some(place.fault())),
+            _ => value!(Copy, file, step, None),
+        };
+        file[usize::from(step.x)] = value;
+        place.at += 1;
+    }
+    None
+}
+
+// What a step of a stretch does. Those from JUMP on end one.
+const COPY: u8 = 0;
+const JUMP: u8 = 7;
+const BRANCH: u8 = 8;
+const WRITE: u8 = 9;
+const CODES: u8 = 10;
+
+/// A step's code among those of stretches; `skip` has none.
+fn code_of(step: &Instruction) -> u8 {
+    match step.code {
+        read::WRITE => WRITE,
+        read::BRANCH if step.a == step.b => JUMP,
+        read::BRANCH => BRANCH,
+        read::READ | read::COPY => COPY,
+        operator => operator - read::COPY,
+    }
+}
+
+/// A program's stretches. Steps stand at the end of the array, in the order of statements, without `skip`.
+struct Stretches {
+    /// By step: its code, times the number of codes and with that of the next added where it doesn't end a stretch. Targets
+    /// are steps.
+    steps: [MaybeUninit<Instruction>; MOST_LINES],
+    first: usize,
+    /// By step that jumps: what is taken from either target to the end of its stretch.
+    taken: [MaybeUninit<[u64; 2]>; MOST_LINES],
+    /// By step: its statement.
+    statement: [MaybeUninit<u16>; MOST_LINES],
+    /// By statement: its step, or the next; what is taken from here to the end of its stretch.
+    step: [MaybeUninit<u16>; MOST_LINES],
+    to_end: [MaybeUninit<u64>; MOST_LINES],
+}
+
+/// Item of an array of which this one is set.
+macro_rules! set {
+    ($items:expr, $at:expr) => {{
+        debug_assert!($at < $items.len());
+        // SAFETY: `Stretches::fill` sets the items of all steps from `first` on, those of jumps for each jump, and those of all
+        // statements.
+        unsafe { $items.get_unchecked($at).assume_init() }
+    }};
+}
+
+impl Stretches {
+    #[inline(always)]
+    fn new() -> Stretches {
+        Stretches {
+            steps: [MaybeUninit::uninit(); MOST_LINES],
+            first: MOST_LINES,
+            taken: [MaybeUninit::uninit(); MOST_LINES],
+            statement: [MaybeUninit::uninit(); MOST_LINES],
+            step: [MaybeUninit::uninit(); MOST_LINES],
+            to_end: [MaybeUninit::uninit(); MOST_LINES],
+        }
+    }
+
+    fn fill(&mut self, instructions: &[Instruction], prices: &[u64; KINDS]) {
+        let (mut to_end, mut next) = (0, 0);
+        for (at, &step) in instructions.iter().enumerate().rev() {
+            let price = prices[usize::from(step.code)];
+            if step.code == read::SKIP {
+                to_end += price;
+            } else {
+                let code = code_of(&step);
+                let pair = if code < JUMP { CODES * code + next } else { CODES * JUMP + code };
+                to_end = if code < JUMP { to_end + price } else { price };
+                self.first -= 1;
+                self.steps[self.first] = MaybeUninit::new(Instruction { code: pair, ..step });
+                self.statement[self.first] = MaybeUninit::new(at as u16);
+                next = code;
+            }
+            self.step[at] = MaybeUninit::new(self.first as u16);
+            self.to_end[at] = MaybeUninit::new(to_end);
+        }
+        for at in self.first..MOST_LINES {
+            let step = set!(self.steps, at);
+            if step.code == CODES * JUMP + JUMP || step.code == CODES * JUMP + BRANCH {
+                let targets = [usize::from(step.a), usize::from(step.b)];
+                let [a, b] = targets.map(|target| set!(self.step, target));
+                self.steps[at] = MaybeUninit::new(Instruction { a, b, ..step });
+                let taken = targets.map(|target| set!(self.to_end, target));
+                self.taken[at] = MaybeUninit::new(taken);
+            }
+        }
+    }
+
+    /// Runs by stretches while the budget has room for the next, or answers.
+    fn run(
+        &self,
+        instructions: &[Instruction],
+        file: &mut [u32],
+        place: &mut Place,
+        budget: u32,
+    ) -> Option<Outcome> {
+        let most = u64::from(budget) << STEP_BIT | TICKS;
+        let mut at = usize::from(set!(self.step, place.at));
+        let mut taken = place.taken + set!(self.to_end, place.at);
+        if taken > most {
+            return None;
+        }
+        // Where the step divides by 0: what the rest of its stretch would take is given back.
+        let fault = |taken: u64, at: usize| {
+            let at = usize::from(set!(self.statement, at));
+            let place = Place { at, taken: taken - set!(self.to_end, at + 1) };
+            Some(place.fault())
+        };
+        macro_rules! step {
+            (Jump, $ahead:literal) => {
+                step!(to 0, a, $ahead)
+            };
+            (Branch, $ahead:literal) => {
+                let step = set!(self.steps, at + $ahead);
+                if at!(file, step.x) != 0 {
+                    // Keeps this a jump, which is foretold, where a chosen value would be waited for.
+                    compiler_fence(Ordering::SeqCst);
+                    step!(to 0, a, $ahead)
+                } else {
+                    step!(to 1, b, $ahead)
+                }
+            };
+            (Write, $ahead:literal) => {
+                let step = set!(self.steps, at + $ahead);
+                return Some(Place { at, taken }.ended(at!(file, step.x), file));
+            };
+            (to $side:literal, $target:ident, $ahead:literal) => {{
+                let further = taken + set!(self.taken, at + $ahead)[$side];
+                if further > most {
+                    let jump = instructions[usize::from(set!(self.statement, at + $ahead))];
+                    *place = Place { at: usize::from(jump.$target), taken };
+                    return None;
+                }
+                taken = further;
+                at = usize::from(set!(self.steps, at + $ahead).$target);
+            }};
+            ($code:ident, $ahead:literal) => {
+                let step = set!(self.steps, at + $ahead);
+                let value = value!($code, file, step, fault(taken, at + $ahead));
+                // SAFETY: the file has the values of all variables.
+                unsafe { *file.get_unchecked_mut(usize::from(step.x)) = value };
+            };
+        }
+        /// The arms of the first step's code with each of the second's.
+        macro_rules! dispatch {
+            ($($code:ident: $copy:literal $plus:literal $minus:literal $times:literal $less:literal
+                $equal:literal $divide:literal $jump:literal $branch:literal $write:literal;)*) => {
+                match set!(self.steps, at).code {
+                    $(
+                        $copy => { step!($code, 0); step!(Copy, 1); at += 2; }
+                        $plus => { step!($code, 0); step!(Plus, 1); at += 2; }
+                        $minus => { step!($code, 0); step!(Minus, 1); at += 2; }
+                        $times => { step!($code, 0); step!(Times, 1); at += 2; }
+                        $less => { step!($code, 0); step!(Less, 1); at += 2; }
+                        $equal => { step!($code, 0); step!(Equal, 1); at += 2; }
+                        $divide => { step!($code, 0); step!(Divide, 1); at += 2; }
+                        $jump => { step!($code, 0); step!(Jump, 1); }
+                        $branch => { step!($code, 0); step!(Branch, 1); }
+                        $write => { step!($code, 0); step!(Write, 1); }
+                    )*
+                    77 => { step!(Jump, 0); }
+                    78 => { step!(Branch, 0); }
+                    _ => { step!(Write, 0); }
+                }
+            };
+        }
+        loop {
+            dispatch! {
+                Copy: 0 1 2 3 4 5 6 7 8 9;
+                Plus: 10 11 12 13 14 15 16 17 18 19;
+                Minus: 20 21 22 23 24 25 26 27 28 29;
+                Times: 30 31 32 33 34 35 36 37 38 39;
+                Less: 40 41 42 43 44 45 46 47 48 49;
+                Equal: 50 51 52 53 54 55 56 57 58 59;
+                Divide: 60 61 62 63 64 65 66 67 68 69;
+            }
+        }
+    }
+}
+
+/// Runs by stretches, with the arrays for them.
+#[inline(never)]
+fn run_stretches(
+    instructions: &[Instruction],
+    file: &mut [u32],
+    prices: &[u64; KINDS],
+    place: &mut Place,
+    budget: u32,
+) -> Option<Outcome> {
+    let mut stretches = Stretches::new();
+    stretches.fill(instructions, prices);
+    stretches.run(instructions, file, place, budget)
+}
+
+/// A run of a program that is taken.
+fn run_program(program: &mut Program, budget: u32, prices: &Prices) -> Outcome {
+    let (instructions, file) = program.parts();
+    debug_assert!(instructions.len() <= MOST_LINES && file.len() > INPUT);
+    let mut place = Place { at: 0, taken: 0 };
+    if budget > 0 {
+        let prices: [u64; KINDS] =
+            std::array::from_fn(|kind| 1 << STEP_BIT | u64::from(in_force(prices, kind)));
+        let before = budget.min(STEPS_BEFORE * instructions.len() as u32);
+        let place = &mut place;
+        let mut outcome = step_on(instructions, file, &prices, place, before);
+        if outcome.is_none() && before < budget {
+            outcome = run_stretches(instructions, file, &prices, place, budget)
+                .or_else(|| step_on(instructions, file, &prices, place, budget));
+        }
+        if let Some(outcome) = outcome {
+            return outcome;
+        }
+    }
+    let (statement, ticks) = (place.at as u32 + 1, place.ticks());
+    Outcome::Spent { statement, values: variables(file), ticks }
+}
+
+/// The call: a run's outcome, or the refusal, 15 or 2 to 5.
+pub fn run(
+    program: &[u8],
+    values: &Values,
+    input: u32,
+    budget: u32,
+    prices: &Prices,
+) -> Result<Outcome, u8> {
+    if budget > LARGEST_BUDGET {
+        return Err(15);
+    }
+    let mut given = Program::empty();
+    given.read(program, values, input)?;
+    Ok(run_program(&mut given, budget, prices))
+}
