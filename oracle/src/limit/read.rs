@@ -26,14 +26,20 @@ pub struct Instruction {
     pub x: u8,
     pub a: u16,
     pub b: u16,
+    /// Fills eight bytes, so that an instruction is put down at once.
+    unused: u16,
+}
+
+impl Instruction {
+    #[inline(always)]
+    pub fn new(code: u8, x: u8, a: u16, b: u16) -> Instruction {
+        Instruction { code, x, a, b, unused: 0 }
+    }
 }
 
 /// The place of the input, behind those of the variables, and that of the first constant.
 pub const INPUT: usize = VALUES;
 const CONSTANTS: usize = INPUT + 1;
-
-/// All places: two constants of each statement, and of one more, which lines beyond the most get in turn.
-const PLACES: usize = CONSTANTS + 2 * (MOST_LINES + 1);
 
 /// From a line's start so many bytes can be looked at; no spelling has more, nor does reading go farther.
 const WINDOW: usize = 64;
@@ -41,27 +47,39 @@ const WINDOW: usize = 64;
 /// Ends are found of so many bytes, then their lines are read.
 const BLOCK: usize = 16 * WINDOW;
 
+/// So many lines have room: one more than the most, and those of a block. Further blocks come in the place of that one.
+const LINES: usize = MOST_LINES + 1 + BLOCK;
+
+/// All places, two constants for each line.
+const PLACES: usize = CONSTANTS + 2 * LINES;
+
 /// Ends are put down so many at once.
-const AT_ONCE: usize = 8;
+const AT_ONCE: usize = 6;
 
-/// A bit of an entry that isn't to be looked up.
+/// A bit of an entry for what isn't spelled so, and of one for a variable of two digits.
 const WRONG: u8 = 0x80;
+const TWO_DIGITS: u8 = 0x40;
 
-/// Variables by two bytes behind `i`, each without the bits of `0` and 15 where it is more.
-static VARIABLE: [u8; 256] = variables();
+/// Variables by two bytes behind `i`, the second of which is the next thing's where there is one digit. Few of its lines are used.
+static VARIABLE: [u8; 1 << 16] = variables();
 
-const fn variables() -> [u8; 256] {
-    let mut table = [WRONG; 256];
-    let (mut first, mut second) = (0, 0);
-    while first < 10 {
-        let value = if second < 10 { 10 * first + second } else { first };
-        if value < VARIABLES as usize && (first != 0 || second >= 10) {
-            table[16 * first + second] = value as u8;
+const fn variables() -> [u8; 1 << 16] {
+    let mut table = [WRONG; 1 << 16];
+    let mut value = 0;
+    while value < 10 {
+        let mut next = 0;
+        while next < 256 {
+            if next < b'0' as usize || next > b'9' as usize {
+                table[b'0' as usize + value | next << 8] = value as u8;
+            }
+            next += 1;
         }
-        second += 1;
-        if second == 16 {
-            (first, second) = (first + 1, 0);
-        }
+        value += 1;
+    }
+    while value < VARIABLES as usize {
+        let (first, second) = (b'0' as usize + value / 10, b'0' as usize + value % 10);
+        table[first | second << 8] = value as u8 | TWO_DIGITS;
+        value += 1;
     }
     table
 }
@@ -80,30 +98,32 @@ const fn operators() -> [u8; 256] {
     table
 }
 
+/// An array of which nothing is set. One that is made item by item is cleared by today's compiler.
+#[inline(always)]
+pub fn unset<T, const N: usize>() -> [MaybeUninit<T>; N] {
+    // SAFETY: an item that needn't be set may be anything.
+    unsafe { MaybeUninit::<[MaybeUninit<T>; N]>::uninit().assume_init() }
+}
+
 /// A text, and its last bytes with zeros behind them.
+#[derive(Clone, Copy)]
 struct Source<'a> {
     text: &'a [u8],
-    tail: [u8; 2 * WINDOW],
+    tail: &'a [u8; 2 * WINDOW],
     tail_start: usize,
 }
 
 impl<'a> Source<'a> {
-    fn new(text: &'a [u8]) -> Source<'a> {
-        let tail_start = text.len().saturating_sub(WINDOW);
-        let mut tail = [0; 2 * WINDOW];
-        tail[..text.len() - tail_start].copy_from_slice(&text[tail_start..]);
-        Source { text, tail, tail_start }
-    }
-
     /// What stands from a place of the text on.
     #[inline(always)]
-    fn window(&self, start: usize) -> Window<'_> {
-        let bytes = if start < self.tail_start {
-            &self.text[start..start + WINDOW]
-        } else {
-            &self.tail[start - self.tail_start..][..WINDOW]
-        };
-        Window { bytes: bytes.try_into().expect("so many bytes") }
+    fn window(self, start: usize) -> Window<'a> {
+        debug_assert!(start < self.text.len());
+        let is_near = start < self.tail_start;
+        let (bytes, from) =
+            if is_near { (self.text.as_ptr(), 0) } else { (self.tail.as_ptr(), self.tail_start) };
+        // SAFETY: before the tail's start the text has as many bytes more as the window; the tail has no more than that many from
+        // its start to the text's end, and as many more behind it.
+        Window { bytes: unsafe { &*bytes.add(start - from).cast::<[u8; WINDOW]>() } }
     }
 }
 
@@ -186,7 +206,7 @@ const SEVEN_BYTES: u64 = (1 << 56) - 1;
 
 /// What lines are read into. It is small, so that it is held in registers while a text is read.
 struct Reader<'a> {
-    instructions: &'a mut [MaybeUninit<Instruction>; MOST_LINES + 1],
+    instructions: &'a mut [MaybeUninit<Instruction>; LINES],
     count: usize,
     file: &'a mut [MaybeUninit<u32>; PLACES],
     filled: usize,
@@ -199,42 +219,54 @@ struct Reader<'a> {
 }
 
 impl Reader<'_> {
-    /// The number at a place, of up to ten digits, and the place behind it.
+    /// The number at a place, up to this one, and the place behind it.
     #[inline(always)]
-    fn number(&mut self, line: Window, at: usize) -> (u64, usize) {
+    fn number(&mut self, line: Window, at: usize, most: u32) -> (u32, usize) {
+        let digits = line.four(at) ^ 0x3030_3030;
+        let others = (digits.wrapping_add(0x7676_7676) | digits) & 0x8080_8080;
+        if others == 0 {
+            return self.long_number(line, at, most);
+        }
+        let bits = others.trailing_zeros() & !7;
+        // The last digit comes to the last byte, behind zeros.
+        let ones = digits.wrapping_shl(32 - bits);
+        let tens = (ones.wrapping_mul(10 << 8 | 1) >> 8) & 0x00ff_00ff;
+        let value = tens.wrapping_mul(100 << 16 | 1) >> 16;
+        self.wrong |= u64::from((bits == 0) | (digits as u8 == 0) & (bits > 8));
+        (value, at + bits as usize / 8)
+    }
+
+    /// The same where four digits stand there, of up to ten: eight at once, the rest one by one.
+    #[inline(always)]
+    fn long_number(&mut self, line: Window, at: usize, most: u32) -> (u32, usize) {
         let digits = line.eight(at) ^ 0x3030_3030_3030_3030;
         let others = (digits.wrapping_add(0x7676_7676_7676_7676) | digits) & 0x8080_8080_8080_8080;
         let bits = others.trailing_zeros() & !7;
-        // The last digit comes to the last byte, behind zeros.
         let ones = digits.wrapping_shl(64 - bits);
         let tens = (ones.wrapping_mul(10 << 8 | 1) >> 8) & 0x00ff_00ff_00ff_00ff;
         let hundreds = (tens.wrapping_mul(100 << 16 | 1) >> 16) & 0x0000_ffff_0000_ffff;
         let mut value = hundreds.wrapping_mul(10_000 << 32 | 1) >> 32;
         let mut length = bits as usize / 8;
-        self.wrong |= u64::from(length == 0) | u64::from(digits as u8 == 0 && length > 1);
         if length == 8 {
             for _ in 0..2 {
                 let digit = (line.four(at + length) as u8).wrapping_sub(b'0');
-                if digit < 10 {
-                    value = 10 * value + u64::from(digit);
-                    length += 1;
-                } else {
+                if digit > 9 {
                     break;
                 }
+                value = 10 * value + u64::from(digit);
+                length += 1;
             }
         }
-        (value, at + length)
+        self.wrong |= u64::from((digits as u8 == 0) | (value > u64::from(most)));
+        (value as u32, at + length)
     }
 
     /// The variable at a place whose first byte is known, and the place behind it.
     #[inline(always)]
     fn variable(&mut self, line: Window, at: usize) -> (u8, usize) {
-        let bytes = line.four(at);
-        let first = ((bytes >> 8) as u8 ^ b'0').min(15);
-        let second = ((bytes >> 16) as u8 ^ b'0').min(15);
-        let entry = VARIABLE[usize::from(first << 4 | second)];
+        let entry = VARIABLE[usize::from(line.four(at + 1) as u16)];
         self.wrong |= u64::from(entry & WRONG);
-        (entry & !WRONG, at + 2 + usize::from(second < 10))
+        (entry & (TWO_DIGITS - 1), at + 2 + usize::from(entry / TWO_DIGITS % 2))
     }
 
     /// The place of the operand that stands here, and the place behind it.
@@ -246,21 +278,22 @@ impl Reader<'_> {
             return (u16::from(x), at);
         }
         let below = first == b'-';
-        let (value, at) = self.number(line, at + usize::from(below));
-        let is_wrong = value > u64::from(LARGEST) + u64::from(below) || below && value == 0;
-        self.wrong |= u64::from(is_wrong);
-        let value = value as u32;
+        let most = LARGEST + u32::from(below);
+        let (value, at) = self.number(line, at + usize::from(below), most);
+        self.wrong |= u64::from(below & (value == 0));
         let place = self.filled;
-        self.file[place] = MaybeUninit::new(if below { value.wrapping_neg() } else { value });
+        let value = if below { value.wrapping_neg() } else { value };
+        debug_assert!(place < PLACES);
+        // SAFETY: at a block's start there is room for as many lines as it has bytes, with two constants each.
+        unsafe { *self.file.get_unchecked_mut(place) = MaybeUninit::new(value) };
         self.filled += 1;
         (place as u16, at)
     }
 
     #[inline(always)]
     fn target(&mut self, line: Window, at: usize) -> (u16, usize) {
-        let (value, at) = self.number(line, at);
-        self.wrong |= u64::from(value > u64::from(LARGEST));
-        self.farthest = self.farthest.max((value as u32).wrapping_sub(2));
+        let (value, at) = self.number(line, at, LARGEST);
+        self.farthest = self.farthest.max(value.wrapping_sub(2));
         ((value as u16).wrapping_sub(1), at)
     }
 
@@ -272,7 +305,7 @@ impl Reader<'_> {
         let joined = goto | line.eight(at) ^ ELSE_WORD;
         let (b, at) = self.target(line, at + 6);
         self.wrong |= joined & SIX_BYTES | u64::from(head ^ IF_WORD);
-        (Instruction { code: BRANCH, x, a, b }, at)
+        (Instruction::new(BRANCH, x, a, b), at)
     }
 
     #[inline(always)]
@@ -281,13 +314,13 @@ impl Reader<'_> {
         self.wrong |= u64::from(line.four(at) ^ BECOMES_WORD);
         let (a, at) = self.operand(line, at + 4);
         if at == end {
-            return (Instruction { code: COPY, x, a, b: 0 }, at);
+            return (Instruction::new(COPY, x, a, 0), at);
         }
         let sign = line.four(at);
         let code = OPERATOR[usize::from((sign >> 8) as u8)];
         self.wrong |= u64::from(code & WRONG) | u64::from((sign ^ 0x0020_0020) & 0x00ff_00ff);
         let (b, at) = self.operand(line, at + 3);
-        (Instruction { code, x, a, b }, at)
+        (Instruction::new(code, x, a, b), at)
     }
 
     /// `read` or `write`, of which a program has one each.
@@ -297,20 +330,17 @@ impl Reader<'_> {
         if head & SIX_BYTES == READ_WORD {
             self.reads += 1;
             let (x, at) = self.variable(line, 5);
-            return (Instruction { code: READ, x, a: INPUT as u16, b: 0 }, at);
+            return (Instruction::new(READ, x, INPUT as u16, 0), at);
         }
         self.wrong |= head & SEVEN_BYTES ^ WRITE_WORD;
         self.writes += 1;
         let (x, at) = self.variable(line, 6);
-        (Instruction { code: WRITE, x, a: 0, b: 0 }, at)
+        (Instruction::new(WRITE, x, 0, 0), at)
     }
 
     /// The statement of the line that ends so many bytes from here.
     #[inline(always)]
     fn line(&mut self, line: Window, end: usize) {
-        if self.count >= MOST_LINES {
-            self.filled = CONSTANTS;
-        }
         let head = line.four(0);
         let (instruction, at) = if head as u8 == b'i' {
             if (head >> 8) as u8 == b'f' {
@@ -319,21 +349,26 @@ impl Reader<'_> {
                 self.assignment(line, end)
             }
         } else if head == SKIP_WORD {
-            (Instruction { code: SKIP, x: 0, a: 0, b: 0 }, 4)
+            (Instruction::new(SKIP, 0, 0, 0), 4)
         } else {
             self.edge(line)
         };
         self.wrong |= (at ^ end) as u64;
-        self.instructions[self.count.min(MOST_LINES)] = MaybeUninit::new(instruction);
+        debug_assert!(self.count < LINES);
+        // SAFETY: as with constants.
+        unsafe { *self.instructions.get_unchecked_mut(self.count) = MaybeUninit::new(instruction) };
         self.count += 1;
     }
 
     /// Reads all lines; whether each is spelled.
     #[inline(always)]
-    fn lines(&mut self, source: &Source) -> bool {
-        let mut ends = [MaybeUninit::<u16>::uninit(); BLOCK + AT_ONCE];
+    fn lines(&mut self, source: Source) -> bool {
+        let mut ends = unset::<u16, { BLOCK + AT_ONCE }>();
         let (mut start, mut block) = (0, 0);
         while block < source.text.len() {
+            if self.count > MOST_LINES {
+                (self.count, self.filled) = (MOST_LINES + 1, CONSTANTS);
+            }
             let (mut count, mut from) = (0, 0);
             while from < BLOCK && block + from < source.text.len() {
                 let mut found = source.window(block + from).ends();
@@ -366,8 +401,7 @@ impl Reader<'_> {
 
 /// A program that is taken, with the values that its run starts from.
 pub struct Program {
-    /// One more, for lines beyond the most.
-    instructions: [MaybeUninit<Instruction>; MOST_LINES + 1],
+    instructions: [MaybeUninit<Instruction>; LINES],
     count: usize,
     file: [MaybeUninit<u32>; PLACES],
     filled: usize,
@@ -376,12 +410,7 @@ pub struct Program {
 impl Program {
     #[inline(always)]
     pub fn empty() -> Program {
-        Program {
-            instructions: [MaybeUninit::uninit(); MOST_LINES + 1],
-            count: 0,
-            file: [MaybeUninit::uninit(); PLACES],
-            filled: 0,
-        }
+        Program { instructions: unset(), count: 0, file: unset(), filled: 0 }
     }
 
     /// Fills an empty program; or the refusal, 2 to 5.
@@ -396,7 +425,10 @@ impl Program {
             reads: 0,
             writes: 0,
         };
-        if !reader.lines(&Source::new(text)) {
+        let tail_start = text.len().saturating_sub(WINDOW);
+        let mut tail = [0; 2 * WINDOW];
+        tail[..text.len() - tail_start].copy_from_slice(&text[tail_start..]);
+        if !reader.lines(Source { text, tail: &tail, tail_start }) {
             return Err(2);
         }
         let Reader { count, filled, farthest, reads, writes, .. } = reader;

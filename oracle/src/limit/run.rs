@@ -1,10 +1,11 @@
 //! Runs in two ways: step by step, and, once a run has made more steps than its program has statements, by stretches, each up to
-//! the next jump: its steps and ticks are added at once, `skip` is left out, and two steps go by one code.
+//! the next jump: its steps and ticks are added at once, `skip` is left out, and two steps and a jump behind them go by one code.
 
-use super::read::{self, Instruction, Program, INPUT};
+use super::read::{self, unset, Instruction, Program, INPUT};
 use crate::machine::{kept_of, Outcome, Values, LARGEST_BUDGET, VALUES};
 use crate::pricing::{in_force, Prices, KINDS};
 use crate::program::MOST_LINES;
+use std::hint::unreachable_unchecked;
 use std::mem::MaybeUninit;
 use std::sync::atomic::{compiler_fence, Ordering};
 
@@ -124,7 +125,6 @@ const COPY: u8 = 0;
 const JUMP: u8 = 7;
 const BRANCH: u8 = 8;
 const WRITE: u8 = 9;
-const CODES: u8 = 10;
 
 /// A step's code among those of stretches; `skip` has none.
 fn code_of(step: &Instruction) -> u8 {
@@ -137,10 +137,30 @@ fn code_of(step: &Instruction) -> u8 {
     }
 }
 
+/// A step goes by the codes of itself and of the two behind it: what it does, what the second does or that it isn't performed
+/// with it, and what comes behind: neither, a jump, a branch.
+const SECONDS: u8 = JUMP + 1;
+const ENDS: u8 = 3;
+const ONLY_JUMP: u8 = SECONDS * ENDS * JUMP;
+const ONLY_BRANCH: u8 = ONLY_JUMP + 1;
+const ONLY_WRITE: u8 = ONLY_JUMP + 2;
+
+fn joined_code([code, next, behind]: [u8; 3]) -> u8 {
+    let end = |code: u8| match code {
+        JUMP => 1,
+        BRANCH => 2,
+        _ => 0,
+    };
+    match (code, next) {
+        (JUMP..=WRITE, _) => ONLY_JUMP + (code - JUMP),
+        (_, JUMP..=WRITE) => ENDS * (SECONDS * code + JUMP) + end(next),
+        _ => ENDS * (SECONDS * code + next) + end(behind),
+    }
+}
+
 /// A program's stretches. Steps stand at the end of the array, in the order of statements, without `skip`.
 struct Stretches {
-    /// By step: its code, times the number of codes and with that of the next added where it doesn't end a stretch. Targets
-    /// are steps.
+    /// By step: its code joined with those behind it. Targets are steps.
     steps: [MaybeUninit<Instruction>; MOST_LINES],
     first: usize,
     /// By step that jumps: what is taken from either target to the end of its stretch.
@@ -166,43 +186,55 @@ impl Stretches {
     #[inline(always)]
     fn new() -> Stretches {
         Stretches {
-            steps: [MaybeUninit::uninit(); MOST_LINES],
+            steps: unset(),
             first: MOST_LINES,
-            taken: [MaybeUninit::uninit(); MOST_LINES],
-            statement: [MaybeUninit::uninit(); MOST_LINES],
-            step: [MaybeUninit::uninit(); MOST_LINES],
-            to_end: [MaybeUninit::uninit(); MOST_LINES],
+            taken: unset(),
+            statement: unset(),
+            step: unset(),
+            to_end: unset(),
         }
     }
 
     fn fill(&mut self, instructions: &[Instruction], prices: &[u64; KINDS]) {
-        let (mut to_end, mut next) = (0, 0);
+        let (mut to_end, mut next, mut behind) = (0, WRITE, WRITE);
         for (at, &step) in instructions.iter().enumerate().rev() {
             let price = prices[usize::from(step.code)];
             if step.code == read::SKIP {
                 to_end += price;
             } else {
                 let code = code_of(&step);
-                let pair = if code < JUMP { CODES * code + next } else { CODES * JUMP + code };
                 to_end = if code < JUMP { to_end + price } else { price };
                 self.first -= 1;
-                self.steps[self.first] = MaybeUninit::new(Instruction { code: pair, ..step });
+                let joined = joined_code([code, next, behind]);
+                self.steps[self.first] =
+                    MaybeUninit::new(Instruction::new(joined, step.x, step.a, step.b));
                 self.statement[self.first] = MaybeUninit::new(at as u16);
-                next = code;
+                (next, behind) = (code, next);
             }
             self.step[at] = MaybeUninit::new(self.first as u16);
             self.to_end[at] = MaybeUninit::new(to_end);
         }
         for at in self.first..MOST_LINES {
             let step = set!(self.steps, at);
-            if step.code == CODES * JUMP + JUMP || step.code == CODES * JUMP + BRANCH {
-                let targets = [usize::from(step.a), usize::from(step.b)];
-                let [a, b] = targets.map(|target| set!(self.step, target));
-                self.steps[at] = MaybeUninit::new(Instruction { a, b, ..step });
-                let taken = targets.map(|target| set!(self.to_end, target));
-                self.taken[at] = MaybeUninit::new(taken);
+            if step.code == ONLY_JUMP || step.code == ONLY_BRANCH {
+                let [a, b] = [step.a, step.b].map(|target| self.way(instructions, target));
+                self.steps[at] = MaybeUninit::new(Instruction::new(step.code, step.x, a.0, b.0));
+                self.taken[at] = MaybeUninit::new([a.1, b.1]);
             }
         }
+    }
+
+    /// The step to which a jump to this statement leads, and what is taken from the statement to the end of its stretch. Where
+    /// nothing but another jump stands there, that is made with it.
+    fn way(&self, instructions: &[Instruction], target: u16) -> (u16, u64) {
+        let target = usize::from(target);
+        let (step, taken) = (set!(self.step, target), set!(self.to_end, target));
+        if set!(self.steps, usize::from(step)).code != ONLY_JUMP {
+            return (step, taken);
+        }
+        let jump = instructions[usize::from(set!(self.statement, usize::from(step)))];
+        let target = usize::from(jump.a);
+        (set!(self.step, target), taken + set!(self.to_end, target))
     }
 
     /// Runs by stretches while the budget has room for the next, or answers.
@@ -260,38 +292,38 @@ impl Stretches {
                 unsafe { *file.get_unchecked_mut(usize::from(step.x)) = value };
             };
         }
-        /// The arms of the first step's code with each of the second's.
+        // The codes of a first step with each second one, and alone: neither jump nor branch behind them, a jump, a branch.
         macro_rules! dispatch {
-            ($($code:ident: $copy:literal $plus:literal $minus:literal $times:literal $less:literal
-                $equal:literal $divide:literal $jump:literal $branch:literal $write:literal;)*) => {
+            ($($first:ident: $($second:ident $on:literal $jump:literal $branch:literal),*;
+                $alone:literal $alone_jump:literal $alone_branch:literal;)*) => {
                 match set!(self.steps, at).code {
                     $(
-                        $copy => { step!($code, 0); step!(Copy, 1); at += 2; }
-                        $plus => { step!($code, 0); step!(Plus, 1); at += 2; }
-                        $minus => { step!($code, 0); step!(Minus, 1); at += 2; }
-                        $times => { step!($code, 0); step!(Times, 1); at += 2; }
-                        $less => { step!($code, 0); step!(Less, 1); at += 2; }
-                        $equal => { step!($code, 0); step!(Equal, 1); at += 2; }
-                        $divide => { step!($code, 0); step!(Divide, 1); at += 2; }
-                        $jump => { step!($code, 0); step!(Jump, 1); }
-                        $branch => { step!($code, 0); step!(Branch, 1); }
-                        $write => { step!($code, 0); step!(Write, 1); }
+                        $(
+                            $on => { step!($first, 0); step!($second, 1); at += 2; }
+                            $jump => { step!($first, 0); step!($second, 1); step!(Jump, 2); }
+                            $branch => { step!($first, 0); step!($second, 1); step!(Branch, 2); }
+                        )*
+                        $alone => { step!($first, 0); at += 1; }
+                        $alone_jump => { step!($first, 0); step!(Jump, 1); }
+                        $alone_branch => { step!($first, 0); step!(Branch, 1); }
                     )*
-                    77 => { step!(Jump, 0); }
-                    78 => { step!(Branch, 0); }
-                    _ => { step!(Write, 0); }
+                    ONLY_JUMP => { step!(Jump, 0); }
+                    ONLY_BRANCH => { step!(Branch, 0); }
+                    ONLY_WRITE => { step!(Write, 0); }
+                    // SAFETY: `fill` makes no other code.
+                    _ => unsafe { unreachable_unchecked() },
                 }
             };
         }
         loop {
             dispatch! {
-                Copy: 0 1 2 3 4 5 6 7 8 9;
-                Plus: 10 11 12 13 14 15 16 17 18 19;
-                Minus: 20 21 22 23 24 25 26 27 28 29;
-                Times: 30 31 32 33 34 35 36 37 38 39;
-                Less: 40 41 42 43 44 45 46 47 48 49;
-                Equal: 50 51 52 53 54 55 56 57 58 59;
-                Divide: 60 61 62 63 64 65 66 67 68 69;
+                Copy: Copy 0 1 2, Plus 3 4 5, Minus 6 7 8, Times 9 10 11, Less 12 13 14, Equal 15 16 17, Divide 18 19 20; 21 22 23;
+                Plus: Copy 24 25 26, Plus 27 28 29, Minus 30 31 32, Times 33 34 35, Less 36 37 38, Equal 39 40 41, Divide 42 43 44; 45 46 47;
+                Minus: Copy 48 49 50, Plus 51 52 53, Minus 54 55 56, Times 57 58 59, Less 60 61 62, Equal 63 64 65, Divide 66 67 68; 69 70 71;
+                Times: Copy 72 73 74, Plus 75 76 77, Minus 78 79 80, Times 81 82 83, Less 84 85 86, Equal 87 88 89, Divide 90 91 92; 93 94 95;
+                Less: Copy 96 97 98, Plus 99 100 101, Minus 102 103 104, Times 105 106 107, Less 108 109 110, Equal 111 112 113, Divide 114 115 116; 117 118 119;
+                Equal: Copy 120 121 122, Plus 123 124 125, Minus 126 127 128, Times 129 130 131, Less 132 133 134, Equal 135 136 137, Divide 138 139 140; 141 142 143;
+                Divide: Copy 144 145 146, Plus 147 148 149, Minus 150 151 152, Times 153 154 155, Less 156 157 158, Equal 159 160 161, Divide 162 163 164; 165 166 167;
             }
         }
     }
