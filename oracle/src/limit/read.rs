@@ -1,5 +1,5 @@
 //! Reading into instructions of eight bytes. Line ends are found 64 bytes at a time, ahead of reading; variables are looked up,
-//! numbers read eight digits at once, and faults joined, so that jumps go by kinds of statements and operands alone.
+//! numbers read four or eight digits at once, and faults joined, so that jumps go by kinds of statements and operands alone.
 
 use crate::machine::{Values, VALUES};
 use crate::program::{LARGEST, MOST_LINES, VARIABLES};
@@ -70,7 +70,7 @@ const fn variables() -> [u8; 1 << 16] {
         let mut next = 0;
         while next < 256 {
             if next < b'0' as usize || next > b'9' as usize {
-                table[b'0' as usize + value | next << 8] = value as u8;
+                table[(b'0' as usize + value) | (next << 8)] = value as u8;
             }
             next += 1;
         }
@@ -78,7 +78,7 @@ const fn variables() -> [u8; 1 << 16] {
     }
     while value < VARIABLES as usize {
         let (first, second) = (b'0' as usize + value / 10, b'0' as usize + value % 10);
-        table[first | second << 8] = value as u8 | TWO_DIGITS;
+        table[first | (second << 8)] = value as u8 | TWO_DIGITS;
         value += 1;
     }
     table
@@ -118,12 +118,11 @@ impl<'a> Source<'a> {
     #[inline(always)]
     fn window(self, start: usize) -> Window<'a> {
         debug_assert!(start < self.text.len());
-        let is_near = start < self.tail_start;
-        let (bytes, from) =
-            if is_near { (self.text.as_ptr(), 0) } else { (self.tail.as_ptr(), self.tail_start) };
+        let tail = self.tail.as_ptr().wrapping_sub(self.tail_start);
+        let bytes = if start < self.tail_start { self.text.as_ptr() } else { tail };
         // SAFETY: before the tail's start the text has as many bytes more as the window; the tail has no more than that many from
         // its start to the text's end, and as many more behind it.
-        Window { bytes: unsafe { &*bytes.add(start - from).cast::<[u8; WINDOW]>() } }
+        Window { bytes: unsafe { &*bytes.wrapping_add(start).cast::<[u8; WINDOW]>() } }
     }
 }
 
@@ -300,11 +299,11 @@ impl Reader<'_> {
     #[inline(always)]
     fn branch(&mut self, line: Window, head: u32) -> (Instruction, usize) {
         let (x, at) = self.variable(line, 3);
-        let (goto, otherwise) = (line.eight(at) ^ GOTO_WORD, at + 6);
-        let (a, at) = self.target(line, otherwise);
-        let joined = goto | line.eight(at) ^ ELSE_WORD;
+        let goto = line.eight(at) ^ GOTO_WORD;
+        let (a, at) = self.target(line, at + 6);
+        let otherwise = line.eight(at) ^ ELSE_WORD;
         let (b, at) = self.target(line, at + 6);
-        self.wrong |= joined & SIX_BYTES | u64::from(head ^ IF_WORD);
+        self.wrong |= (goto | otherwise) & SIX_BYTES | u64::from(head ^ IF_WORD);
         (Instruction::new(BRANCH, x, a, b), at)
     }
 

@@ -128,6 +128,32 @@ fn the_largest_budget_is_the_plain_ones() {
     }
 }
 
+/// A division that faults after some rounds, at every place of its stretch.
+#[test]
+fn faults_within_stretches_are_the_plain_ones() {
+    const AROUND: [&str; 4] = ["i4 := i4 + i0", "skip", "i5 := i4", "i6 := i5 < 3"];
+    for before in 0..=AROUND.len() {
+        for behind in 0..=AROUND.len() {
+            let mut inner = vec!["i0 := i0 - 1"];
+            inner.extend(&AROUND[..before]);
+            inner.push("i1 := 100 / i0");
+            inner.extend(&AROUND[AROUND.len() - behind..]);
+            let text = format!("read i0\n{}\nif i0 goto 2 else 2\nwrite i1\n", inner.join("\n"));
+            let statement = before as u32 + 3;
+            for rounds in [1, 2, 3, 4, 50] {
+                let outcome = same(text.as_bytes(), &ZEROS, rounds, 1_000, &ODD);
+                let steps = match outcome {
+                    Ok(Outcome::Fault { statement: told, steps, .. }) if told == statement => steps,
+                    _ => panic!("{outcome:?} {text}"),
+                };
+                for budget in steps.saturating_sub(9)..steps + 9 {
+                    let _ = same(text.as_bytes(), &ZEROS, rounds, budget, &ODD);
+                }
+            }
+        }
+    }
+}
+
 #[test]
 fn quotients_are_the_plain_ones() {
     let ends = ["-2147483648", "-2147483647", "-7", "-1", "0", "1", "2", "2147483647"];
