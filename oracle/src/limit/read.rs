@@ -26,14 +26,14 @@ pub struct Instruction {
     pub x: u8,
     pub a: u16,
     pub b: u16,
-    /// Fills eight bytes, so that an instruction is put down at once.
-    unused: u16,
+    /// The code that a step of a stretch goes by, with those behind it.
+    pub joined: u16,
 }
 
 impl Instruction {
     #[inline(always)]
-    pub fn new(code: u8, x: u8, a: u16, b: u16) -> Instruction {
-        Instruction { code, x, a, b, unused: 0 }
+    fn new(code: u8, x: u8, a: u16, b: u16) -> Instruction {
+        Instruction { code, x, a, b, joined: 0 }
     }
 }
 

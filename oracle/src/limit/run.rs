@@ -55,32 +55,32 @@ macro_rules! at {
     }};
 }
 
-/// What an instruction assigns; or where it divides by 0, what is done.
+/// What an instruction assigns by its operands' values; or where it divides by 0, what is done.
 macro_rules! value {
-    (Copy, $file:ident, $step:ident, $fault:expr) => {
-        at!($file, $step.a)
+    (Copy, $a:expr, $b:expr, $fault:expr) => {
+        $a
     };
-    (Plus, $file:ident, $step:ident, $fault:expr) => {
-        at!($file, $step.a).wrapping_add(at!($file, $step.b))
+    (Plus, $a:expr, $b:expr, $fault:expr) => {
+        $a.wrapping_add($b)
     };
-    (Minus, $file:ident, $step:ident, $fault:expr) => {
-        at!($file, $step.a).wrapping_sub(at!($file, $step.b))
+    (Minus, $a:expr, $b:expr, $fault:expr) => {
+        $a.wrapping_sub($b)
     };
-    (Times, $file:ident, $step:ident, $fault:expr) => {
-        at!($file, $step.a).wrapping_mul(at!($file, $step.b))
+    (Times, $a:expr, $b:expr, $fault:expr) => {
+        $a.wrapping_mul($b)
     };
-    (Less, $file:ident, $step:ident, $fault:expr) => {
-        u32::from((at!($file, $step.a) as i32) < at!($file, $step.b) as i32)
+    (Less, $a:expr, $b:expr, $fault:expr) => {
+        u32::from(($a as i32) < $b as i32)
     };
-    (Equal, $file:ident, $step:ident, $fault:expr) => {
-        u32::from(at!($file, $step.a) == at!($file, $step.b))
+    (Equal, $a:expr, $b:expr, $fault:expr) => {
+        u32::from($a == $b)
     };
-    (Divide, $file:ident, $step:ident, $fault:expr) => {{
-        let divisor = at!($file, $step.b) as i32;
+    (Divide, $a:expr, $b:expr, $fault:expr) => {{
+        let divisor = $b as i32;
         if divisor == 0 {
             return $fault;
         }
-        (at!($file, $step.a) as i32).wrapping_div(divisor) as u32
+        ($a as i32).wrapping_div(divisor) as u32
     }};
 }
 
@@ -95,6 +95,11 @@ fn step_on(
     for _ in place.steps()..until {
         let step = instructions[place.at];
         place.taken += prices[usize::from(step.code)];
+        macro_rules! value_by {
+            ($code:ident) => {
+                value!($code, at!(file, step.a), at!(file, step.b), Some(place.fault()))
+            };
+        }
         let value = match step.code {
             read::SKIP => {
                 place.at += 1;
@@ -106,13 +111,13 @@ fn step_on(
                 continue;
             }
             read::WRITE => return Some(place.ended(at!(file, step.x), file)),
-            read::PLUS => value!(Plus, file, step, None),
-            read::MINUS => value!(Minus, file, step, None),
-            read::TIMES => value!(Times, file, step, None),
-            read::LESS => value!(Less, file, step, None),
-            read::EQUAL => value!(Equal, file, step, None),
-            read::DIVIDE => value!(Divide, file, step, Some(place.fault())),
-            _ => value!(Copy, file, step, None),
+            read::PLUS => value_by!(Plus),
+            read::MINUS => value_by!(Minus),
+            read::TIMES => value_by!(Times),
+            read::LESS => value_by!(Less),
+            read::EQUAL => value_by!(Equal),
+            read::DIVIDE => value_by!(Divide),
+            _ => value_by!(Copy),
         };
         file[usize::from(step.x)] = value;
         place.at += 1;
@@ -138,23 +143,27 @@ fn code_of(step: &Instruction) -> u8 {
 }
 
 /// A step goes by the codes of itself and of the two behind it: what it does, what the second does or that it isn't performed
-/// with it, and what comes behind: neither, a jump, a branch.
-const SECONDS: u8 = JUMP + 1;
-const ENDS: u8 = 3;
-const ONLY_JUMP: u8 = SECONDS * ENDS * JUMP;
-const ONLY_BRANCH: u8 = ONLY_JUMP + 1;
-const ONLY_WRITE: u8 = ONLY_JUMP + 2;
+/// with it, and what comes behind: neither, a jump, a branch. Pairs of which the second uses what the first assigns have codes
+/// of their own.
+const SECONDS: u16 = JUMP as u16 + 1;
+const ENDS: u16 = 3;
+const ONLY_JUMP: u16 = SECONDS * ENDS * JUMP as u16;
+const ONLY_BRANCH: u16 = ONLY_JUMP + 1;
+const ONLY_WRITE: u16 = ONLY_JUMP + 2;
+const USING: u16 = ONLY_JUMP + 3;
 
-fn joined_code([code, next, behind]: [u8; 3]) -> u8 {
+fn joined_code([code, next, behind]: [u8; 3], is_used: bool) -> u16 {
     let end = |code: u8| match code {
         JUMP => 1,
         BRANCH => 2,
         _ => 0,
     };
+    let (first, second) = (u16::from(code), u16::from(next));
     match (code, next) {
-        (JUMP..=WRITE, _) => ONLY_JUMP + (code - JUMP),
-        (_, JUMP..=WRITE) => ENDS * (SECONDS * code + JUMP) + end(next),
-        _ => ENDS * (SECONDS * code + next) + end(behind),
+        (JUMP..=WRITE, _) => ONLY_JUMP + u16::from(code - JUMP),
+        (_, JUMP..=WRITE) => ENDS * (SECONDS * first + SECONDS - 1) + end(next),
+        _ if is_used => USING + ENDS * ((SECONDS - 1) * first + second) + end(behind),
+        _ => ENDS * (SECONDS * first + second) + end(behind),
     }
 }
 
@@ -196,7 +205,7 @@ impl Stretches {
     }
 
     fn fill(&mut self, instructions: &[Instruction], prices: &[u64; KINDS]) {
-        let (mut to_end, mut next, mut behind) = (0, WRITE, WRITE);
+        let (mut to_end, mut next, mut behind, mut used) = (0, WRITE, WRITE, [0; 2]);
         for (at, &step) in instructions.iter().enumerate().rev() {
             let price = prices[usize::from(step.code)];
             if step.code == read::SKIP {
@@ -205,20 +214,20 @@ impl Stretches {
                 let code = code_of(&step);
                 to_end = if code < JUMP { to_end + price } else { price };
                 self.first -= 1;
-                let joined = joined_code([code, next, behind]);
-                self.steps[self.first] =
-                    MaybeUninit::new(Instruction::new(joined, step.x, step.a, step.b));
+                let is_used = used.contains(&u16::from(step.x));
+                let joined = joined_code([code, next, behind], is_used);
+                self.steps[self.first] = MaybeUninit::new(Instruction { joined, ..step });
                 self.statement[self.first] = MaybeUninit::new(at as u16);
-                (next, behind) = (code, next);
+                (next, behind, used) = (code, next, [step.a, step.b]);
             }
             self.step[at] = MaybeUninit::new(self.first as u16);
             self.to_end[at] = MaybeUninit::new(to_end);
         }
         for at in self.first..MOST_LINES {
             let step = set!(self.steps, at);
-            if step.code == ONLY_JUMP || step.code == ONLY_BRANCH {
+            if step.code == read::BRANCH {
                 let [a, b] = [step.a, step.b].map(|target| self.way(instructions, target));
-                self.steps[at] = MaybeUninit::new(Instruction::new(step.code, step.x, a.0, b.0));
+                self.steps[at] = MaybeUninit::new(Instruction { a: a.0, b: b.0, ..step });
                 self.taken[at] = MaybeUninit::new([a.1, b.1]);
             }
         }
@@ -229,7 +238,7 @@ impl Stretches {
     fn way(&self, instructions: &[Instruction], target: u16) -> (u16, u64) {
         let target = usize::from(target);
         let (step, taken) = (set!(self.step, target), set!(self.to_end, target));
-        if set!(self.steps, usize::from(step)).code != ONLY_JUMP {
+        if set!(self.steps, usize::from(step)).joined != ONLY_JUMP {
             return (step, taken);
         }
         let jump = instructions[usize::from(set!(self.statement, usize::from(step)))];
@@ -285,18 +294,43 @@ impl Stretches {
                 taken = further;
                 at = usize::from(set!(self.steps, at + $ahead).$target);
             }};
+            ($first:ident by $second:ident) => {
+                let (one, other) = (set!(self.steps, at), set!(self.steps, at + 1));
+                let value = value!($first, at!(file, one.a), at!(file, one.b), fault(taken, at));
+                step!(one = value);
+                // What was just assigned isn't waited for.
+                macro_rules! after {
+                    ($place:expr) => {
+                        if $place == u16::from(one.x) {
+                            compiler_fence(Ordering::SeqCst);
+                            value
+                        } else {
+                            at!(file, $place)
+                        }
+                    };
+                }
+                let value =
+                    value!($second, after!(other.a), after!(other.b), fault(taken, at + 1));
+                step!(other = value);
+            };
             ($code:ident, $ahead:literal) => {
                 let step = set!(self.steps, at + $ahead);
-                let value = value!($code, file, step, fault(taken, at + $ahead));
+                let value =
+                    value!($code, at!(file, step.a), at!(file, step.b), fault(taken, at + $ahead));
+                step!(step = value);
+            };
+            ($step:ident = $value:ident) => {
                 // SAFETY: the file has the values of all variables.
-                unsafe { *file.get_unchecked_mut(usize::from(step.x)) = value };
+                unsafe { *file.get_unchecked_mut(usize::from($step.x)) = $value };
             };
         }
-        // The codes of a first step with each second one, and alone: neither jump nor branch behind them, a jump, a branch.
+        // The codes of a first step with each second one, and alone: neither jump nor branch behind them, a jump, a branch. Then
+        // those with a second one that uses what the first assigns.
         macro_rules! dispatch {
             ($($first:ident: $($second:ident $on:literal $jump:literal $branch:literal),*;
-                $alone:literal $alone_jump:literal $alone_branch:literal;)*) => {
-                match set!(self.steps, at).code {
+                $alone:literal $alone_jump:literal $alone_branch:literal;)* =>
+                $($one:ident: $($by:ident $by_on:literal $by_jump:literal $by_branch:literal),*;)*) => {
+                match set!(self.steps, at).joined {
                     $(
                         $(
                             $on => { step!($first, 0); step!($second, 1); at += 2; }
@@ -307,6 +341,11 @@ impl Stretches {
                         $alone_jump => { step!($first, 0); step!(Jump, 1); }
                         $alone_branch => { step!($first, 0); step!(Branch, 1); }
                     )*
+                    $($(
+                        $by_on => { step!($one by $by); at += 2; }
+                        $by_jump => { step!($one by $by); step!(Jump, 2); }
+                        $by_branch => { step!($one by $by); step!(Branch, 2); }
+                    )*)*
                     ONLY_JUMP => { step!(Jump, 0); }
                     ONLY_BRANCH => { step!(Branch, 0); }
                     ONLY_WRITE => { step!(Write, 0); }
@@ -324,6 +363,14 @@ impl Stretches {
                 Less: Copy 96 97 98, Plus 99 100 101, Minus 102 103 104, Times 105 106 107, Less 108 109 110, Equal 111 112 113, Divide 114 115 116; 117 118 119;
                 Equal: Copy 120 121 122, Plus 123 124 125, Minus 126 127 128, Times 129 130 131, Less 132 133 134, Equal 135 136 137, Divide 138 139 140; 141 142 143;
                 Divide: Copy 144 145 146, Plus 147 148 149, Minus 150 151 152, Times 153 154 155, Less 156 157 158, Equal 159 160 161, Divide 162 163 164; 165 166 167;
+                =>
+                Copy: Copy 171 172 173, Plus 174 175 176, Minus 177 178 179, Times 180 181 182, Less 183 184 185, Equal 186 187 188, Divide 189 190 191;
+                Plus: Copy 192 193 194, Plus 195 196 197, Minus 198 199 200, Times 201 202 203, Less 204 205 206, Equal 207 208 209, Divide 210 211 212;
+                Minus: Copy 213 214 215, Plus 216 217 218, Minus 219 220 221, Times 222 223 224, Less 225 226 227, Equal 228 229 230, Divide 231 232 233;
+                Times: Copy 234 235 236, Plus 237 238 239, Minus 240 241 242, Times 243 244 245, Less 246 247 248, Equal 249 250 251, Divide 252 253 254;
+                Less: Copy 255 256 257, Plus 258 259 260, Minus 261 262 263, Times 264 265 266, Less 267 268 269, Equal 270 271 272, Divide 273 274 275;
+                Equal: Copy 276 277 278, Plus 279 280 281, Minus 282 283 284, Times 285 286 287, Less 288 289 290, Equal 291 292 293, Divide 294 295 296;
+                Divide: Copy 297 298 299, Plus 300 301 302, Minus 303 304 305, Times 306 307 308, Less 309 310 311, Equal 312 313 314, Divide 315 316 317;
             }
         }
     }

@@ -128,6 +128,37 @@ fn the_largest_budget_is_the_plain_ones() {
     }
 }
 
+/// Every two operators at the start of a stretch, of which the second uses what the first assigns or doesn't, with neither jump nor
+/// branch behind them, a jump, and a branch: all codes that steps are joined to.
+#[test]
+fn every_joined_code_is_the_plain_steps() {
+    const OPERATORS: [&str; 7] = ["", "+", "-", "*", "<", "=", "/"];
+    const USED: [[&str; 2]; 4] = [["i2", "i3"], ["i1", "i3"], ["i2", "i1"], ["i1", "i1"]];
+    const BEHIND: [&str; 3] = ["i6 := i6 + 1", "if i0 goto 6 else 6", "if i4 goto 6 else 7"];
+    let spelled = |operator: &str, [a, b]: [&str; 2]| match operator {
+        "" => a.to_string(),
+        _ => format!("{a} {operator} {b}"),
+    };
+    let starts = [[7, 3], [0, 5], [1 << 31, u32::MAX], [4, 0]];
+    for first in OPERATORS.map(|operator| spelled(operator, USED[0])) {
+        for second in OPERATORS.into_iter().flat_map(|o| USED.map(|used| spelled(o, used))) {
+            for behind in BEHIND {
+                let text = format!(
+                    "read i5\nif i5 goto 3 else 9\ni1 := {first}\ni4 := {second}\n{behind}\n\
+                     i2 := i2 + i4\ni5 := i5 - 1\nif i0 goto 2 else 2\nwrite i4\n"
+                );
+                for [i2, i3] in starts {
+                    let mut values = ZEROS;
+                    (values[2], values[3]) = (i2, i3);
+                    for budget in [57, 58, 59, 60, 61, 1_000] {
+                        let _ = same(text.as_bytes(), &values, 12, budget, &ODD);
+                    }
+                }
+            }
+        }
+    }
+}
+
 /// A division that faults after some rounds, at every place of its stretch.
 #[test]
 fn faults_within_stretches_are_the_plain_ones() {
