@@ -7,7 +7,7 @@ mod time;
 use inputs::{atoms_condition, binary_condition, text, unary_condition, OPERATORS};
 use inputs::{cse_and_rm_marks_for, cse_marks_for, different_marks_for, marks_for};
 use oracle::pricing::{table_text, OURS};
-use oracle::tuned;
+use oracle::{limit, tuned};
 use rewrites::{force, join, judge, list, relist, report, review, run, tabulate, why, witness};
 use rewrites::{go_back, keep, Prices, PLACES, PLACE_BYTES, STAGES_BYTES};
 use rewrites::{
@@ -98,6 +98,26 @@ fn print_heading(title: &str, last: &str) {
 /// A buyer's prices.
 const BUYERS: Prices = Prices([6, 6, 9, 5, 2, 2, 2, 3, 2, 2, 18]);
 
+/// What loops are made of, which never end.
+const LOOPS: [(&str, &[&str]); 9] = [
+    ("skip", &["skip", "skip", "skip", "skip"]),
+    ("copies", &["i1 := i0", "i2 := 7", "i3 := i2", "i4 := i1"]),
+    ("sums and differences", &["i1 := i1 + i0", "i2 := i2 - 1"]),
+    ("products", &["i1 := i1 * i0", "i2 := i1 * 7"]),
+    ("quotients by constants", &["i1 := i0 / 3", "i2 := i1 / -1"]),
+    ("quotients by variables", &["i1 := 1000 / i0", "i2 := i1 / i0"]),
+    ("comparisons", &["i1 := i2 < i0", "i2 := i1 = 0"]),
+    ("jumps", &["if i1 goto 3 else 4", "skip", "if i0 goto 5 else 2", "skip"]),
+    ("all of them", &["i1 := i1 + i0", "i2 := i1 * 7", "i3 := i2 < i1", "skip", "i4 := i3"]),
+];
+
+fn loop_of(statements: &[&str]) -> Vec<u8> {
+    let mut lines = vec!["read i0"];
+    lines.extend(statements);
+    lines.extend(["if i31 goto 2 else 2", "write i0"]);
+    text(&lines)
+}
+
 /// By our prices, by the tuned call, and by a buyer's prices, whose time is told beside ours.
 fn print_runs(worst: &mut Worst) {
     print_heading(
@@ -106,22 +126,8 @@ fn print_runs(worst: &mut Worst) {
     );
     let ours = Prices::ours();
     let mut largest = (0.0, "");
-    let loops: [(&str, &[&str]); 9] = [
-        ("skip", &["skip", "skip", "skip", "skip"]),
-        ("copies", &["i1 := i0", "i2 := 7", "i3 := i2", "i4 := i1"]),
-        ("sums and differences", &["i1 := i1 + i0", "i2 := i2 - 1"]),
-        ("products", &["i1 := i1 * i0", "i2 := i1 * 7"]),
-        ("quotients by constants", &["i1 := i0 / 3", "i2 := i1 / -1"]),
-        ("quotients by variables", &["i1 := 1000 / i0", "i2 := i1 / i0"]),
-        ("comparisons", &["i1 := i2 < i0", "i2 := i1 = 0"]),
-        ("jumps", &["if i1 goto 3 else 4", "skip", "if i0 goto 5 else 2", "skip"]),
-        ("all of them", &["i1 := i1 + i0", "i2 := i1 * 7", "i3 := i2 < i1", "skip", "i4 := i3"]),
-    ];
-    for (name, statements) in loops {
-        let mut lines = vec!["read i0"];
-        lines.extend(statements);
-        lines.extend(["if i31 goto 2 else 2", "write i0"]);
-        let program = text(&lines);
+    for (name, statements) in LOOPS {
+        let program = loop_of(statements);
         let values = [0; VARIABLES];
         for prices in [ours, BUYERS] {
             let ticks = run(&program, &values, 7, MOST_STEPS, &prices).map(|it| it.ticks());
@@ -952,6 +958,36 @@ fn print_relists(worst: &mut Worst) {
     println!("largest ratio to judging: {:.2} ({})", largest.0, largest.1);
 }
 
+// At the limit
+
+/// The same loops and texts, beside the call that is as fast as plain Rust can be.
+fn print_limit() {
+    println!(
+        "\nAt the limit: runs of 1,000,000 steps, and reading (run under budget 0), in microseconds\n{:<52} {:>10} {:>10} {:>7}",
+        "", "ours", "limit", "ratio"
+    );
+    let loops = LOOPS.map(|(name, statements)| {
+        (format!("loop of {}", name), loop_of(statements), MOST_STEPS, RUN_TIMES)
+    });
+    let texts = SIZES.map(|lines| {
+        let program = good_text(lines);
+        (format!("reading {} lines, {} bytes", lines, program.len()), program, 0, TIMES)
+    });
+    for (name, program, budget, times) in loops.into_iter().chain(texts) {
+        let (values, ours) = ([0; VARIABLES], Prices::ours());
+        let ticks = run(&program, &values, 7, budget, &ours).map(|it| it.ticks());
+        let wanted = limit::run(&program, &values, 7, budget, &OURS).map(|it| it.ticks());
+        assert_eq!(ticks.ok(), wanted.ok());
+        let found = medians(
+            times,
+            [&mut || run(&program, &values, 7, budget, &ours).is_ok(), &mut || {
+                limit::run(&program, &values, 7, budget, &OURS).is_ok()
+            }],
+        );
+        print_line(&name, found, "");
+    }
+}
+
 fn main() {
     let mut worst = Worst::default();
     println!("machine: {}", machine());
@@ -975,6 +1011,7 @@ fn main() {
     print_reports(&mut worst);
     print_lists(&mut worst);
     print_relists(&mut worst);
+    print_limit();
     println!("\nlargest ratio, ordinary inputs:    {:.2} ({})", worst.ordinary.0, worst.ordinary.1);
     println!(
         "largest ratio, adversarial inputs: {:.2} ({})",

@@ -2,7 +2,7 @@
 //!
 //! It serves as the oracle of tests: the same calls, the same refusal numbers and the same contents of the
 //! lent buffers, by other algorithms. `generate` makes the random cases, `folder` those of files. `tuned` has the calls once more, made to
-//! be fast, as the yardstick of the benchmark.
+//! be fast, as the yardstick of the benchmark; `limit` has runs at the limit.
 
 pub mod check;
 pub mod condition;
@@ -11,6 +11,7 @@ pub mod folder;
 pub mod forcing;
 pub mod generate;
 pub mod join;
+pub mod limit;
 pub mod listing;
 pub mod liveness;
 pub mod machine;

@@ -9,6 +9,7 @@ mod forcing;
 mod generated;
 mod join;
 mod kept;
+mod limit;
 mod listing;
 mod mark_lines;
 mod naive;
@@ -100,9 +101,11 @@ fn all_judged(program: &str, list: &str) -> (Vec<u8>, String) {
     plain
 }
 
-/// A run by the plain and by the tuned call.
+/// A run by the plain, by the tuned call, and by that at the limit.
 fn ran(program: &str, values: Values, input: u32, budget: u32) -> Outcome {
     let plain = run(program.as_bytes(), values, input, budget, &OURS);
-    assert_eq!(crate::tuned::run(program.as_bytes(), &values, input, budget, &OURS), plain);
+    for run in [crate::tuned::run, crate::limit::run] {
+        assert_eq!(run(program.as_bytes(), &values, input, budget, &OURS), plain);
+    }
     plain.expect("the program is taken")
 }

@@ -11,7 +11,7 @@ use crate::program::{Program, MOST_LINES};
 use crate::tuned::{self, Told};
 
 /// A program's text, damaged or of pieces in some cases.
-fn program_text(random: &mut Random, program: &Program) -> Vec<u8> {
+pub(super) fn program_text(random: &mut Random, program: &Program) -> Vec<u8> {
     match random.below(20) {
         0 => generate::statement_soup(random),
         1..=3 => generate::damage(random, &program.text()),
