@@ -13,6 +13,7 @@ use common::option;
 use coverage::Tally;
 use oracle::check::LARGEST_FILE;
 use oracle::condition::{stop, MOST_PARTS};
+use oracle::desk::{read_start, Start};
 use oracle::generate::{self, Random};
 use oracle::liveness::Liveness;
 use oracle::machine::{self, Outcome, LARGEST_BUDGET};
@@ -520,13 +521,10 @@ fn steps_are_as_by_the_oracle() {
             }
             continue;
         }
-        // What the runner would take is a start here: lines of numbers, the last one ended.
-        let numbers: Vec<i64> = start.lines().map(|line| line.parse().expect("a number")).collect();
-        let mut values = [0; VARIABLES as usize];
-        for (value, number) in values.iter_mut().zip(&numbers[2..]) {
-            *value = *number as i32 as u32;
-        }
-        let (input, budget) = (numbers[0] as i32 as u32, numbers[1] as u32);
+        // What the runner would take is a start here, the last line ended.
+        let start = if start.ends_with('\n') { start } else { start + "\n" };
+        let Start { input, budget, values } =
+            read_start(start.as_bytes()).expect("a start that is taken");
         assert!(budget <= LARGEST_BUDGET);
         let file = if list.is_empty() || list.ends_with('\n') { list } else { list + "\n" };
         let marked = marks::read(file.as_bytes()).expect("a list that is taken");

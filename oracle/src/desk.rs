@@ -176,10 +176,12 @@ pub fn force(program: &[u8], driver: &[u8], condition: &[u8]) -> String {
 
 // Runs
 
-struct Start {
-    input: u32,
-    budget: u32,
-    values: Values,
+/// What a run starts from.
+#[derive(Debug)]
+pub struct Start {
+    pub input: u32,
+    pub budget: u32,
+    pub values: Values,
 }
 
 const INTEGERS: RangeInclusive<i64> = i32::MIN as i64..=i32::MAX as i64;
@@ -206,7 +208,7 @@ fn start_line(line: &[u8], next: usize) -> Option<(usize, u32)> {
 }
 
 /// The start that a text is, or what is printed of one that is wrong.
-fn read_start(text: &[u8]) -> Result<Start, String> {
+pub fn read_start(text: &[u8]) -> Result<Start, String> {
     let refused = |words: String| Err(format!("refused start\nthe start: {words}\n"));
     let mut numbers = [0; START_LINES];
     let (mut next, mut count) = (0, 0);
