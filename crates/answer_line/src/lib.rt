@@ -1,4 +1,6 @@
 // What a run answers, as a line.
+#![tactic(auto)]
+
 ghost use Rattle.std.specs.Prelude.{◌≤◌, ◌+◌, ◌*◌, length};
 ghost use Rattle.statement_writer.specs.Writing.{Put};
 ghost use Rattle.language.specs.Kept.{kept_count};

@@ -1,4 +1,6 @@
 // Values of 32 bits: what the operators give.
+#![tactic(auto)]
+
 ghost use Rattle.std.specs.Prelude.{◌≡◌, ◌*◌, ◌%◌, ◌^◌, ◌<◌, ◌&&◌, ◌==◌, int_lt};
 ghost use Rattle.std.specs.Int.{w32};
 ghost use Rattle.std.proofs.Common.{to_z, of_z};
@@ -7,7 +9,7 @@ ghost use Rattle.arithmetic.specs.Arithmetic.{apply, faults, given as givenBy};
 use language::Operator;
 
 // What an expression gives.
-#[derive(Drop)]
+#[derive(Clone, Copy)]
 pub enum Evaluated {
     Value(u32),
     Fault,

@@ -1,5 +1,7 @@
 // What two players can do on a program: the driver picks at each `if` on a variable of his, the unit at every other. The numbers of the
 // statements, in how many steps he can force a goal, and the arms that both take: 0 for none, 1 for `goto`, 2 for `else`.
+#![tactic(auto)]
+
 ghost use Rattle.std.specs.Prelude.{Bool, ◌≡◌, ℕ, ◌-◌, ◌*◌, ◌≤◌, ◌<◌, length, get_or};
 ghost use Rattle.bits.specs.Row.{member};
 ghost use Rattle.program.specs.Program.{Targets, WellFormed};

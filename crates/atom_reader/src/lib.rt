@@ -1,4 +1,6 @@
 // The readers of atoms: each takes what stands at a position of a text, and answers the position after it, which lies within the text.
+#![tactic(auto)]
+
 ghost use Rattle.std.specs.Prelude.{◌≡◌, ◌≤◌, ◌<◌, length, drop};
 ghost use Rattle.atom_reader.specs.Parsing.{parsed_atom, atom_end, parse_ended, parse_node, parse_stmt, parse_def, parse_use, parse_trans, parse_true_or_trans, parse_entry_or_exit, parse_atom};
 
@@ -6,7 +8,7 @@ use condition::Atom;
 use statement_reader::{ExpressionRead, StatementRead};
 use tokens::{NumberRead, VariableRead, WordRead};
 
-#[derive(Drop)]
+#[derive(Clone, Copy)]
 pub enum AtomRead {
     Found(Atom, usize),
     Misspelled,

@@ -1,4 +1,6 @@
 // What is found once of a program's statements, and the row of an atom from it.
+#![tactic(auto)]
+
 ghost use Rattle.std.specs.Prelude.{◌≡◌, false, List, ℕ, ◌+◌, ◌≤◌, ◌<◌, eqb, length};
 ghost use Rattle.language.specs.Spelling.{ValidVariable, ValidOperand, ValidExpression, Valid};
 ghost use Rattle.language.specs.Kept.{kept_count};

@@ -1,4 +1,6 @@
 // Sets of places as rows of 64-bit words, of any length: bit b of word w is place 64 w + b.
+#![tactic(auto)]
+
 ghost use Rattle.std.specs.Prelude.{◌≡◌, false, ◌||◌, ◌&&◌, not, ℕ, ◌-◌, ◌*◌, ◌≤◌, ◌<◌, length, eqb, ltb};
 ghost use Rattle.bits.specs.Row.{words, bit, member, count_below, First, Zeros, Alike};
 

@@ -1,4 +1,6 @@
 // Which line of a program's text a refusal is about.
+#![tactic(auto)]
+
 ghost use Rattle.std.specs.Prelude.{◌≡◌, List, length};
 ghost use Rattle.language.specs.declared.Statement.{Statement as Meant};
 ghost use Rattle.program.specs.Program.{Spells};
@@ -11,7 +13,7 @@ use program::Refusal;
 use statement_reader::StatementRead;
 
 // The number of a text's lines, or of the first that isn't spelled.
-#[derive(Drop)]
+#[derive(Clone, Copy)]
 pub enum Counted {
     Lines(usize),
     Misspelled(u32),

@@ -1,6 +1,8 @@
 // Document 01's check program: reads a program from the file `given` and a list of marks from `marks`, or from those that its arguments
 // name, and prints what `report` says of them; the words of a refusal go to standard error. A file that can't be opened reads as empty, and
 // the status tells it. One that can't be read to its end, or has over 65,535 bytes, leaves nothing to print.
+#![tactic(auto)]
+
 use desk::refusals::REFUSAL_ROOM;
 use files::{FileRead, REFUSAL, RESULT, UNREAD, UNWRITTEN};
 use libc::STDERR_FILENO;

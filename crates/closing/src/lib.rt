@@ -1,4 +1,6 @@
 // What is printed after the steps of two runs side by side: the outcome of each, and that they agree.
+#![tactic(auto)]
+
 ghost use Rattle.std.specs.Prelude.{◌≤◌, length};
 ghost use Rattle.closing.specs.Closing.{closing_room, RunAlike, TraceAlike, Closes};
 

@@ -1,4 +1,6 @@
 // Statements compared by a code of four numbers, and the variables that a statement shows as used.
+#![tactic(auto)]
+
 ghost use Rattle.std.specs.Prelude.{◌≡◌, length};
 ghost use Rattle.base.specs.Decides.{Decides};
 ghost use Rattle.truth.specs.Truth.{InOperand, In, Shows};
@@ -7,7 +9,7 @@ ghost use Rattle.codes.specs.Codes.{operand_code, operator_code, assign_code, st
 use language::{Expression, Operand, Operator, Statement};
 
 // A statement as numbers.
-#[derive(Drop)]
+#[derive(Clone, Copy)]
 pub struct Code {
     pub kind: u64,
     pub first: u64,

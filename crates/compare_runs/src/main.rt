@@ -1,5 +1,7 @@
 // Runs a program and its rewritten one side by side: compare_runs [PROGRAM [MARKS [START]]], files that default to `given`, `marks` and
 // `start`. Prints what crate `side_by_side` makes of their bytes, piece by piece.
+#![tactic(auto)]
+
 ghost use Rattle.std.specs.Prelude.{◌≡◌};
 ghost use Rattle.compare_runs.specs.Printing.{end_at, Printed};
 
@@ -8,7 +10,7 @@ use libc::STDERR_FILENO;
 use side_by_side::Stage;
 
 // Whether more is to be printed, or all is told, with this status.
-#[derive(Drop)]
+#[derive(Clone, Copy)]
 enum End {
     More,
     All(u8),

@@ -1,5 +1,7 @@
 // Two runs side by side: the lines of their steps, as many at a time as the lent bytes have room for. Before each step the variables that are
 // live there are tested to agree.
+#![tactic(auto)]
+
 ghost use Rattle.std.specs.Prelude.{◌≡◌, ◌≤◌, ◌<◌, ◌+◌, length};
 ghost use Rattle.language.specs.Spelling.{variables, spell_constant, spell_variable, ValidVariable, Valid};
 ghost use Rattle.statement_writer.specs.Writing.{Put};
@@ -108,7 +110,7 @@ fn line(
 
 // The bytes written, the place and the steps done, and whether the runs have ended; then the place is that of the statement that ended them.
 // And whether the variables that are live in p agreed before each step; where they don't, the runs stop.
-#[derive(Drop)]
+#[derive(Clone, Copy)]
 pub struct Progress {
     pub bytes: usize,
     pub at: u32,

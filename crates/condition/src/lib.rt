@@ -1,4 +1,6 @@
 // Conditions: definitions in specs/, laws in proofs/, no functions.
+#![tactic(auto)]
+
 use language::{Expression, Statement};
 
 // A condition's text has at most this many bytes, and the condition at most this many parts.
@@ -16,7 +18,7 @@ pub const END: u64 = START * FIELD;
 
 pub const FIELD: u64 = 65536;
 
-#[derive(Drop)]
+#[derive(Clone, Copy)]
 pub enum Atom {
     True,
     False,

@@ -1,4 +1,6 @@
 // Where the reading of a condition's text stops.
+#![tactic(auto)]
+
 ghost use Rattle.std.specs.Prelude.{◌≡◌, List, ◌++◌, ℕ, ◌+◌, ◌*◌, ◌^◌, ◌≤◌, length, drop};
 ghost use Rattle.condition.specs.Texts.{most_bytes};
 ghost use Rattle.viable.specs.Begins.{ByteTold};
@@ -17,14 +19,14 @@ const ROOM: usize = GROWTH * MOST_BYTES + 1;
 
 // Where the reading stands: the items from `top` on are expected, after digits that may go on a number. It is `value` so far, and is to stay
 // below `bound`; 0 is no number.
-#[derive(Drop)]
+#[derive(Clone, Copy)]
 pub struct State {
     pub top: usize,
     pub bound: u64,
     pub value: u64,
 }
 
-#[derive(Drop)]
+#[derive(Clone, Copy)]
 pub enum Step {
     Next(State),
     Stop,

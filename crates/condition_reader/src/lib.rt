@@ -1,4 +1,6 @@
 // Conditions: read from a text into their parts, with refusals 6 to 8.
+#![tactic(auto)]
+
 ghost use Rattle.std.specs.Prelude.{◌++◌, ◌≡◌, ◌≤◌, ◌<◌, length, drop, set, replicate};
 ghost use Rattle.condition.specs.Texts.{most_bytes, most_parts};
 ghost use Rattle.condition.specs.Words.{word};
@@ -12,21 +14,21 @@ use operator_reader::{Bracket, BracketRead, OperatorRead};
 use tokens::WordRead;
 
 // The refusals of a condition's text.
-#[derive(Drop)]
+#[derive(Clone, Copy)]
 pub enum Refusal {
     Length,
     Misspelled,
     PartCount,
 }
 
-#[derive(Drop)]
+#[derive(Clone, Copy)]
 pub enum Answer {
     Taken(u32),
     Refused(Refusal),
 }
 
 // Where the answer is `Taken`, with the number of parts, the first words are theirs. All other words are zeros.
-#[derive(Drop)]
+#[derive(Clone, Copy)]
 pub struct Reading {
     pub answer: Answer,
     pub words: [u64; MOST_PARTS],
@@ -44,7 +46,7 @@ pub fn number_of(r: Refusal) -> u8
 }
 
 // The position after the condition, and the number of parts so far.
-#[derive(Drop)]
+#[derive(Clone, Copy)]
 enum ConditionRead {
     Found(usize, usize),
     Misspelled,

@@ -1,4 +1,6 @@
 // The slip at the byte where the reading of a condition stops.
+#![tactic(auto)]
+
 ghost use Rattle.std.specs.Prelude.{◌≡◌, ◌∷◌, length, get_or, ◌≤◌};
 ghost use Rattle.base.specs.Decides.{Decides};
 ghost use Rattle.condition.specs.Texts.{most_bytes};

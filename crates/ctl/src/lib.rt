@@ -1,1 +1,2 @@
 // Path operators on a finite graph: definitions in specs/, theorems in proofs/, no code.
+#![tactic(auto)]

@@ -1,1 +1,2 @@
 // Demand 3: the claim in specs/, the theorem in proofs/, no code.
+#![tactic(auto)]

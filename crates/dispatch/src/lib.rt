@@ -1,4 +1,6 @@
 // One step by an entry's numbers, without its statement: what it does is what the statement does.
+#![tactic(auto)]
+
 ghost use Rattle.std.specs.Prelude.{◌≡◌, ◌<◌, eqb};
 ghost use Rattle.language.specs.Spelling.{variables, ValidOperand, Valid};
 ghost use Rattle.language.specs.declared.Expression.{Expression};

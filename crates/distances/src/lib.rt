@@ -1,5 +1,7 @@
 // In how many steps a goal is reached through a set of places, for each place of a graph, in time linear in the edges: a search by breadth,
 // backward from the goal. Each place that gets a number is queued once. `entry`, `chain` and `from` are the lists of the steps turned around.
+#![tactic(auto)]
+
 ghost use Rattle.std.specs.Prelude.{◌≡◌, Bool, not, ◌&&◌, ℕ, ◌+◌, ◌*◌, ◌≤◌, ◌<◌, length, get_or};
 ghost use Rattle.bits.specs.Row.{Zeros, member};
 ghost use Rattle.ctl.specs.Paths.{Graph};

@@ -1,4 +1,6 @@
 // The reader of the driver's list: the variables that are his, each once, with single spaces between them.
+#![tactic(auto)]
+
 ghost use Rattle.std.specs.Prelude.{◌≡◌, false, ℕ, ◌*◌, ◌≤◌, length};
 ghost use Rattle.language.specs.Spelling.{variables};
 ghost use Rattle.bits.specs.Row.{member};

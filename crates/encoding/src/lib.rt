@@ -1,11 +1,13 @@
 // Statements in three numbers, as a program's value holds them, and taken back.
+#![tactic(auto)]
+
 ghost use Rattle.std.specs.Prelude.{◌≡◌, ◌<◌, ◌-◌, eqb};
 ghost use Rattle.encoding.specs.Encoding.{Packed, operand_in, operator_in, is_constant, statement_in};
 
 use language::{Expression, Operand, Operator, Statement};
 
 // The head: the kind in four bits, a bit for each operand that is a constant, then the variable. Behind it the operands or the targets.
-#[derive(Drop)]
+#[derive(Clone, Copy)]
 pub struct Entry {
     pub head: u32,
     pub first: u32,

@@ -1,4 +1,6 @@
 // Runs of a program under a budget.
+#![tactic(auto)]
+
 ghost use Rattle.program.specs.Program.{WellFormed};
 ghost use Rattle.program.specs.Reading.{statements, Held};
 ghost use Rattle.machine.specs.Answer.{Answers};
@@ -10,7 +12,7 @@ use program::Program;
 
 // The values are those after the last step where the answer is `Spent`, else the starting ones. The kept ones are those at the end where the
 // run ended, else those of the start.
-#[derive(Drop)]
+#[derive(Clone, Copy)]
 pub struct Outcome {
     pub answer: Answer,
     pub values: [u32; VALUES],

@@ -1,4 +1,6 @@
 // A call: a path that shows why a part of a condition is true at a statement, or false. It takes any bytes, and has no `requires`.
+#![tactic(auto)]
+
 ghost use Rattle.std.specs.Prelude.{◌≡◌, Bool, true, false, not, List, ℕ, ◌*◌, ◌≤◌, ◌<◌, length};
 ghost use Rattle.language.specs.declared.Statement.{Statement as StatementOf};
 ghost use Rattle.bits.specs.Row.{Zeros, member};
@@ -30,7 +32,7 @@ pub const PATH_WORDS: usize = program::MOST + 1;
 
 // Refused: document 01's number. Path: how many words it has, and 0, or the word to whose statement its last turns back, counted from 1.
 // None: whether the part is true there.
-#[derive(Drop)]
+#[derive(Clone, Copy)]
 pub enum Witnessed {
     Refused(u8),
     Path(u32, u32),

@@ -1,5 +1,7 @@
 // A program's arguments, the files that they name, its standard output and its status. What can't be read or written is told in a line on
 // standard error.
+#![tactic(auto)]
+
 ghost use Rattle.std.specs.Prelude.{◌≡◌, ◌≤◌, length};
 ghost use Rattle.io.specs.Counts.{IsPrefixLen};
 ghost use Rattle.files.specs.Files.{chunk_room, Opens, Takes, Ends, Reads, Settles};
@@ -24,21 +26,21 @@ const STATUS_FILENO: i32 = 3;
 
 // Whole: the file's bytes stand at the front of the lent ones. Missing: it can't be opened. Unread: it can't be read to its end, or is
 // longer than 65,535 bytes.
-#[derive(Drop)]
+#[derive(Clone, Copy)]
 pub enum FileRead {
     Whole(usize),
     Missing,
     Unread,
 }
 
-#[derive(Drop)]
+#[derive(Clone, Copy)]
 enum Opened {
     File(i32),
     Missing,
 }
 
 // What one read answers: so many bytes, that none is left, or that it failed.
-#[derive(Drop)]
+#[derive(Clone, Copy)]
 enum Taken {
     Bytes(usize),
     End,
@@ -46,7 +48,7 @@ enum Taken {
 }
 
 // Whole: all of the file, of so many bytes. Full: it is as long as the lent bytes, or longer. Failed: a read failed.
-#[derive(Drop)]
+#[derive(Clone, Copy)]
 enum Ended {
     Whole(usize),
     Full,

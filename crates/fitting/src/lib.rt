@@ -1,4 +1,6 @@
 // What a mark asks of the statement that it names: that it fits, and drops nothing that may fault.
+#![tactic(auto)]
+
 ghost use Rattle.std.specs.Prelude.{◌≡◌, ℕ};
 ghost use Rattle.base.specs.Decides.{Decides};
 ghost use Rattle.lockstep.specs.Rules.{IsVariable, Takes, IsBinary, Fits, NotZero, Safe, Droppable};

@@ -1,4 +1,6 @@
 // The control-flow graph of a program: its steps forward and backward as lists of edges.
+#![tactic(auto)]
+
 ghost use Rattle.std.specs.Prelude.{◌≡◌, ℕ, ◌+◌, ◌-◌, ◌*◌, ◌≤◌, ◌<◌, length};
 ghost use Rattle.program.specs.Program.{most, Targets, WellFormed};
 ghost use Rattle.program.specs.Reading.{statements, Held};
@@ -22,7 +24,7 @@ pub fn blank() -> [u16; ENTRIES]
 }
 
 // The successors of a statement, twice the same where it has one.
-#[derive(Drop)]
+#[derive(Clone, Copy)]
 struct Next {
     first: u16,
     second: u16,

@@ -1,4 +1,6 @@
 // A call, `force`: what a driver can force on a program, however the unit answers. It takes any bytes, and has no `requires`.
+#![tactic(auto)]
+
 ghost use Rattle.std.specs.Prelude.{◌≡◌, ◌≤◌, length};
 ghost use Rattle.program.specs.Program.{most};
 ghost use Rattle.force.specs.Force.{blank, ForceAnswers};
@@ -9,7 +11,7 @@ use program::MOST;
 use tabulate::TABLE_WORDS;
 
 // Refused: the number of documents 01 and 02. Filled: as `tabulate` answers.
-#[derive(Drop)]
+#[derive(Clone, Copy)]
 pub enum ForceAnswer {
     Refused(u8),
     Filled(u32, u32, u32),
@@ -17,7 +19,7 @@ pub enum ForceAnswer {
 
 // For each statement the least number of steps within which the driver is sure of the condition, 4294967295 where he can't force it, and the
 // arm that is to be taken there: 0 none, 1 `goto`, 2 `else`. Zeros past the statements, and beside a refusal.
-#[derive(Drop)]
+#[derive(Clone, Copy)]
 pub struct Forced {
     pub answer: ForceAnswer,
     pub number: [u32; MOST],

@@ -1,6 +1,8 @@
 // The least number of steps in which a player, the driver, can force a goal, for each place of a graph, in time linear in the edges:
 // each place that gets a number is queued once, and each edge is passed once in each direction. `head`, `link` and `to` are the lists
 // of the steps, `entry`, `chain` and `from` those of the opposite direction.
+#![tactic(auto)]
+
 ghost use Rattle.std.specs.Prelude.{◌≡◌, true, false, ◌↔◌, ℕ, ◌+◌, ◌*◌, ◌≤◌, ◌<◌, length, get_or, drop};
 ghost use Rattle.bits.specs.Row.{member};
 ghost use Rattle.graph.specs.Lists.{step, Linked};

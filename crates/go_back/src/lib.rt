@@ -1,4 +1,6 @@
 // A call: returns to the program that is kept under a name. It takes any bytes, and has no `requires`.
+#![tactic(auto)]
+
 ghost use Rattle.go_back.specs.Return.{ReturnAnswers};
 
 use calls::ROOM_NUMBER;
@@ -13,7 +15,7 @@ pub const TEXT_BYTES: usize = TEXT_ROOM;
 pub const UNKNOWN_NUMBER: u8 = 25;
 
 // Refused: document 01's number, 23 or 25. Returned: the bytes of the text.
-#[derive(Drop)]
+#[derive(Clone, Copy)]
 pub enum ReturnAnswer {
     Refused(u8),
     Returned(u32),

@@ -1,5 +1,7 @@
 // Graphs as lists of edges, and whether the steps of a place lead into a set. The lists stand in lent slices, those of one direction
 // in one slice of ENTRIES numbers, with one of the heads for each place.
+#![tactic(auto)]
+
 ghost use Rattle.std.specs.Prelude.{◌≡◌, true, ◌↔◌, ℕ, ◌*◌, ◌≤◌, ◌<◌, length};
 ghost use Rattle.bits.specs.Row.{member};
 ghost use Rattle.ctl.specs.Paths.{quant, So};

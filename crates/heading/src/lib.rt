@@ -1,4 +1,6 @@
 // What is printed before the steps of two runs side by side: the refusal in words, or the counts of the marks and the line over the columns.
+#![tactic(auto)]
+
 ghost use Rattle.std.specs.Prelude.{◌≤◌, length};
 ghost use Rattle.statement_writer.specs.Writing.{Put};
 ghost use Rattle.heading.specs.Heading.{heading_text, heading_room, Heads};
@@ -10,7 +12,7 @@ use run::{BUDGET_NUMBER, MOST_STEPS};
 const HEADING_ROOM: usize = 160;
 
 // Refused and Judged: the number of bytes of the heading, and of the rewritten program's text. NoRoom: too few bytes are lent.
-#[derive(Drop)]
+#[derive(Clone, Copy)]
 pub enum Heading {
     Refused(usize),
     Judged(usize, usize),

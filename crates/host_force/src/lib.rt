@@ -1,4 +1,6 @@
 // `force` for a host: the answer told in the places that the host lends.
+#![tactic(auto)]
+
 ghost use Rattle.host_force.specs.Exports.{ForceExported};
 
 use force::ForceAnswer;

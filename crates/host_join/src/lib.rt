@@ -1,4 +1,6 @@
 // `join` for a host: the answer goes into the places that it lends, and the number is 0 or the refusal's.
+#![tactic(auto)]
+
 ghost use Rattle.host_join.specs.Places.{JoinExported};
 
 use join::JoinAnswer;

@@ -1,4 +1,6 @@
 // `judge` for a host: the answer goes into the places that it lends, and the number is 0 or the refusal's.
+#![tactic(auto)]
+
 ghost use Rattle.host_judge.specs.Places.{JudgeExported};
 
 use judge::JudgeAnswer;

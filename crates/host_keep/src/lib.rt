@@ -1,4 +1,6 @@
 // `keep` for a host: the answer goes into the place that it lends, and the number is 0 or the refusal's.
+#![tactic(auto)]
+
 ghost use Rattle.host_keep.specs.Places.{KeepExported};
 
 use keep::KeepAnswer;

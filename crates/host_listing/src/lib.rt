@@ -1,4 +1,6 @@
 // `list` and `relist` as a host calls them: the number is returned, and the counts are told in places that the host lends.
+#![tactic(auto)]
+
 ghost use Rattle.host_listing.specs.Exports.{ListReturned, ListExported, RelistExported};
 
 use listing::{COUNTS, ListAnswer, Listing};

@@ -1,4 +1,6 @@
 // `mark_line` for a host: the answer goes into the places that it lends, and the number is 0 or the refusal's.
+#![tactic(auto)]
+
 ghost use Rattle.host_mark_line.specs.Places.{MarkLineExported};
 
 use mark_line::MarkLineAnswer;

@@ -1,4 +1,6 @@
 // Tables of prices for a host, which holds the table in force: a buyer's, with 0 or the refusal's number, and ours.
+#![tactic(auto)]
+
 ghost use Rattle.std.specs.Prelude.{◌≡◌};
 ghost use Rattle.pricing.specs.Prices.{ours as oursAre};
 ghost use Rattle.host_prices.specs.Places.{PricesExported};

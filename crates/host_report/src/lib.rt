@@ -1,4 +1,6 @@
 // `report` for a host: the answer goes into the places that it lends, and the number is 0 or the refusal's.
+#![tactic(auto)]
+
 ghost use Rattle.std.specs.Prelude.{◌≡◌, ◌≤◌, length};
 ghost use Rattle.program.specs.Program.{most};
 ghost use Rattle.host_report.specs.Places.{begun, ReportExported};

@@ -1,4 +1,6 @@
 // `go_back` for a host: the answer goes into the place that it lends, and the number is 0 or the refusal's.
+#![tactic(auto)]
+
 ghost use Rattle.host_return.specs.Places.{ReturnExported};
 
 use go_back::ReturnAnswer;

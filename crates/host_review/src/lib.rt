@@ -1,4 +1,6 @@
 // `review` for a host: the answer goes into the places that it lends, and the number is 0 or the refusal's.
+#![tactic(auto)]
+
 ghost use Rattle.std.specs.Prelude.{◌≡◌, ◌≤◌, length};
 ghost use Rattle.sharing.specs.Sharing.{most_lines};
 ghost use Rattle.host_review.specs.Places.{begun, ReviewExported};

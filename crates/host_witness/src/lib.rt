@@ -1,4 +1,6 @@
 // `witness` for a host: the answer goes into the places that it lends, and the number is 0 or the refusal's.
+#![tactic(auto)]
+
 ghost use Rattle.std.specs.Prelude.{◌≡◌};
 ghost use Rattle.bits.specs.Row.{one};
 ghost use Rattle.host_witness.specs.Places.{WitnessExported};

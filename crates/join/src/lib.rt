@@ -1,4 +1,6 @@
 // A call: joins a road and a creeper program into one. It takes any bytes, and has no `requires`.
+#![tactic(auto)]
+
 ghost use Rattle.join.specs.Join.{JoinAnswers};
 
 use calls::ROOM_NUMBER;
@@ -11,7 +13,7 @@ pub const TEXT_BYTES: usize = TEXT_ROOM;
 pub const LONG_NUMBER: u8 = 21;
 
 // Refused: document 01's number, or 21. Joined: the statements of the joined program, and the bytes of its text.
-#[derive(Drop)]
+#[derive(Clone, Copy)]
 pub enum JoinAnswer {
     Refused(u8),
     Joined(u32, u32),

@@ -1,4 +1,6 @@
 // A road and a creeper program joined into one: the road's `write X` and the creeper's `read Y` become `Y := X`.
+#![tactic(auto)]
+
 ghost use Rattle.std.specs.Prelude.{◌≡◌, ◌≤◌, ◌+◌, length};
 ghost use Rattle.program.specs.Program.{text, most, Targets, WellFormed};
 ghost use Rattle.program.specs.Reading.{statements, Held};

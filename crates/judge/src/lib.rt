@@ -1,4 +1,6 @@
 // A call: judges a list of marks on a program, and makes the accepted ones. It takes any bytes, and has no `requires`.
+#![tactic(auto)]
+
 ghost use Rattle.std.specs.Prelude.{◌≡◌, length};
 ghost use Rattle.judge.specs.Judge.{verdict_bytes, text_bytes, JudgeAnswers};
 
@@ -11,7 +13,7 @@ pub const VERDICT_BYTES: usize = marks::MOST;
 pub const TEXT_BYTES: usize = TEXT_ROOM;
 
 // Refused: document 01's number. Finished: the marks, the accepted ones, and the bytes of new text.
-#[derive(Drop)]
+#[derive(Clone, Copy)]
 pub enum JudgeAnswer {
     Refused(u8),
     Finished(u32, u32, u32),

@@ -1,4 +1,6 @@
 // A call: keeps a program under a name. It takes any bytes, and has no `requires`.
+#![tactic(auto)]
+
 ghost use Rattle.std.specs.Prelude.{◌≡◌, ◌*◌, ◌≤◌, ◌<◌, length};
 ghost use Rattle.std.proofs.lemmas.List.Edits.{sets};
 ghost use Rattle.program.specs.Program.{text_room};
@@ -14,7 +16,7 @@ use stages::{PLACE_ROOM, Place, STAGE_BYTES};
 pub const FULL_NUMBER: u8 = 24;
 
 // Refused: document 01's number, 23 or 24. Kept: the place, from 1 on.
-#[derive(Drop)]
+#[derive(Clone, Copy)]
 pub enum KeepAnswer {
     Refused(u8),
     Kept(u32),

@@ -1,4 +1,6 @@
 // Keys of parts, each held once and looked up by its hash.
+#![tactic(auto)]
+
 ghost use Rattle.std.specs.Prelude.{◌≡◌, ◌+◌, ◌≤◌, ◌<◌, length, set};
 ghost use Rattle.base.specs.Decides.{Decides};
 ghost use Rattle.bits.specs.Row.{Zeros};

@@ -1,4 +1,6 @@
 // The places of a finite graph at which a path operator holds of some path, or of all paths.
+#![tactic(auto)]
+
 ghost use Rattle.std.specs.Prelude.{◌≡◌, ◌*◌, ◌≤◌, length};
 ghost use Rattle.bits.specs.Row.{Zeros, member};
 ghost use Rattle.ctl.specs.Paths.{Paths, quant, So};
@@ -13,7 +15,7 @@ use graph::{EDGES, ENTRIES, PLACES};
 const FEW_PLACES: usize = 256;
 
 // What is said of one path: X p, F p, G p, p U q, p W q.
-#[derive(Drop)]
+#[derive(Clone, Copy)]
 pub enum Operator {
     Next,
     Finally,

@@ -1,4 +1,5 @@
 // The statement language: its types. No functions stand here.
+#![tactic(auto)]
 
 // Variables are i0 to i63.
 pub const VARIABLES: u32 = 64;
@@ -16,13 +17,13 @@ pub const CONSTANT_ROOM: usize = 1 + NUMBER_DIGITS;
 
 pub const VARIABLE_ROOM: usize = 3;
 
-#[derive(Drop)]
+#[derive(Clone, Copy)]
 pub enum Operand {
     Variable(u8),
     Constant(u32),
 }
 
-#[derive(Drop)]
+#[derive(Clone, Copy)]
 pub enum Operator {
     Add,
     Subtract,
@@ -32,14 +33,14 @@ pub enum Operator {
     Divide,
 }
 
-#[derive(Drop)]
+#[derive(Clone, Copy)]
 pub enum Expression {
     Single(Operand),
     Binary(Operand, Operator, Operand),
 }
 
 // The targets of a branch are statement numbers, counted from 1.
-#[derive(Drop)]
+#[derive(Clone, Copy)]
 pub enum Statement {
     Read(u8),
     Write(u8),

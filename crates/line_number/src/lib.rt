@@ -1,4 +1,6 @@
 // The numbers of a text's lines, counted from 1, and the first line that isn't spelled.
+#![tactic(auto)]
+
 ghost use Rattle.std.specs.Prelude.{◌≡◌};
 ghost use Rattle.line_number.specs.First.{line_at};
 

@@ -1,1 +1,2 @@
 // A text as lines: definitions in specs/, theorems in proofs/, no code.
+#![tactic(auto)]

@@ -1,4 +1,6 @@
 // A call: the list of the statements that define and that use each variable of a program. It takes any bytes, and has no `requires`.
+#![tactic(auto)]
+
 ghost use Rattle.list.specs.List.{ListAnswers};
 
 use calls::ROOM_NUMBER;

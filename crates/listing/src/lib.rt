@@ -1,4 +1,6 @@
 // The list of the statements that define and that use each variable: made, brought up to date, counted.
+#![tactic(auto)]
+
 ghost use Rattle.std.specs.Prelude.{◌≡◌, ◌≤◌, length};
 ghost use Rattle.program.specs.Program.{at, row_words, WellFormed};
 ghost use Rattle.program.specs.Reading.{statements, Held};
@@ -17,14 +19,14 @@ pub const COUNTS: usize = language::VARIABLES as usize;
 pub const LIST_WORDS: usize = ROW_WORDS * 2 * COUNTS;
 
 // Refused: the number of documents 01 and 02.
-#[derive(Drop)]
+#[derive(Clone, Copy)]
 pub enum ListAnswer {
     Refused(u8),
     Listed,
 }
 
 // The answer of a call, and for each variable how many ones its sets have; zeros beside a refusal.
-#[derive(Drop)]
+#[derive(Clone, Copy)]
 pub struct Listing {
     pub answer: ListAnswer,
     pub defined: [u32; COUNTS],

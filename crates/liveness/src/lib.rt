@@ -1,5 +1,7 @@
 // The places at which each variable is live, found once for a program, and whether two runs hold the same in the variables that are live
 // where they stand.
+#![tactic(auto)]
+
 ghost use Rattle.std.specs.Prelude.{◌≡◌, ◌&&◌, not, List, ℕ, ◌<◌, eqb, length, get_or, replicate};
 ghost use Rattle.base.specs.Decides.{Decides};
 ghost use Rattle.language.specs.Spelling.{variables, ValidVariable};

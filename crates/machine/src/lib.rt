@@ -1,4 +1,6 @@
 // The machine: one step, and what a run answers.
+#![tactic(auto)]
+
 ghost use Rattle.std.specs.Prelude.{◌≡◌, ◌<◌, length};
 ghost use Rattle.language.specs.Spelling.{ValidOperand, ValidExpression, Valid};
 ghost use Rattle.program.specs.Program.{most, Targets};
@@ -13,7 +15,7 @@ use language::{Expression, FIRST_KEPT, KEPT, Operand, Statement};
 pub const VALUES: usize = language::VARIABLES as usize;
 
 // Where a step leads: before the statement at a place, out of the program with a value, or to a fault of the statement at a place.
-#[derive(Drop)]
+#[derive(Clone, Copy)]
 pub enum Next {
     Goto(u32),
     Finish(u32),
@@ -22,7 +24,7 @@ pub enum Next {
 
 // Ended: the value, signed, and the steps. Fault: the number of the statement that divides by zero, and the steps, that one counted. Spent: the
 // number of the statement that would be next. Last in each: the ticks of the steps taken.
-#[derive(Drop)]
+#[derive(Clone, Copy)]
 pub enum Answer {
     Ended(i32, u32, u64),
     Fault(u32, u32, u64),

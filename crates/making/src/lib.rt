@@ -1,4 +1,6 @@
 // What a mark makes of the statement that it names.
+#![tactic(auto)]
+
 ghost use Rattle.std.specs.Prelude.{◌≡◌};
 ghost use Rattle.lockstep.specs.Rules.{replace_operand, replace_in, replace_variable, replace as replaceStatement, reuse as reuseIn, makes as made_of};
 

@@ -1,4 +1,6 @@
 // Which line of a list of marks its refusal is about.
+#![tactic(auto)]
+
 ghost use Rattle.mark_blame.specs.Blame.{LineTold};
 
 use marks::read::MarkRead;

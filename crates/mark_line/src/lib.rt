@@ -1,10 +1,12 @@
 // A call: where a line of a list of marks begins and ends. It takes any bytes, and has no `requires`.
+#![tactic(auto)]
+
 ghost use Rattle.mark_line.specs.MarkLine.{MarkLineAnswers};
 
 use marks::Span;
 
 // Refused: document 01's number. Found: the positions of the line's first byte and of the byte after its byte 10.
-#[derive(Drop)]
+#[derive(Clone, Copy)]
 pub enum MarkLineAnswer {
     Refused(u8),
     Found(usize, usize),

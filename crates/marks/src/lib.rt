@@ -1,4 +1,6 @@
 // Marks: the rewrites that an optimiser proposes, read from any bytes with refusals 9 and 10.
+#![tactic(auto)]
+
 ghost use Rattle.std.specs.Prelude.{◌≡◌};
 ghost use Rattle.marks.specs.Reading.{number};
 
@@ -10,7 +12,7 @@ pub mod read;
 pub const MOST: usize = 1024;
 
 // The statement's number, the variable, and the expression or the operand.
-#[derive(Drop)]
+#[derive(Clone, Copy)]
 pub enum Mark {
     Rm(u32, u8, Expression),
     Rpl(u32, u8, Operand),
@@ -18,21 +20,21 @@ pub enum Mark {
 }
 
 // The refusals of a list's text.
-#[derive(Drop)]
+#[derive(Clone, Copy)]
 pub enum Refusal {
     Misspelled,
     LineCount,
 }
 
 // The number of marks of a list that is taken, or why it is not.
-#[derive(Drop)]
+#[derive(Clone, Copy)]
 pub enum Checked {
     Taken(u32),
     Refused(Refusal),
 }
 
 // Where a line of a list that is taken begins and ends, its byte 10 included, or why the list is not.
-#[derive(Drop)]
+#[derive(Clone, Copy)]
 pub enum Span {
     Found(usize, usize),
     Refused(Refusal),

@@ -9,7 +9,7 @@ use crate::{Checked, MOST, Mark, Refusal, Span};
 use statement_reader::{ExpressionRead, OperandRead};
 use tokens::{NumberRead, VariableRead, WordRead};
 
-#[derive(Drop)]
+#[derive(Clone, Copy)]
 pub enum MarkRead {
     Found(Mark, usize),
     Misspelled,

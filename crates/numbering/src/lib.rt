@@ -1,4 +1,6 @@
 // The parts of a line get the numbers of their tables: those spelled alike have one.
+#![tactic(auto)]
+
 ghost use Rattle.std.specs.Prelude.{◌≡◌, List};
 ghost use Rattle.bits.specs.Row.{Zeros};
 ghost use Rattle.condition.specs.Condition.{Condition};
@@ -10,7 +12,7 @@ use sharing::MOST_TABLES;
 
 // How many differing parts there are after a line, and the number of the line's table. One more than MOST_TABLES stands for all greater
 // counts, which number no table.
-#[derive(Drop)]
+#[derive(Clone, Copy)]
 pub struct LineNumber {
     pub count: usize,
     pub table: u32,

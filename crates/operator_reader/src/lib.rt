@@ -1,4 +1,6 @@
 // The readers of operators: each takes what stands at a position of a text, and answers the position after it, which lies within the text.
+#![tactic(auto)]
+
 ghost use Rattle.std.specs.Prelude.{◌≡◌, ◌≤◌, length, drop};
 ghost use Rattle.base.specs.Bytes.{bytes};
 ghost use Rattle.ctl.specs.Paths.{Quant};
@@ -11,21 +13,21 @@ ghost use Rattle.operator_reader.specs.Parsing.{parsed_operator, operator_end, c
 use tokens::WordRead;
 
 // An operator's code, and the position after it.
-#[derive(Drop)]
+#[derive(Clone, Copy)]
 pub enum OperatorRead {
     Found(u8, usize),
     Misspelled,
 }
 
 // What opens a binary operator: `(`, `E[` or `A[`.
-#[derive(Drop)]
+#[derive(Clone, Copy)]
 pub enum Bracket {
     Round,
     Some,
     All,
 }
 
-#[derive(Drop)]
+#[derive(Clone, Copy)]
 pub enum BracketRead {
     Found(Bracket, usize),
     Misspelled,

@@ -1,4 +1,6 @@
 // The outcome of a run in words: a program and a start in, the bytes that are printed out.
+#![tactic(auto)]
+
 ghost use Rattle.std.specs.Prelude.{◌≤◌, ◌+◌, ◌*◌, length};
 ghost use Rattle.language.specs.Spelling.{variables};
 ghost use Rattle.statement_writer.specs.Writing.{Put};
@@ -16,7 +18,7 @@ const VALUE_LINE_ROOM: usize = VALUE_ROOM + 1;
 pub const OUTCOME_ROOM: usize = SPENT_ROOM + VALUES * VALUE_LINE_ROOM;
 
 // The number of bytes: Written, of a result; Refused, of a refusal's text. NoRoom: under OUTCOME_ROOM bytes are lent.
-#[derive(Drop)]
+#[derive(Clone, Copy)]
 pub enum Told {
     Written(usize),
     Refused(usize),

@@ -1,4 +1,6 @@
 // The view within a page of HTML.
+#![tactic(auto)]
+
 ghost use Rattle.std.specs.Prelude.{◌≡◌, length, ◌≤◌, ◌+◌};
 ghost use Rattle.statement_writer.specs.Writing.{Put};
 ghost use Rattle.view.specs.View.{view_room};

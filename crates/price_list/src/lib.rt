@@ -1,4 +1,6 @@
 // The prices of two programs' texts, statement by statement, and their totals.
+#![tactic(auto)]
+
 ghost use Rattle.std.specs.Prelude.{◌≡◌, List, ◌<◌, ◌^◌};
 ghost use Rattle.language.specs.declared.Statement.{Statement};
 ghost use Rattle.program.specs.Program.{Taken};
@@ -11,7 +13,7 @@ use program::{MOST, Program};
 
 // The number of statements, the totals of the given and of the rewritten program, and the first less the second; the price of each statement before
 // and after, with zeros behind the last.
-#[derive(Drop)]
+#[derive(Clone, Copy)]
 pub struct PriceList {
     pub count: u32,
     pub given: u32,

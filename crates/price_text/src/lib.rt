@@ -1,4 +1,6 @@
 // What the check program prints of prices: a line for each statement, and the totals.
+#![tactic(auto)]
+
 ghost use Rattle.std.specs.Prelude.{◌≤◌, ◌+◌, ◌*◌, ◌++◌, length};
 ghost use Rattle.program.specs.Program.{most};
 ghost use Rattle.pricing.specs.Prices.{Fair};

@@ -1,4 +1,6 @@
 // A call: what each statement of a program costs before and after a list of marks, and in all. It takes any bytes, and has no `requires`.
+#![tactic(auto)]
+
 ghost use Rattle.std.specs.Prelude.{◌≡◌, replicate};
 ghost use Rattle.program.specs.Program.{most};
 ghost use Rattle.priced.specs.Priced.{nothing as nothingIs, ReportAnswers};
@@ -9,14 +11,14 @@ use pricing::KINDS;
 use program::MOST;
 
 // Refused: document 01's number. Listed: the list beside it is the report.
-#[derive(Drop)]
+#[derive(Clone, Copy)]
 pub enum PriceAnswer {
     Refused(u8),
     Listed,
 }
 
 // The list beside a refusal is that of no statement.
-#[derive(Drop)]
+#[derive(Clone, Copy)]
 pub struct Priced {
     pub answer: PriceAnswer,
     pub list: PriceList,

@@ -1,4 +1,6 @@
 // A buyer's table of prices, read from any bytes with refusals 19 and 20.
+#![tactic(auto)]
+
 ghost use Rattle.std.specs.Prelude.{◌≡◌, ◌≤◌, length, drop, set};
 ghost use Rattle.tokens.specs.Parsing.{parsed_number, number_end};
 ghost use Rattle.prices.specs.Prices.{PricesAnswers, PriceLineRead};
@@ -13,14 +15,14 @@ pub const LINE_NUMBER: u8 = 19;
 pub const COUNT_NUMBER: u8 = 20;
 
 // Refused: document 02's number.
-#[derive(Drop)]
+#[derive(Clone, Copy)]
 pub enum PricesAnswer {
     Taken,
     Refused(u8),
 }
 
 // The table that the caller holds afterwards stands beside the answer.
-#[derive(Drop)]
+#[derive(Clone, Copy)]
 pub struct PricesRead {
     pub answer: PricesAnswer,
     pub prices: [u32; KINDS],

@@ -1,4 +1,6 @@
 // What statements cost, by a table of eleven prices; the prices and the total of a program.
+#![tactic(auto)]
+
 ghost use Rattle.std.specs.Prelude.{◌≡◌, ◌≤◌, ◌<◌, length, take, replicate};
 ghost use Rattle.program.specs.Program.{most};
 ghost use Rattle.program.specs.Reading.{statements, Held};

@@ -1,4 +1,6 @@
 // Programs: a text read whole, with refusals 2 to 5, and a program written back.
+#![tactic(auto)]
+
 ghost use Rattle.std.specs.Prelude.{◌≡◌, false, ◌≤◌, ◌+◌, length};
 ghost use Rattle.program.specs.Program.{text, most, Inner, InPlace, IsTarget, Targets};
 ghost use Rattle.base.specs.Decides.{Decides};
@@ -24,14 +26,14 @@ pub const ROW_WORDS: usize = MOST / 64;
 
 // The first `count` entries are the statements. They come last, so that those of two programs that lie side by side are a multiple of 16 bytes
 // apart: some processors copy a whole number of pages by 8 bytes sixteen times slower.
-#[derive(Drop)]
+#[derive(Clone, Copy)]
 pub struct Program {
     pub count: usize,
     pub entries: [Entry; MOST],
 }
 
 // The refusals of a program's text.
-#[derive(Drop)]
+#[derive(Clone, Copy)]
 pub enum Refusal {
     Misspelled,
     LineCount,
@@ -39,21 +41,21 @@ pub enum Refusal {
     Target,
 }
 
-#[derive(Drop)]
+#[derive(Clone, Copy)]
 pub enum Answer {
     Taken,
     Refused(Refusal),
 }
 
 // The program is what was read where the answer is `Taken`.
-#[derive(Drop)]
+#[derive(Clone, Copy)]
 pub struct Reading {
     pub answer: Answer,
     pub program: Program,
 }
 
 // All lines of a text are counted; the first MOST are kept.
-#[derive(Drop)]
+#[derive(Clone, Copy)]
 struct Lines {
     spelled: bool,
     count: usize,

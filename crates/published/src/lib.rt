@@ -1,4 +1,6 @@
 // The text of a mark's published condition, and of a variable's liveness, which is part of one.
+#![tactic(auto)]
+
 ghost use Rattle.std.specs.Prelude.{◌+◌, ◌≤◌, length};
 ghost use Rattle.language.specs.Spelling.{ValidVariable, ValidOperand, ValidExpression};
 ghost use Rattle.statement_writer.specs.Writing.{Put};

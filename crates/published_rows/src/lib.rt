@@ -1,4 +1,6 @@
 // The places at which a mark's published condition is true, remembered by the condition.
+#![tactic(auto)]
+
 ghost use Rattle.std.specs.Prelude.{◌≡◌, List, ◌<◌};
 ghost use Rattle.language.specs.declared.Statement.{Statement};
 ghost use Rattle.bits.specs.Row.{Zeros, ZeroRows};

@@ -1,4 +1,6 @@
 // Which line a refusal of a program and a list of marks is about.
+#![tactic(auto)]
+
 ghost use Rattle.refusal_line.specs.Blame.{NumberTold};
 
 // The line that the refusal with number n is about, of the list of marks where it is one of its spelling, else of the program; 0 where it is

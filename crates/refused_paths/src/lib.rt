@@ -1,4 +1,6 @@
 // The path that shows why a mark's condition is false at its statement, and what the path's last statement does.
+#![tactic(auto)]
+
 ghost use Rattle.std.specs.Prelude.{◌≡◌, not, ◌&&◌, List, ℕ, ◌+◌, ◌≤◌, ◌<◌, ltb, length};
 ghost use Rattle.language.specs.Spelling.{ValidVariable, ValidExpression};
 ghost use Rattle.language.specs.declared.Statement.{Statement as StatementOf};
@@ -35,7 +37,7 @@ const SPOILS: u32 = 4;
 const STARTS: u32 = 5;
 
 // How many words a path has, and what its last statement does.
-#[derive(Drop)]
+#[derive(Clone, Copy)]
 pub struct Shown {
     pub length: usize,
     pub culprit: u32,

@@ -1,4 +1,6 @@
 // A call: the list of a program's readers and writers, brought up to date after a round of marks. It takes any bytes, and has no `requires`.
+#![tactic(auto)]
+
 ghost use Rattle.std.specs.Prelude.{List};
 ghost use Rattle.program.specs.Program.{WellFormed};
 ghost use Rattle.program.specs.Reading.{statements, Held};

@@ -1,4 +1,6 @@
 // The check program's output, and what it says of a refusal: a program and a list of marks in, the bytes that are printed out.
+#![tactic(auto)]
+
 ghost use Rattle.std.specs.Prelude.{◌≡◌, List, ◌++◌, length, ◌≤◌, ◌+◌};
 ghost use Rattle.statement_writer.specs.Writing.{Put};
 ghost use Rattle.marks.specs.Reading.{Taken};
@@ -28,7 +30,7 @@ pub const REPORT_ROOM: usize = COUNTS_ROOM
     + PRICE_TEXT_ROOM;
 
 // Written: the number of bytes of the report. Refused: the same of the line of a refused call. NoRoom: under REPORT_ROOM bytes are lent.
-#[derive(Drop)]
+#[derive(Clone, Copy)]
 pub enum Reported {
     Written(usize),
     Refused(usize),
@@ -36,7 +38,7 @@ pub enum Reported {
 }
 
 // Written: the number of bytes of the refusal's words. Nothing: no refusal applies. NoRoom: under REFUSAL_ROOM bytes are lent.
-#[derive(Drop)]
+#[derive(Clone, Copy)]
 pub enum Worded {
     Written(usize),
     Nothing,

@@ -1,4 +1,6 @@
 // A call: the tables of all conditions of a review over a program. It takes any bytes, and has no `requires`.
+#![tactic(auto)]
+
 ghost use Rattle.std.specs.Prelude.{◌≡◌};
 ghost use Rattle.bits.specs.Row.{Zeros};
 ghost use Rattle.sharing.specs.Sharing.{most_lines};
@@ -12,7 +14,7 @@ use table::WORDS;
 pub const REVIEW_WORDS: usize = MOST_TABLES * WORDS;
 
 // Refused: the number of documents 01 and 02. Filled: the tables, which are the differing parts, and the lines.
-#[derive(Drop)]
+#[derive(Clone, Copy)]
 pub enum ReviewAnswer {
     Refused(u8),
     Filled(u32, u32),
@@ -20,7 +22,7 @@ pub enum ReviewAnswer {
 
 // For each line its table, counted from 0, its parts, how many statements satisfy it, and the first of them or 0. Zeros past the lines, and
 // beside a refusal.
-#[derive(Drop)]
+#[derive(Clone, Copy)]
 pub struct Reviewed {
     pub answer: ReviewAnswer,
     pub table_of: [u32; MOST_LINES],

@@ -1,4 +1,6 @@
 // The conditions of a review: read line by line, with refusals 6 to 8, 16 and 17, and their parts numbered.
+#![tactic(auto)]
+
 ghost use Rattle.std.specs.Prelude.{◌≡◌, ◌≤◌, length};
 ghost use Rattle.bits.specs.Row.{Zeros};
 ghost use Rattle.condition.specs.Texts.{most_bytes};
@@ -10,7 +12,7 @@ use condition::MOST_BYTES;
 use sharing::{MOST_LINES, MOST_TABLES};
 
 // The refusals of the conditions' text.
-#[derive(Drop)]
+#[derive(Clone, Copy)]
 pub enum Refusal {
     LineCount,
     Line(condition_reader::Refusal),
@@ -18,7 +20,7 @@ pub enum Refusal {
 }
 
 // Taken: the number of differing parts, which is that of their tables, and the number of lines.
-#[derive(Drop)]
+#[derive(Clone, Copy)]
 pub enum Answer {
     Taken(u32, u32),
     Refused(Refusal),

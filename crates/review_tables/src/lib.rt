@@ -1,4 +1,6 @@
 // The tables of a review: one for each differing part, and the counts of each line.
+#![tactic(auto)]
+
 ghost use Rattle.std.specs.Prelude.{List, ◌*◌, ◌≤◌, length};
 ghost use Rattle.language.specs.declared.Statement.{Statement};
 ghost use Rattle.bits.specs.Row.{Zeros};

@@ -1,4 +1,6 @@
 // The calls for C and Rust hosts: include/rewrites.h declares them. What each answers stands in the crate that it calls.
+#![tactic(auto)]
+
 ghost use Rattle.std.specs.Prelude.{◌≡◌};
 ghost use Rattle.pricing.specs.Prices.{ours};
 ghost use Rattle.host_run.specs.Places.{RunExported};

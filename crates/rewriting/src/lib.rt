@@ -1,4 +1,6 @@
 // Verdicts and their numbers.
+#![tactic(auto)]
+
 ghost use Rattle.std.specs.Prelude.{◌≡◌};
 ghost use Rattle.base.specs.Decides.{Decides};
 ghost use Rattle.marks.specs.Marks.{names};
@@ -8,7 +10,7 @@ use marks::Mark;
 
 // What a mark gets: accepted; no such statement; an earlier line names it; the mark doesn't fit; it would drop what may fault; its condition is
 // false.
-#[derive(Drop)]
+#[derive(Clone, Copy)]
 pub enum Verdict {
     Accepted,
     Missing,

@@ -1,4 +1,6 @@
 // A call: runs the program that a text spells, from given values, under a budget. It takes any bytes, and has no `requires`.
+#![tactic(auto)]
+
 ghost use Rattle.std.specs.Prelude.{◌≡◌};
 ghost use Rattle.language.specs.Kept.{kept_of};
 ghost use Rattle.run.specs.Run.{RunAnswers};
@@ -13,7 +15,7 @@ pub const MOST_STEPS: u32 = 1000000;
 pub const BUDGET_NUMBER: u8 = 15;
 
 // Refused: document 01's number. Finished: what the program's run answers.
-#[derive(Drop)]
+#[derive(Clone, Copy)]
 pub enum RunAnswer {
     Refused(u8),
     Finished(Answer),
@@ -21,7 +23,7 @@ pub enum RunAnswer {
 
 // The values are those after the last step where the answer is `Spent`, else the starting ones. The kept ones are those at the end where the
 // run ended, else those of the start.
-#[derive(Drop)]
+#[derive(Clone, Copy)]
 pub struct Ran {
     pub answer: RunAnswer,
     pub values: [u32; VALUES],

@@ -1,5 +1,7 @@
 // Runs a program from a start: run_program [PROGRAM [START [trace]]], files that default to `given` and `start`. Prints the outcome or the
 // refusal in words, and with the word `trace` a line for each step before it.
+#![tactic(auto)]
+
 use files::FileRead;
 use libc::STDERR_FILENO;
 use tokens::WordRead;

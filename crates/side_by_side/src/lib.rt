@@ -1,5 +1,7 @@
 // What is printed of a program and its rewritten one, from the bytes of the files: the program, the marks and the start in, and the text out,
 // piece by piece, since the lines of a million steps don't fit one buffer.
+#![tactic(auto)]
+
 ghost use Rattle.std.specs.Prelude.{◌≡◌, List, ℕ, ◌≤◌, ◌<◌, length, take};
 ghost use Rattle.language.specs.Spelling.{variables};
 ghost use Rattle.program.specs.Program.{Taken, WellFormed};
@@ -21,7 +23,7 @@ pub const SIDE_BY_SIDE_ROOM: usize = comparison::LINE_ROOM;
 
 // Begin: nothing is printed. Steps: the counts of the marks, and the lines of some steps. Closing: the lines of all steps. Ended: the
 // outcomes too, which is all. Refused: a refusal, which is all.
-#[derive(Drop)]
+#[derive(Clone, Copy)]
 pub enum Stage {
     Begin,
     Steps,
@@ -33,7 +35,7 @@ pub enum Stage {
 // Where printing stands. In `Steps` both runs stand before the statement at the place `at` after `done` steps, with their values, and
 // `bytes` is the length of the rewritten program's text, and `live` has where each variable is live in the given one; in any other stage all
 // of these are 0.
-#[derive(Drop)]
+#[derive(Clone, Copy)]
 pub struct Position {
     pub stage: Stage,
     pub at: u32,
@@ -45,7 +47,7 @@ pub struct Position {
 }
 
 // The number of bytes of a piece, and where printing stands after it.
-#[derive(Drop)]
+#[derive(Clone, Copy)]
 pub struct Piece {
     pub bytes: usize,
     pub next: Position,

@@ -1,4 +1,6 @@
 // The usual slips in a line that is refused: found by its bytes alone, and told in words.
+#![tactic(auto)]
+
 pub mod words;
 
 ghost use Rattle.std.specs.Prelude.{◌≡◌, true, length, drop, ◌≤◌, ◌+◌, ◌-◌, ◌*◌, min};
@@ -10,7 +12,7 @@ use language::{LARGEST, VARIABLES};
 // A number beyond is told as this one or more.
 pub const MOST_NUMBER: u32 = 4294967295;
 
-#[derive(Drop)]
+#[derive(Clone, Copy)]
 pub enum Slip {
     Nothing,
     ByteOrderMark,
@@ -27,7 +29,7 @@ pub enum Slip {
 }
 
 // What a byte and the one before it may show.
-#[derive(Drop)]
+#[derive(Clone, Copy)]
 pub enum Sign {
     Return,
     Tab,
@@ -36,7 +38,7 @@ pub enum Sign {
 }
 
 // Which numbers are looked for: those that are spelled nowhere, or the targets outside a program of so many lines.
-#[derive(Drop)]
+#[derive(Clone, Copy)]
 pub enum Range {
     Spelled,
     Targets(u32),

@@ -1,4 +1,6 @@
 // Names of stages: whether bytes are one, and a name filled up with zero bytes.
+#![tactic(auto)]
+
 ghost use Rattle.std.specs.Prelude.{◌≡◌, ◌≤◌, ◌<◌, length, get_or, take, replicate};
 ghost use Rattle.base.specs.Decides.{Decides};
 ghost use Rattle.stage_names.specs.Names.{name_bytes, filled, Letter, Letters, Named, ValidName};

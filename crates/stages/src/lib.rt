@@ -1,4 +1,6 @@
 // Stages with a name in lent bytes: the eight places, which of them holds a name, and which one a stage takes that is kept.
+#![tactic(auto)]
+
 ghost use Rattle.std.specs.Prelude.{◌≡◌, ℕ, ◌≤◌, ◌<◌, length, take};
 ghost use Rattle.base.specs.Decides.{Decides};
 ghost use Rattle.stage_names.specs.Names.{name_bytes, ValidName};
@@ -23,7 +25,7 @@ pub const HEAD_BYTES: usize = NAME_BYTES + LENGTH_BYTES;
 pub const MOST_TEXT: usize = PLACE_ROOM - HEAD_BYTES;
 
 // A place, from 0 on.
-#[derive(Drop)]
+#[derive(Clone, Copy)]
 pub enum Place {
     At(usize),
     Nowhere,

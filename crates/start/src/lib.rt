@@ -1,4 +1,6 @@
 // A start: the input, the budget and up to 64 starting values, one a line, read from any bytes. A value may name its variable.
+#![tactic(auto)]
+
 ghost use Rattle.std.specs.Prelude.{◌≡◌, ℕ, ◌≤◌, ◌<◌, ◌+◌, length, get_or, drop, replicate};
 ghost use Rattle.language.specs.Spelling.{variables};
 ghost use Rattle.tokens.specs.Parsing.{parsed_number, number_end};
@@ -15,7 +17,7 @@ pub const MOST: usize = 2 + VALUES;
 
 // Few: under FEWEST lines. Many: more text after MOST right lines. Line: the number of the first line that is wrong. Unended: that of the
 // last line, which is right but for its byte 10.
-#[derive(Drop)]
+#[derive(Clone, Copy)]
 pub enum Answer {
     Taken,
     Few,
@@ -25,20 +27,20 @@ pub enum Answer {
 }
 
 // What a line has: the number that is next, or a variable's value.
-#[derive(Drop)]
+#[derive(Clone, Copy)]
 pub enum Entry {
     Plain(u32),
     Named(u8, u32),
 }
 
-#[derive(Drop)]
+#[derive(Clone, Copy)]
 pub enum EntryRead {
     Found(Entry, usize),
     Misspelled,
 }
 
 // The input, the budget and the values are what was read where the answer is `Taken`.
-#[derive(Drop)]
+#[derive(Clone, Copy)]
 pub struct Start {
     pub answer: Answer,
     pub input: u32,

@@ -1,4 +1,6 @@
 // The refusal of a start, in words.
+#![tactic(auto)]
+
 ghost use Rattle.std.specs.Prelude.{◌≤◌, ◌+◌, length};
 ghost use Rattle.statement_writer.specs.Writing.{Put};
 ghost use Rattle.start_refusal.specs.StartRefusal.{or_named, line_range, start_words, start_text, named_room, range_room, words_room, start_room};

@@ -1,4 +1,6 @@
 // Readers of statements: each takes what stands at a position of a text, and answers the value and the position after it.
+#![tactic(auto)]
+
 ghost use Rattle.std.specs.Prelude.{◌≡◌, length, drop, ◌≤◌};
 ghost use Rattle.statement_reader.specs.Reading.{LineRead};
 ghost use Rattle.statement_reader.specs.Parsing.{parse_operand, parsed_operand, operand_end, parse_operator, parsed_operator, operator_end, parse_expression, parsed_expression, expression_end, parse_read, parse_write, parse_skip, parse_assign, parse_branch, parse_assign_or_branch, parse_statement, parse_line, parsed_statement, statement_end};
@@ -6,25 +8,25 @@ ghost use Rattle.statement_reader.specs.Parsing.{parse_operand, parsed_operand, 
 use language::{Expression, Operand, Operator, Statement};
 use tokens::{NumberRead, VariableRead, WordRead};
 
-#[derive(Drop)]
+#[derive(Clone, Copy)]
 pub enum OperandRead {
     Found(Operand, usize),
     Misspelled,
 }
 
-#[derive(Drop)]
+#[derive(Clone, Copy)]
 pub enum OperatorRead {
     Found(Operator, usize),
     Misspelled,
 }
 
-#[derive(Drop)]
+#[derive(Clone, Copy)]
 pub enum ExpressionRead {
     Found(Expression, usize),
     Misspelled,
 }
 
-#[derive(Drop)]
+#[derive(Clone, Copy)]
 pub enum StatementRead {
     Found(Statement, usize),
     Misspelled,

@@ -1,4 +1,6 @@
 // Writers: each puts a text at a position of lent bytes, and answers the position after it.
+#![tactic(auto)]
+
 ghost use Rattle.std.specs.Prelude.{[], ◌∷◌, ◌++◌, ◌≡◌, length, ◌≤◌, ◌+◌};
 ghost use Rattle.language.specs.Spelling.{digits, spell_constant, spell_statement_number, spell_variable, spell_operand, spell_operator, spell_expression, spell};
 ghost use Rattle.statement_writer.specs.Writing.{Put};

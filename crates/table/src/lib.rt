@@ -1,4 +1,6 @@
 // Tables: the places at which each part of a condition is true.
+#![tactic(auto)]
+
 ghost use Rattle.std.specs.Prelude.{◌≡◌, false, List, ℕ, ◌+◌, ◌-◌, ◌*◌, ◌≤◌, ◌<◌, length, drop};
 ghost use Rattle.tokens.specs.Parsing.{found};
 ghost use Rattle.language.specs.declared.Statement.{Statement as StatementOf};
@@ -30,7 +32,7 @@ pub const WORDS: usize = program::ROW_WORDS;
 const WORD_PLACES: usize = 64;
 
 // How the row of an operator comes from the rows of its operands. A path operator: what is said of a path, of all paths, backward.
-#[derive(Drop)]
+#[derive(Clone, Copy)]
 pub enum Rule {
     Negation,
     Conjunction,
@@ -251,7 +253,7 @@ pub fn fill(
 }
 
 // How many places are in a row, and the number of the first, or 0.
-#[derive(Drop)]
+#[derive(Clone, Copy)]
 pub struct Summary {
     pub satisfied: u32,
     pub first: u32,

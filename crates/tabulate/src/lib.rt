@@ -1,4 +1,6 @@
 // A call: the table of a condition's parts over a program. It takes any bytes, and has no `requires`.
+#![tactic(auto)]
+
 ghost use Rattle.std.specs.Prelude.{List, ◌≡◌, ℕ, ◌≤◌, length};
 ghost use Rattle.program.specs.Program.{Taken};
 ghost use Rattle.program.specs.Reading.{statements, Held};
@@ -16,7 +18,7 @@ use table::{Summary, WORDS};
 pub const TABLE_WORDS: usize = MOST_PARTS * WORDS;
 
 // Refused: document 01's number. Filled: the parts, how many statements satisfy the whole condition, and the first of them or 0.
-#[derive(Drop)]
+#[derive(Clone, Copy)]
 pub enum TabulateAnswer {
     Refused(u8),
     Filled(u32, u32, u32),

@@ -1,29 +1,31 @@
 // Readers of words, numbers and variables: each takes what stands at a position of a text, and answers the value and the position after it.
+#![tactic(auto)]
+
 ghost use Rattle.std.specs.Prelude.{◌≡◌, length, drop, ◌≤◌, ◌<◌};
 ghost use Rattle.language.specs.Spelling.{largest};
 ghost use Rattle.tokens.specs.Parsing.{parse_word, parsed_word, word_end, digit_of, parse_zero, parse_digits, parse_number, parsed_number, number_end, parse_negative, parse_constant, parse_statement_number, parse_variable, parsed_variable, variable_end};
 
 use language::{LARGEST, VARIABLES};
 
-#[derive(Drop)]
+#[derive(Clone, Copy)]
 pub enum WordRead {
     Found(usize),
     Misspelled,
 }
 
-#[derive(Drop)]
+#[derive(Clone, Copy)]
 pub enum Digit {
     Value(u64),
     Other,
 }
 
-#[derive(Drop)]
+#[derive(Clone, Copy)]
 pub enum NumberRead {
     Found(u32, usize),
     Misspelled,
 }
 
-#[derive(Drop)]
+#[derive(Clone, Copy)]
 pub enum VariableRead {
     Found(u8, usize),
     Misspelled,

@@ -1,4 +1,6 @@
 // Traces: the lines of a run's steps, as many at a time as the lent bytes have room for.
+#![tactic(auto)]
+
 ghost use Rattle.std.specs.Prelude.{[], ◌≤◌, ◌<◌, ◌+◌, length};
 ghost use Rattle.language.specs.Spelling.{ValidVariable, Valid};
 ghost use Rattle.statement_writer.specs.Writing.{Put};
@@ -128,7 +130,7 @@ fn last_line(out: &mut [u8], at: usize, k: u32, place: u32, s: Statement) -> usi
 }
 
 // Where a run stands after a step, if it goes on.
-#[derive(Drop)]
+#[derive(Clone, Copy)]
 pub enum Onward {
     To(u32),
     Ended,
@@ -146,7 +148,7 @@ pub fn way_on(next: Next) -> Onward
 
 // The bytes written, the steps done, and whether the run has ended with the last of them: `at` is then the place of the statement that it
 // performed, else of the one that comes next.
-#[derive(Drop)]
+#[derive(Clone, Copy)]
 pub struct Progress {
     pub bytes: usize,
     pub at: u32,

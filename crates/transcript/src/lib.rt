@@ -1,5 +1,7 @@
 // Transcripts: all that is printed of a run, from the program's and the start's bytes. It is handed out piece by piece, since a trace of a
 // million lines doesn't fit one buffer.
+#![tactic(auto)]
+
 ghost use Rattle.std.specs.Prelude.{◌≡◌, true, ◌≤◌, length};
 ghost use Rattle.transcript.specs.Transcript.{is_over, beginning, at_stage, transcript_room, Hands};
 ghost use Rattle.transcript.specs.Pieces.{start_taken, program_taken, RunRead, stage_after, Tells};
@@ -13,7 +15,7 @@ pub const TRANSCRIPT_ROOM: usize = OUTCOME_ROOM;
 
 // Begin: nothing was handed out. Steps: the line over the columns was, and lines of the run's steps. Outcome: the lines of all its steps were, and it ended. Ended: all
 // was, of a result. Refused: all was, of a refusal.
-#[derive(Drop)]
+#[derive(Clone, Copy)]
 pub enum Stage {
     Begin,
     Steps,
@@ -24,7 +26,7 @@ pub enum Stage {
 
 // How far printing has come. At `Steps` the run stands before the statement at the place, after so many steps and with these values; at
 // `Outcome` it stood so before its last step.
-#[derive(Drop)]
+#[derive(Clone, Copy)]
 pub struct Position {
     pub stage: Stage,
     pub at: u32,
@@ -33,14 +35,14 @@ pub struct Position {
 }
 
 // The bytes of a piece, and the position after it.
-#[derive(Drop)]
+#[derive(Clone, Copy)]
 pub struct Piece {
     pub bytes: usize,
     pub next: Position,
 }
 
 // The run that the texts ask for, where both are taken.
-#[derive(Drop)]
+#[derive(Clone, Copy)]
 struct Run {
     taken: bool,
     program: Program,

@@ -1,4 +1,6 @@
 // Marks judged on a program, and the program with the accepted ones made.
+#![tactic(auto)]
+
 ghost use Rattle.std.specs.Prelude.{◌≡◌, List, ◌↔◌, ℕ, ◌≤◌, ◌<◌, length};
 ghost use Rattle.language.specs.declared.Statement.{Statement as StatementOf};
 ghost use Rattle.program.specs.Program.{most as statements-most, row_words};
@@ -149,7 +151,7 @@ pub fn judge(
 }
 
 // The program with the accepted marks made, and how many those are.
-#[derive(Drop)]
+#[derive(Clone, Copy)]
 pub struct Rewriting {
     pub program: Program,
     pub accepted: u32,

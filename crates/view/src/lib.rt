@@ -1,4 +1,6 @@
 // The viewer's output: a program and a condition in, the bytes that are printed out.
+#![tactic(auto)]
+
 ghost use Rattle.std.specs.Prelude.{◌≡◌, length, ltb, ◌≤◌, ◌<◌, ◌+◌, ◌/◌};
 ghost use Rattle.base.specs.Bytes.{byte};
 ghost use Rattle.statement_writer.specs.Writing.{Put};
@@ -31,7 +33,7 @@ const LAST_ROOM: usize = 6 + PART_COLUMNS + 11 + NUMBER_COLUMNS + 7 + NUMBER_COL
 pub const VIEW_ROOM: usize = MOST_PARTS * PART_ROOM + (program::MOST + 2) * ROW_ROOM + LAST_ROOM;
 
 // Written: the number of bytes of the view. Refused: the same of a refusal's text. NoRoom: under VIEW_ROOM bytes are lent.
-#[derive(Drop)]
+#[derive(Clone, Copy)]
 pub enum Viewed {
     Written(usize),
     Refused(usize),
@@ -39,7 +41,7 @@ pub enum Viewed {
 }
 
 // What stands in the columns of the parts: digits of their numbers, or their marks at a place.
-#[derive(Drop)]
+#[derive(Clone, Copy)]
 enum Row {
     Tens,
     Units,

@@ -1,6 +1,8 @@
 // Shows at which statements of a program the parts of a condition are true, as `view` says. The arguments name the files of the program
 // and of the condition, `given` and `condition` where they are left out; a byte 10 at the condition's end is dropped. With `--html` before
 // them the same text is printed within a page.
+#![tactic(auto)]
+
 mod frame;
 
 ghost use Rattle.std.specs.Prelude.{length, ◌≤◌};

@@ -1,5 +1,7 @@
 // Walks along the steps of a graph, as numbers of statements in lent words: to a goal by distances, and round and round within a set.
 // `head`, `link` and `to` are the lists of the steps.
+#![tactic(auto)]
+
 ghost use Rattle.std.specs.Prelude.{◌≡◌, true, false, ℕ, ◌+◌, ◌*◌, ◌≤◌, ◌<◌, length};
 ghost use Rattle.bits.specs.Row.{member};
 ghost use Rattle.ctl.specs.Paths.{Graph};
@@ -9,7 +11,7 @@ ghost use Rattle.forcing.specs.Numbers.{number_of};
 ghost use Rattle.walks.specs.Walks.{Nearest, SomeNumbered, Walked, SomeEndless, Circled};
 
 // How many words a path has, and 0, or the word to whose statement its last turns back, counted from 1.
-#[derive(Drop)]
+#[derive(Clone, Copy)]
 pub struct Trail {
     pub length: usize,
     pub turn: usize,

@@ -1,4 +1,6 @@
 // A call: why a mark of a list is refused. It takes any bytes, and has no `requires`.
+#![tactic(auto)]
+
 ghost use Rattle.std.specs.Prelude.{◌≡◌, List, ℕ, ◌≤◌, ◌<◌, length};
 ghost use Rattle.program.specs.Program.{Taken};
 ghost use Rattle.program.specs.Reading.{statements, Held};
@@ -17,7 +19,7 @@ use rewriting::Verdict;
 
 // Refused: document 01's number. Verdict: the line's verdict byte; where that is 14, how many words the path has, and what its last statement does:
 // 1 uses the variable, 2 so by an accepted `cse` alone, 3 defines it, 4 defines a variable of the expression, 5 is statement 1.
-#[derive(Drop)]
+#[derive(Clone, Copy)]
 pub enum Because {
     Refused(u8),
     Verdict(u8, u32, u32),

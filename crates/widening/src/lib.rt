@@ -1,4 +1,6 @@
 // The uses that accepted `cse` marks add, and the `rm` marks of the same list judged with them.
+#![tactic(auto)]
+
 ghost use Rattle.std.specs.Prelude.{◌≡◌, List, ℕ, ◌≤◌, length};
 ghost use Rattle.language.specs.declared.Statement.{Statement};
 ghost use Rattle.base.specs.Decides.{Decides};
@@ -22,7 +24,7 @@ use rewriting::Verdict;
 use table::WORDS;
 
 // The variable that an accepted `cse` uses.
-#[derive(Drop)]
+#[derive(Clone, Copy)]
 pub enum Added {
     Use(u8),
     Nothing,

@@ -1,5 +1,7 @@
 // A path for a path operator at a place, in time linear in the edges: one that bears out that it is true of some path, or one that speaks
 // against its being true of all. What is reached gets a shortest way, what goes on for ever a lasso.
+#![tactic(auto)]
+
 ghost use Rattle.std.specs.Prelude.{List, ◌≡◌, false, true, not, ◌&&◌, ℕ, ◌*◌, ◌≤◌, ◌<◌, length};
 ghost use Rattle.bits.specs.Row.{member};
 ghost use Rattle.ctl.specs.Paths.{E, Paths, quant, So};

@@ -1,6 +1,8 @@
 // The places of E[p U q] or A[p U q] in time linear in the edges: each place that joins the set is stacked once, and each edge is
 // passed once in each direction. `head`, `link` and `to` are the lists of the steps, `entry`, `chain` and `from` those of the
 // opposite direction.
+#![tactic(auto)]
+
 ghost use Rattle.std.specs.Prelude.{◌≡◌, true, false, ◌↔◌, ◌+◌, ◌*◌, ◌≤◌, ◌<◌, length};
 ghost use Rattle.bits.specs.Row.{member};
 ghost use Rattle.ctl.specs.Paths.{quant};
