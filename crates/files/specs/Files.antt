@@ -1,6 +1,7 @@
 -- What is told of a file's bytes. No contract can say which bytes the system hands over.
 use Rattle.std.specs.Prelude.{◌≡◌, ◌⊎◌, List, ℕ, ◌≤◌, ◌<◌, T, length, take, drop}
 use Rattle.std.specs.Int.Signed.{non_neg}
+use Rattle.std.specs.Fd.{file_raw_fd}
 use Rattle.io.specs.Counts.{IsPrefixLen}
 use Rattle.files.specs.declared.FileRead.{FileRead}
 use Rattle.files.specs.declared.FileRead.TheVariants.{Whole, Missing, Unread}
@@ -21,20 +22,20 @@ chunk_room = 16384
 
 -- an open file's descriptor isn't negative
 abbrev pub Opens : Opened → Type 0
-Opens (opened.File d) = T (non_neg d)
-Opens opened.Missing = Unit
+Opens (opened.File f) = T (non_neg (file_raw_fd f))
+Opens (opened.Missing e) = Unit
 
 -- one read puts some bytes to the lent ones, o before and q after
 abbrev pub Takes : List ℕ → List ℕ → Taken → Type 0
 Takes o q (taken.Bytes n) = (0 < n) × (n ≤ length o) × (length q ≡ length o)
 Takes o q taken.End = length q ≡ length o
-Takes o q taken.Failed = length q ≡ length o
+Takes o q (taken.Failed e) = length q ≡ length o
 
 -- a whole file is shorter than the lent bytes
 abbrev pub Ends : List ℕ → List ℕ → Ended → Type 0
 Ends o q (ended.Whole n) = (n < length o) × (length q ≡ length o)
 Ends o q ended.Full = length q ≡ length o
-Ends o q ended.Failed = length q ≡ length o
+Ends o q (ended.Failed e) = length q ≡ length o
 
 -- the lent bytes beyond the room are kept
 pub record Kept (o q : List ℕ) : Type 0 where

@@ -3,10 +3,15 @@
 #![tactic(auto)]
 
 ghost use Rattle.std.specs.Prelude.{◌≡◌, ◌≤◌, length};
+ghost use Rattle.std.specs.Io.{WritesAtMost};
 ghost use Rattle.io.specs.Counts.{IsPrefixLen};
-ghost use Rattle.files.specs.Files.{chunk_room, Opens, Takes, Ends, Reads, Settles};
+ghost use Rattle.files.specs.Files.{chunk_room, file_room, Opens, Takes, Ends, Reads, Settles};
 
-use libc::{STDERR_FILENO, STDOUT_FILENO};
+use std::env::{Env, FillError};
+use std::fmt::InlineText;
+use std::fs::File;
+use std::io::{Error, ErrorKind, Print, Read, Write};
+use std::os::fd::AsRawFd;
 use tokens::WordRead;
 
 // A file has at most 65,535 bytes; one byte more is lent, by which a longer one is told.
@@ -23,6 +28,8 @@ pub const UNREAD: u8 = 2;
 pub const UNWRITTEN: u8 = 3;
 // The status goes to this descriptor, where the first argument is `--status`.
 const STATUS_FILENO: i32 = 3;
+// What the system says of a descriptor that isn't open.
+const NOT_OPEN: i32 = 9;
 
 // Whole: the file's bytes stand at the front of the lent ones. Missing: it can't be opened. Unread: it can't be read to its end, or is
 // longer than 65,535 bytes.
@@ -33,10 +40,10 @@ pub enum FileRead {
     Unread,
 }
 
-#[derive(Clone, Copy)]
+#[derive(Drop)]
 enum Opened {
-    File(i32),
-    Missing,
+    File(File),
+    Missing(Error),
 }
 
 // What one read answers: so many bytes, that none is left, or that it failed.
@@ -44,7 +51,7 @@ enum Opened {
 enum Taken {
     Bytes(usize),
     End,
-    Failed,
+    Failed(Error),
 }
 
 // Whole: all of the file, of so many bytes. Full: it is as long as the lent bytes, or longer. Failed: a read failed.
@@ -52,7 +59,7 @@ enum Taken {
 enum Ended {
     Whole(usize),
     Full,
-    Failed,
+    Failed(Error),
 }
 
 pub fn chunk() -> [u8; CHUNK]
@@ -61,10 +68,39 @@ pub fn chunk() -> [u8; CHUNK]
     [0; CHUNK]
 }
 
+// The bytes that are lent for a file.
+pub fn room() -> [u8; FILE_ROOM]
+    ensures { length result ≡ file_room }
+{
+    [0; FILE_ROOM]
+}
+
+// Writes the text to standard error. What can't be written there is told nowhere.
+pub fn tell(rt: &HostRuntime, text: &[u8]) {
+    let _ = rt.stderr().write_all(text);
+}
+
+// Tells what failed, a colon and the system's words for why: those of the error without its number.
+fn fail(rt: &HostRuntime, what: &[u8], error: Error) {
+    let words = InlineText::<128>::of(error);
+    let number = match error.raw_os_error() {
+        Some(code) => InlineText::<32>::of(format_args!(" (os error {code})")),
+        None => InlineText::<32>::new(),
+    };
+    let all = words.as_str();
+    let why = all.strip_suffix(number.as_str()).unwrap_or(all);
+    tell(rt, what);
+    tell(rt, b": ");
+    tell(rt, why.as_bytes());
+    tell(rt, b"\n");
+}
+
 // Whether the first argument is `--status`.
-fn asks_status() -> bool {
+fn asks_status(rt: &HostRuntime) -> bool {
     let mut first = io::buffer();
-    let n = os::arg(1, &mut first);
+    let Ok(n) = rt.arg(1, &mut first) else {
+        return false;
+    };
     let WordRead::Found(k) = tokens::word(&first[..n], 0, b"--status") else {
         return false;
     };
@@ -72,58 +108,91 @@ fn asks_status() -> bool {
 }
 
 // How many arguments stand before the program's own.
-fn skipped() -> usize
+fn skipped(rt: &HostRuntime) -> usize
     ensures { result ≤ 1 }
 {
-    if asks_status() { 1 } else { 0 }
+    if asks_status(rt) { 1 } else { 0 }
+}
+
+// How many arguments the program was started with, its name among them. The first that is missing ends them.
+fn all_arguments(rt: &HostRuntime) -> usize {
+    let mut first = [0u8; 1];
+    for i in 0..usize::MAX {
+        if let Err(FillError::NotPresent) = rt.arg(i, &mut first) {
+            return i;
+        }
+    }
+    usize::MAX
 }
 
 // How many arguments the program has, its name among them and `--status` not.
-pub fn arg_count() -> usize {
-    let n = os::arg_count();
-    let k = skipped();
+pub fn arg_count(rt: &HostRuntime) -> usize {
+    let n = all_arguments(rt);
+    let k = skipped(rt);
     if n < k {
         return 0;
     }
     n - k
 }
 
-// Puts argument i at the front of the lent bytes and answers its length; 0 where it is missing or has no room, and errno is then not 0.
-pub fn arg(i: usize, buffer: &mut [u8]) -> usize
+// Puts argument i at the front of the lent bytes and answers its length, or that it is missing or has no room.
+fn argument(rt: &HostRuntime, i: usize, buffer: &mut [u8]) -> Result<usize, FillError>
+    ensures { WritesAtMost result buffer.new }
+{
+    let k = skipped(rt);
+    if all_arguments(rt) <= i {
+        return rt.arg(i, buffer);
+    }
+    rt.arg(i + k, buffer)
+}
+
+// Puts argument i at the front of the lent bytes and answers its length; 0 where it is missing or has no room.
+pub fn arg(rt: &HostRuntime, i: usize, buffer: &mut [u8]) -> usize
     ensures { IsPrefixLen result buffer.new }
 {
-    let k = skipped();
-    if os::arg_count() <= i {
-        return os::arg(i, buffer);
+    match argument(rt, i, buffer) {
+        Ok(n) => n,
+        Err(_) => 0,
     }
-    os::arg(i + k, buffer)
 }
 
-fn open(name: &[u8]) -> Opened
+// std takes names that are UTF-8.
+fn try_open(rt: &HostRuntime, name: &[u8]) -> Result<File, Error> {
+    match std::str::from_utf8(name) {
+        Ok(path) => File::open(rt, path),
+        Err(_) => Err(Error::new(ErrorKind::InvalidInput, "its name isn't UTF-8")),
+    }
+}
+
+fn open(rt: &HostRuntime, name: &[u8]) -> Opened
     ensures { Opens result }
 {
-    let file = os::open_read(name);
-    if file < 0 {
-        return Opened::Missing;
+    match try_open(rt, name) {
+        Ok(file) => {
+            if file.as_raw_fd() < 0 {
+                return Opened::Missing(Error::from_raw_os_error(NOT_OPEN));
+            }
+            Opened::File(file)
+        }
+        Err(e) => Opened::Missing(e),
     }
-    Opened::File(file)
 }
 
-fn read_some(file: i32, part: &mut [u8]) -> Taken
+fn read_some(file: &mut File, part: &mut [u8]) -> Taken
     ensures { Takes part.old part.new result }
 {
-    let got = libc::read(file, part);
-    if got < 0 {
-        return Taken::Failed;
+    match file.read(part) {
+        Ok(n) => {
+            if n == 0 {
+                return Taken::End;
+            }
+            Taken::Bytes(n)
+        }
+        Err(e) => Taken::Failed(e),
     }
-    let n = io::count(got, part);
-    if n == 0 {
-        return Taken::End;
-    }
-    Taken::Bytes(n)
 }
 
-fn read_to_end(file: i32, buffer: &mut [u8]) -> Ended
+fn read_to_end(file: &mut File, buffer: &mut [u8]) -> Ended
     ensures { Ends buffer.old buffer.new result }
 {
     let mut done: usize = 0;
@@ -135,8 +204,8 @@ fn read_to_end(file: i32, buffer: &mut [u8]) -> Ended
             Taken::End => {
                 return Ended::Whole(done);
             }
-            Taken::Failed => {
-                return Ended::Failed;
+            Taken::Failed(e) => {
+                return Ended::Failed(e);
             }
         }
     }
@@ -144,118 +213,127 @@ fn read_to_end(file: i32, buffer: &mut [u8]) -> Ended
 }
 
 // Reads an open file, and tells why it can't be read.
-fn read_open(file: i32, name: &[u8], buffer: &mut [u8]) -> FileRead
+fn read_open(rt: &HostRuntime, file: &mut File, name: &[u8], buffer: &mut [u8]) -> FileRead
     ensures { Reads buffer.old buffer.new result }
 {
     if buffer.len() < FILE_ROOM {
-        io::write_all(STDERR_FILENO, name);
-        io::write_all(STDERR_FILENO, b" can't be read: no room for 65,535 bytes\n");
+        tell(rt, name);
+        tell(rt, b" can't be read: no room for 65,535 bytes\n");
         return FileRead::Unread;
     }
     match read_to_end(file, &mut buffer[..FILE_ROOM]) {
         Ended::Whole(n) => FileRead::Whole(n),
         Ended::Full => {
-            io::write_all(STDERR_FILENO, name);
-            io::write_all(STDERR_FILENO, b" can't be read: over 65,535 bytes\n");
+            tell(rt, name);
+            tell(rt, b" can't be read: over 65,535 bytes\n");
             FileRead::Unread
         }
-        Ended::Failed => {
-            io::write_all(STDERR_FILENO, name);
-            os::fail(b" can't be read");
+        Ended::Failed(e) => {
+            tell(rt, name);
+            fail(rt, b" can't be read", e);
             FileRead::Unread
         }
     }
 }
 
-// Reads the file with this name; where it can't be opened, its name, these words and why are told.
-fn read_named(name: &[u8], words: &[u8], buffer: &mut [u8]) -> FileRead
+// Reads the file with this name; where it can't be opened, its name, these words and why are told. The file is closed.
+fn read_named(rt: &HostRuntime, name: &[u8], words: &[u8], buffer: &mut [u8]) -> FileRead
     ensures { Reads buffer.old buffer.new result }
 {
-    match open(name) {
-        Opened::File(file) => {
-            let told = read_open(file, name, buffer);
-            libc::close(file);
-            told
-        }
-        Opened::Missing => {
-            io::write_all(STDERR_FILENO, name);
-            os::fail(words);
+    match open(rt, name) {
+        Opened::File(mut file) => read_open(rt, &mut file, name, buffer),
+        Opened::Missing(e) => {
+            tell(rt, name);
+            fail(rt, words, e);
             FileRead::Missing
         }
     }
 }
 
 // The same of the file that argument i names, or of the default where the argument is missing.
-fn read_argument(i: usize, default: &[u8], words: &[u8], buffer: &mut [u8]) -> FileRead
+fn read_argument(
+    rt: &HostRuntime,
+    i: usize,
+    default: &[u8],
+    words: &[u8],
+    buffer: &mut [u8],
+) -> FileRead
     ensures { Reads buffer.old buffer.new result }
 {
-    if arg_count() <= i {
-        return read_named(default, words, buffer);
+    if arg_count(rt) <= i {
+        return read_named(rt, default, words, buffer);
     }
     let mut name = io::buffer();
-    let n = arg(i, &mut name);
-    if os::errno() != 0 {
-        os::fail(b"a file's name");
-        return FileRead::Missing;
+    match argument(rt, i, &mut name) {
+        Ok(n) => read_named(rt, &name[..n], words, buffer),
+        Err(FillError::TooLong) => {
+            tell(rt, b"a file's name: File name too long\n");
+            FileRead::Missing
+        }
+        Err(FillError::NotPresent) => {
+            tell(rt, b"a file's name: Invalid argument\n");
+            FileRead::Missing
+        }
     }
-    read_named(&name[..n], words, buffer)
 }
 
 // Puts the bytes of the file that argument i names, or of the default where the argument is missing, at the front of the lent ones. A line
 // on standard error tells why there are none.
-pub fn read(i: usize, default: &[u8], buffer: &mut [u8]) -> FileRead
+pub fn read(rt: &HostRuntime, i: usize, default: &[u8], buffer: &mut [u8]) -> FileRead
     ensures { Reads buffer.old buffer.new result }
 {
-    read_argument(i, default, b" can't be opened", buffer)
+    read_argument(rt, i, default, b" can't be opened", buffer)
 }
 
 // The same for a program that takes a file that can't be opened for an empty one, and says so.
-pub fn read_or_empty(i: usize, default: &[u8], buffer: &mut [u8]) -> FileRead
+pub fn read_or_empty(rt: &HostRuntime, i: usize, default: &[u8], buffer: &mut [u8]) -> FileRead
     ensures { Reads buffer.old buffer.new result }
 {
-    read_argument(i, default, b" is read as empty", buffer)
+    read_argument(rt, i, default, b" is read as empty", buffer)
 }
 
 // Writes the text to standard output. Where not all is written, a line on standard error tells why.
-pub fn write(text: &[u8]) -> bool {
-    if io::write_all(STDOUT_FILENO, text) {
-        return true;
+pub fn write(rt: &HostRuntime, text: &[u8]) -> bool {
+    match rt.write_all(text) {
+        Ok(()) => true,
+        Err(e) => {
+            fail(rt, b"standard output", e);
+            false
+        }
     }
-    os::fail(b"standard output");
-    false
 }
 
 // Writes the text to standard output, and answers this status, or that of output that wasn't written.
-pub fn print(text: &[u8], status: u8) -> u8
+pub fn print(rt: &HostRuntime, text: &[u8], status: u8) -> u8
     ensures { Settles status result }
 {
-    if write(text) {
+    if write(rt, text) {
         return status;
     }
     UNWRITTEN
 }
 
-// The status after standard output is closed, which tells what was lost late. One that was never open has no error left to tell.
-fn settled(n: u8) -> u8
+// The status after standard output is flushed, which tells what was lost late.
+fn settled(rt: &HostRuntime, n: u8) -> u8
     ensures { Settles n result }
 {
     if n == UNWRITTEN {
         return n;
     }
-    if 0 <= libc::close(STDOUT_FILENO) {
-        return n;
+    let mut out = rt.stdout();
+    match out.flush() {
+        Ok(()) => n,
+        Err(e) => {
+            fail(rt, b"standard output", e);
+            UNWRITTEN
+        }
     }
-    if os::errno() == libc::EBADF {
-        return n;
-    }
-    os::fail(b"standard output");
-    UNWRITTEN
 }
 
-// Closes standard output and tells the status, a program's last call: one digit and byte 10.
-pub fn status(n: u8) {
-    let told = settled(n);
-    if asks_status() {
+// Flushes standard output and tells the status, a program's last call: one digit and byte 10.
+pub fn status(rt: &HostRuntime, n: u8) {
+    let told = settled(rt, n);
+    if asks_status(rt) {
         io::write_all(STATUS_FILENO, &[b'0' + told % 10, b'\n']);
     }
 }

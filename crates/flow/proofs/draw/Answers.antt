@@ -1,0 +1,18 @@
+-- `flow::draw` meets its contract: the edges forward stand in the first part of the numbers, and those backward in the second.
+-- Assumes nothing.
+use mathlib.Core.Path.{sym, ◌∙◌}
+use native.Mathlib.Omega.{arith}
+use lib.Seq.{length-take-le}
+use Rattle.flow.proofs.Edges.{both-drawn}
+use Rattle.flow.proofs.draw.Goals as goal
+
+pub slice_bounds-connect-end-2 : goal.slice_bounds-connect-end-2
+slice_bounds-connect-end-2 c = sym (length-take-le _ c.args.flow.now (omega (arith, c.requires.n_nonzero.2)))
+
+pub connect-requires : goal.connect-requires
+connect-requires c = record { inside = c.requires.inside; space = record { few = c.requires.n_nonzero.1; size = sym ((sym (length-take-le _ c.args.flow.now (omega (arith, c.requires.n_nonzero.2))))) } }
+
+pub returns : goal.returns
+returns c =
+    both-drawn _ c.args.first.now c.args.second.now c.args.flow.now c.connect.new.edges.0 c.connect_back.new.edges.0 c.requires.n_nonzero.1 c.requires.n_nonzero.2
+    (c.connect.auto.edges.0 ∙ sym ((sym (length-take-le _ c.args.flow.now (omega (arith, c.requires.n_nonzero.2)))))) c.connect_back.auto.edges.0 _ _ _ _ c.connect.ensures c.connect_back.ensures

@@ -1,0 +1,7 @@
+-- `labelling::blank` meets its contract. Assumes nothing.
+use Rattle.bits.proofs.Rows.{zeros}
+use Rattle.graph.specs.Graphs.{places}
+use Rattle.labelling.proofs.blank.Goals as goal
+
+pub returns : goal.returns
+returns c = zeros places

@@ -1,0 +1,55 @@
+-- `find` meets its contract: the facts of the program that was read are found, and its graph is drawn, as for a table. Assumes nothing.
+use mathlib.Core.Path.{ap, ◌∙◌}
+use Prim.Native.Nat.{ℕ}
+use native.Mathlib.Omega.{arith}
+use lib.ListN.{length, length-replicate}
+use Rattle.program.specs.Program.{Taken}
+use Rattle.program.specs.Reading.{statements, Held}
+use Rattle.program.proofs.Unique.{taken_refused}
+use Rattle.table.specs.Known.{Known}
+use Rattle.table.proofs.By.{known_in}
+use Rattle.atoms.proofs.Found.{placeless}
+use Rattle.calls.proofs.Known.{known-program}
+use Rattle.liveness.specs.Liveness.{live_words}
+use Rattle.liveness.proofs.Rows.{all_live, of-text, of_none}
+use Rattle.liveness.proofs.find.Goals as goal
+use Rattle.liveness.proofs.find.Goals.{In-Taken}
+
+pub returns-in_default : goal.returns-in_default
+returns-in_default c =
+    let f = rw c.in_default.is at c.read-reading.ensures in
+    of_none (λ P t. taken_refused _ t c.in_default.field-0 f.0) c.blank-live.ensures
+
+-- the text that was read is taken
+program-taken : (c : In-Taken) → Taken c.args.program.now (statements c.read-reading.result.program) × Held c.read-reading.result.program
+program-taken c = rw c.in-Taken.is at c.read-reading.ensures
+
+pub find-requires : goal.find-requires
+find-requires c =
+    let p = program-taken (goal.at.find-requires c).In-Taken in
+    record { held = p.1; well_formed = p.0.program; placeless = placeless c.blank-rows.ensures }
+
+pub of-requires : goal.of-requires
+of-requires c = let p = program-taken (goal.at.of-requires c).In-Taken in record { held = p.1; well_formed = p.0.program; flow_len = c.blank-flow.ensures.size }
+
+-- what is known of the program once its facts are found and its graph is drawn
+known :
+    (c : tie.After-flow2)
+    → let read = c.before.before.before.before.before.before.before.before.before.before.before.before.before.before.read in
+    let find = c.before.before.before.before.before.before.find in
+    Known (statements read.result.program) read.result.program.count find.new.1.0 find.new.1.1.0 c.before.of.new.1.0
+known c =
+    let p = program-taken c.before.before.before.before.before.before.before.before.before.before.before.before in
+    let of = c.before.of in
+    known-program {flow = of.new.1.0} p.0 p.1 c.before.before.before.before.before.before.find.ensures c.before.before.before.before.before.before.before.before.before.blank-codes.ensures.many of.ensures (omega (arith, of.auto, c.before.before.before.blank3.ensures.size))
+
+pub fill-requires : goal.fill-requires
+fill-requires c =
+    record { some_known = record { P = _; known = known_in (known c) }; live_len = ap length c.blank-live.ensures ∙ length-replicate {A = ℕ} live_words 0 }
+
+pub returns : goal.returns
+returns c =
+    let k = known c in
+    let p = program-taken (goal.at.returns c).In-Taken in
+    let size = ap length c.blank-live.ensures ∙ length-replicate {A = ℕ} live_words 0 in
+    of-text p.0 (all_live k (c.fill.auto.live.0 ∙ size) (c.fill.ensures _ (known_in k)))

@@ -1,0 +1,5 @@
+-- `price_of` meets its contract. Assumes nothing.
+use Rattle.pricing.proofs.price_of.Goals as goal
+
+pub returns : goal.returns
+returns c = rw c.kind_of-k.ensures.0

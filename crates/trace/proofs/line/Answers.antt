@@ -1,0 +1,36 @@
+-- `line` meets its contract: the head, what is assigned and byte 10. Assumes nothing.
+use native.Mathlib.Omega.{arith}
+use Rattle.statement_writer.proofs.Puts.{put_then}
+use Rattle.trace.specs.Trace.{assignment, line_text}
+use Rattle.trace.proofs.Room.{head-most, assignment-most, line-most}
+use borrow.Author.Rules.{rules}
+use Rattle.trace.proofs.line.Goals as goal
+
+pub head-k1-requires : goal.head-k1-requires
+head-k1-requires c =
+    record { place_lt_most = c.requires.place_lt_most; s_in_bounds = omega (arith, head-most c.args.k c.args.place c.args.s (search rules) c.requires.place_lt_most c.requires.valid c.requires.targets) }
+
+pub assignment-k2-requires : goal.assignment-k2-requires
+assignment-k2-requires c =
+    record { valid = c.requires.valid; assigned_room_in_bounds = omega (arith, head-most c.args.k c.args.place c.args.s (search rules) c.requires.place_lt_most c.requires.valid c.requires.targets) }
+
+pub byte-requires : goal.byte-requires
+byte-requires c =
+    omega (
+      arith,
+      head-most c.args.k c.args.place c.args.s (search rules) c.requires.place_lt_most c.requires.valid c.requires.targets,
+      assignment-most c.args.s c.args.old.now c.args.new.now c.requires.valid,
+    )
+
+pub returns : goal.returns
+unfolding line_text
+returns c =
+    let p = put_then c.head-k1.ensures (put_then c.assignment-k2.ensures c.byte.ensures) in (
+      p,
+      omega (
+        arith,
+        p.after,
+        line-most c.args.k c.args.place c.args.s (assignment c.args.s c.args.old.now c.args.new.now) (search rules) c.requires.place_lt_most c.requires.valid c.requires.targets
+            (assignment-most c.args.s c.args.old.now c.args.new.now c.requires.valid),
+      ),
+    )

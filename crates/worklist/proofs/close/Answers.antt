@@ -1,0 +1,69 @@
+-- `worklist::close` meets its contract. The invariant: each place that is to join steps to one on the stack. The measure is
+-- the number of places that are not in the set, and the height. Assumes nothing.
+use mathlib.Core.Path.{refl, ◌∙◌}
+use mathlib.Core.Bool.{false}
+use Prim.Native.Nat.{◌-◌}
+use native.Mathlib.Omega.{arith}
+use lib.ListN.{length}
+use Rattle.bits.specs.Row.{member}
+use Rattle.bits.proofs.Counts.{count-le}
+use Rattle.ctl.proofs.Reach.{grew_none, grew-more}
+use Rattle.worklist.proofs.Rest.{rest-first}
+use Rattle.worklist.proofs.Stack.{work-first, work-take, work-last}
+use Rattle.worklist.proofs.close.Goals as goal
+
+pub gather-h-requires : goal.gather-h-requires
+gather-h-requires c = let z = c.requires.space in (z.set_room, z.stack_room, z.small)
+
+pub loop-h-init : goal.loop-h-init
+loop-h-init c =
+    (
+      refl,
+      refl,
+      refl,
+      rest-first _ _ _ _ _ c.requires.rest_value,
+      work-first _ _ _ _ c.requires.turned.graph _ _ _ c.gather-h.ensures,
+      grew_none _ _ _ _ _,
+    )
+
+pub offset_bounds-stack-h : goal.offset_bounds-stack-h
+offset_bounds-stack-h c =
+    omega (arith, c.requires.space.small, c.loop-h.invariant.4.fit, count-le (member c.loop-h.set) (length c.args.head.now))
+
+pub bounds-stack-h : goal.bounds-stack-h
+bounds-stack-h c =
+    omega (arith, c.requires.space.stack_room, c.loop-h.invariant.2, c.gather-h.auto.stack.0, c.loop-h.invariant.4.fit, count-le (member c.loop-h.set) (length c.args.head.now))
+
+pub visit-h-requires : goal.visit-h-requires
+visit-h-requires c =
+    let z = c.requires.space in
+    let pos = c.loop-h-test.true in
+    let top = c.loop-h.invariant.4.stacked (c.loop-h.h - 1) (omega arith) in record { turned = c.requires.turned; space = record { p_room = z.p_room; set_room = omega (arith, z.set_room, c.loop-h.invariant.0); stack_room = omega (arith, z.stack_room, c.loop-h.invariant.2, c.gather-h.auto.stack.0); small = z.small }; visit = record { low = rw c.wide-t.ensures top.0; reached = rw c.wide-t.ensures top.1; seen = c.loop-h.invariant.3; work = work-take _ _ _ _ _ c.requires.turned.opposite _ _ _ _ pos c.wide-t.ensures c.loop-h.invariant.4 } }
+
+pub loop-h-smaller : goal.loop-h-smaller
+loop-h-smaller c =
+    let n = length c.args.head.now in
+    omega (arith, c.visit-h.ensures.paid, c.loop-h-test.true, count-le (member c.loop-h.set) n, count-le (member c.visit-h.new.set) n)
+
+pub loop-h-preserved : goal.loop-h-preserved
+loop-h-preserved c =
+    (
+      c.visit-h.auto.set ∙ c.loop-h.invariant.0,
+      c.visit-h.auto.rest ∙ c.loop-h.invariant.1,
+      c.visit-h.auto.stack ∙ c.loop-h.invariant.2,
+      c.visit-h.ensures.seen,
+      c.visit-h.ensures.work,
+      grew-more _ _ _ _ c.requires.turned.graph _ _ _ c.loop-h.invariant.5 c.visit-h.ensures.grew,
+    )
+
+pub shape_of-set : goal.shape_of-set
+shape_of-set c = c.loop-h.invariant.0
+
+pub shape_of-rest : goal.shape_of-rest
+shape_of-rest c = c.loop-h.invariant.1
+
+pub shape_of-stack : goal.shape_of-stack
+shape_of-stack c = c.loop-h.invariant.2 ∙ c.gather-h.auto.stack.0
+
+pub returns : goal.returns
+returns c = work-last _ _ _ _ _ _ _ _ c.loop-h-test.false c.loop-h.invariant.4 c.loop-h.invariant.5

@@ -1,0 +1,16 @@
+use mathlib.Core.Path.{◌≡◌}
+use lib.ListN.{length}
+use Rattle.bits.specs.Row.{member}
+use Rattle.ctl.specs.Paths.{quant}
+use Rattle.graph.specs.Lists.{listed}
+use Rattle.worklist.specs.Worklist.{Visited}
+use Rattle.worklist.proofs.Stack.{Walked}
+use Rattle.worklist.proofs.visit.Given as goal
+
+abbrev pub invariant-loop-k : goal.invariant-loop-k
+invariant-loop-k l =
+    (length l.set ≡ length l.initial.set) × (length l.rest ≡ length l.initial.rest) × (length l.stack ≡ length l.initial.stack) × Walked l.entry l.chain l.from (length l.head) l.t l.k
+    × Visited (quant l.all) l.head l.link l.to (member l.p) (member l.initial.set) (member l.set) l.rest l.stack l.height l.h (listed l.chain l.from l.k)
+
+abbrev pub decreases-loop-k : goal.decreases-loop-k
+decreases-loop-k l = l.k
