@@ -5,13 +5,12 @@
 
 use desk::refusals::REFUSAL_ROOM;
 use files::{FileRead, REFUSAL, RESULT, UNREAD, UNWRITTEN};
-use libc::STDERR_FILENO;
 use report::{REPORT_ROOM, Reported, Worded};
 
-fn print_words(given: &[u8], marks: &[u8]) {
+fn print_words(rt: &HostRuntime, given: &[u8], marks: &[u8]) {
     let mut out = [0u8; REFUSAL_ROOM];
     if let Worded::Written(n) = report::words(given, marks, &mut out) {
-        io::write_all(STDERR_FILENO, &out[..n]);
+        files::tell(rt, &out[..n]);
     }
 }
 
@@ -21,13 +20,13 @@ fn worse(status: u8, missing: bool) -> u8 {
 }
 
 // Prints what is said of the program and the list, and answers the status.
-fn print(given: &[u8], marks: &[u8], missing: bool) -> u8 {
+fn print(rt: &HostRuntime, given: &[u8], marks: &[u8], missing: bool) -> u8 {
     let mut out = [0u8; REPORT_ROOM];
     match report::report(given, marks, &mut out) {
-        Reported::Written(n) => files::print(&out[..n], worse(RESULT, missing)),
+        Reported::Written(n) => files::print(rt, &out[..n], worse(RESULT, missing)),
         Reported::Refused(n) => {
-            let status = files::print(&out[..n], worse(REFUSAL, missing));
-            print_words(given, marks);
+            let status = files::print(rt, &out[..n], worse(REFUSAL, missing));
+            print_words(rt, given, marks);
             status
         }
         Reported::NoRoom => UNWRITTEN,
@@ -35,34 +34,34 @@ fn print(given: &[u8], marks: &[u8], missing: bool) -> u8 {
 }
 
 // Reads the list, and answers the status.
-fn check_marks(given: &[u8], missing: bool) -> u8 {
-    let mut marks = io::large_buffer();
-    match files::read_or_empty(2, b"marks", &mut marks) {
-        FileRead::Whole(n) => print(given, &marks[..n], missing),
-        FileRead::Missing => print(given, b"", true),
+fn check_marks(rt: &HostRuntime, given: &[u8], missing: bool) -> u8 {
+    let mut marks = files::room();
+    match files::read_or_empty(rt, 2, b"marks", &mut marks) {
+        FileRead::Whole(n) => print(rt, given, &marks[..n], missing),
+        FileRead::Missing => print(rt, given, b"", true),
         FileRead::Unread => UNREAD,
     }
 }
 
 // Reads the program, then the list.
-fn check() -> u8 {
-    let mut given = io::large_buffer();
-    match files::read_or_empty(1, b"given", &mut given) {
-        FileRead::Whole(m) => check_marks(&given[..m], false),
-        FileRead::Missing => check_marks(b"", true),
+fn check(rt: &HostRuntime) -> u8 {
+    let mut given = files::room();
+    match files::read_or_empty(rt, 1, b"given", &mut given) {
+        FileRead::Whole(m) => check_marks(rt, &given[..m], false),
+        FileRead::Missing => check_marks(rt, b"", true),
         FileRead::Unread => UNREAD,
     }
 }
 
-fn usage() {
-    io::write_all(STDERR_FILENO, b"usage: check_rewrites [PROGRAM [MARKS]]\n");
+fn usage(rt: &HostRuntime) {
+    files::tell(rt, b"usage: check_rewrites [PROGRAM [MARKS]]\n");
 }
 
-fn main() {
-    if 3 < files::arg_count() {
-        usage();
-        files::status(UNREAD);
+fn main(rt: HostRuntime) {
+    if 3 < files::arg_count(&rt) {
+        usage(&rt);
+        files::status(&rt, UNREAD);
         return;
     }
-    files::status(check());
+    files::status(&rt, check(&rt));
 }

@@ -6,7 +6,6 @@ ghost use Rattle.std.specs.Prelude.{◌≡◌};
 ghost use Rattle.compare_runs.specs.Printing.{end_at, Printed};
 
 use files::{FileRead, REFUSAL, RESULT, UNREAD, UNWRITTEN};
-use libc::STDERR_FILENO;
 use side_by_side::Stage;
 
 // Whether more is to be printed, or all is told, with this status.
@@ -29,7 +28,7 @@ fn end_at(stage: Stage) -> End
 }
 
 // Prints all, and answers the status.
-fn print(program: &[u8], marks: &[u8], start: &[u8]) -> u8
+fn print(rt: &HostRuntime, program: &[u8], marks: &[u8], start: &[u8]) -> u8
     ensures { Printed program.now marks.now start.now result }
 {
     let mut new = judge::text_buffer();
@@ -38,7 +37,7 @@ fn print(program: &[u8], marks: &[u8], start: &[u8]) -> u8
     loop {
         let piece = side_by_side::next(program, marks, start, from, &mut new, &mut out);
         let n = piece.bytes;
-        if !files::write(&out[..n]) {
+        if !files::write(rt, &out[..n]) {
             return UNWRITTEN;
         }
         let next = piece.next;
@@ -50,34 +49,31 @@ fn print(program: &[u8], marks: &[u8], start: &[u8]) -> u8
     }
 }
 
-fn usage() {
-    io::write_all(
-        STDERR_FILENO,
-        b"usage: compare_runs [PROGRAM [MARKS [START]]]\n",
-    );
+fn usage(rt: &HostRuntime) {
+    files::tell(rt, b"usage: compare_runs [PROGRAM [MARKS [START]]]\n");
 }
 
 // Reads the files and prints. Answers the status.
-fn compare() -> u8 {
-    if 4 < files::arg_count() {
-        usage();
+fn compare(rt: &HostRuntime) -> u8 {
+    if 4 < files::arg_count(rt) {
+        usage(rt);
         return UNREAD;
     }
-    let mut given = io::large_buffer();
-    let FileRead::Whole(k) = files::read(1, b"given", &mut given) else {
+    let mut given = files::room();
+    let FileRead::Whole(k) = files::read(rt, 1, b"given", &mut given) else {
         return UNREAD;
     };
-    let mut marks = io::large_buffer();
-    let FileRead::Whole(m) = files::read(2, b"marks", &mut marks) else {
+    let mut marks = files::room();
+    let FileRead::Whole(m) = files::read(rt, 2, b"marks", &mut marks) else {
         return UNREAD;
     };
-    let mut start = io::large_buffer();
-    let FileRead::Whole(n) = files::read(3, b"start", &mut start) else {
+    let mut start = files::room();
+    let FileRead::Whole(n) = files::read(rt, 3, b"start", &mut start) else {
         return UNREAD;
     };
-    print(&given[..k], &marks[..m], &start[..n])
+    print(rt, &given[..k], &marks[..m], &start[..n])
 }
 
-fn main() {
-    files::status(compare());
+fn main(rt: HostRuntime) {
+    files::status(&rt, compare(&rt));
 }

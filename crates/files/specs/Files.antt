@@ -1,5 +1,5 @@
 -- What is told of a file's bytes. No contract can say which bytes the system hands over.
-use Rattle.std.specs.Prelude.{◌≡◌, ◌⊎◌, List, ℕ, ◌≤◌, ◌<◌, T, length, take, drop}
+use Rattle.std.specs.Prelude.{◌≡◌, ◌⊎◌, List, ℕ, ◌≤◌, ◌<◌, T, length, drop}
 use Rattle.std.specs.Int.Signed.{non_neg}
 use Rattle.std.specs.Fd.{file_raw_fd}
 use Rattle.io.specs.Counts.{IsPrefixLen}

@@ -3,18 +3,20 @@
 #![tactic(auto)]
 
 use files::FileRead;
-use libc::STDERR_FILENO;
 use tokens::WordRead;
 use transcript::Stage;
 
+// An argument is read into so many bytes: a longer one isn't the word.
+const WORD_ROOM: usize = 16;
+
 // Writes all pieces, and answers the status.
-fn print(program: &[u8], start: &[u8], trace: bool) -> u8 {
+fn print(rt: &HostRuntime, program: &[u8], start: &[u8], trace: bool) -> u8 {
     let mut out = files::chunk();
     let mut at = transcript::first();
     while !transcript::over(at) {
         let piece = transcript::next(program, start, trace, at, &mut out);
         let n = piece.bytes;
-        if !files::write(&out[..n]) {
+        if !files::write(rt, &out[..n]) {
             return files::UNWRITTEN;
         }
         at = piece.next;
@@ -27,9 +29,9 @@ fn print(program: &[u8], start: &[u8], trace: bool) -> u8 {
 }
 
 // Whether the third argument is `trace`.
-fn traced() -> bool {
-    let mut word = io::buffer();
-    let n = files::arg(3, &mut word);
+fn traced(rt: &HostRuntime) -> bool {
+    let mut word = [0u8; WORD_ROOM];
+    let n = files::arg(rt, 3, &mut word);
     let WordRead::Found(k) = tokens::word(&word[..n], 0, b"trace") else {
         return false;
     };
@@ -37,42 +39,39 @@ fn traced() -> bool {
 }
 
 // Four arguments, its own name among them, end with the word; more are too many.
-fn understood() -> bool {
-    let n = files::arg_count();
+fn understood(rt: &HostRuntime) -> bool {
+    let n = files::arg_count(rt);
     if n < 4 {
         return true;
     }
     if 4 < n {
         return false;
     }
-    traced()
+    traced(rt)
 }
 
 // Reads both files and prints; where one can't be read, nothing is printed.
-fn run() -> u8 {
-    let mut given = io::large_buffer();
-    let FileRead::Whole(m) = files::read(1, b"given", &mut given) else {
+fn run(rt: &HostRuntime) -> u8 {
+    let mut given = files::room();
+    let FileRead::Whole(m) = files::read(rt, 1, b"given", &mut given) else {
         return files::UNREAD;
     };
-    let mut from = io::large_buffer();
-    let FileRead::Whole(n) = files::read(2, b"start", &mut from) else {
+    let mut from = files::room();
+    let FileRead::Whole(n) = files::read(rt, 2, b"start", &mut from) else {
         return files::UNREAD;
     };
-    print(&given[..m], &from[..n], traced())
+    print(rt, &given[..m], &from[..n], traced(rt))
 }
 
-fn usage() -> u8 {
-    io::write_all(
-        STDERR_FILENO,
-        b"usage: run_program [PROGRAM [START [trace]]]\n",
-    );
+fn usage(rt: &HostRuntime) -> u8 {
+    files::tell(rt, b"usage: run_program [PROGRAM [START [trace]]]\n");
     files::UNREAD
 }
 
-fn main() {
-    if understood() {
-        files::status(run());
+fn main(rt: HostRuntime) {
+    if understood(&rt) {
+        files::status(&rt, run(&rt));
     } else {
-        files::status(usage());
+        files::status(&rt, usage(&rt));
     }
 }

@@ -8,9 +8,11 @@ mod frame;
 ghost use Rattle.std.specs.Prelude.{length, ◌≤◌};
 
 use files::{FileRead, REFUSAL, RESULT, UNREAD, UNWRITTEN};
-use libc::STDERR_FILENO;
 use tokens::WordRead;
 use view::{VIEW_ROOM, Viewed};
+
+// The first argument is read into so many bytes: a longer one isn't the word.
+const WORD_ROOM: usize = 16;
 
 // The length of the text without a byte 10 at its end.
 fn without_end(text: &[u8]) -> usize
@@ -26,81 +28,81 @@ fn without_end(text: &[u8]) -> usize
     n - 1
 }
 
-fn print(program: &[u8], condition: &[u8]) -> u8 {
+fn print(rt: &HostRuntime, program: &[u8], condition: &[u8]) -> u8 {
     let end = without_end(condition);
     let mut out = [0u8; VIEW_ROOM];
     match view::view(program, &condition[..end], &mut out) {
-        Viewed::Written(n) => files::print(&out[..n], RESULT),
-        Viewed::Refused(n) => files::print(&out[..n], REFUSAL),
+        Viewed::Written(n) => files::print(rt, &out[..n], RESULT),
+        Viewed::Refused(n) => files::print(rt, &out[..n], REFUSAL),
         Viewed::NoRoom => UNWRITTEN,
     }
 }
 
 // The text within the page.
-fn print_around(text: &[u8], status: u8) -> u8 {
-    if frame::print_head() && files::write(text) && frame::print_tail() {
+fn print_around(rt: &HostRuntime, text: &[u8], status: u8) -> u8 {
+    if frame::print_head(rt) && files::write(rt, text) && frame::print_tail(rt) {
         return status;
     }
     UNWRITTEN
 }
 
-fn print_page(program: &[u8], condition: &[u8]) -> u8 {
+fn print_page(rt: &HostRuntime, program: &[u8], condition: &[u8]) -> u8 {
     let end = without_end(condition);
     let mut out = page::buffer();
     match page::page(program, &condition[..end], &mut out) {
-        Viewed::Written(n) => print_around(&out[..n], RESULT),
-        Viewed::Refused(n) => print_around(&out[..n], REFUSAL),
+        Viewed::Written(n) => print_around(rt, &out[..n], RESULT),
+        Viewed::Refused(n) => print_around(rt, &out[..n], REFUSAL),
         Viewed::NoRoom => UNWRITTEN,
     }
 }
 
-fn show(page: bool, program: &[u8], condition: &[u8]) -> u8 {
+fn show(rt: &HostRuntime, page: bool, program: &[u8], condition: &[u8]) -> u8 {
     if page {
-        return print_page(program, condition);
+        return print_page(rt, program, condition);
     }
-    print(program, condition)
+    print(rt, program, condition)
 }
 
 // Whether the first argument is `--html`.
-fn asks_page() -> bool {
-    let mut first = io::buffer();
-    let n = files::arg(1, &mut first);
+fn asks_page(rt: &HostRuntime) -> bool {
+    let mut first = [0u8; WORD_ROOM];
+    let n = files::arg(rt, 1, &mut first);
     let WordRead::Found(k) = tokens::word(&first[..n], 0, b"--html") else {
         return false;
     };
     k == n
 }
 
-fn usage() {
-    io::write_all(
-        STDERR_FILENO,
+fn usage(rt: &HostRuntime) {
+    files::tell(
+        rt,
         b"usage: view_condition [--html] [PROGRAM [CONDITION]]\n",
     );
 }
 
 // The files are named by the arguments from `first` on. Answers the status.
-fn view_files(page: bool, first: usize) -> u8
+fn view_files(rt: &HostRuntime, page: bool, first: usize) -> u8
     requires { first ≤ 2 }
 {
-    if first + 2 < files::arg_count() {
-        usage();
+    if first + 2 < files::arg_count(rt) {
+        usage(rt);
         return UNREAD;
     }
-    let mut given = io::large_buffer();
-    let FileRead::Whole(m) = files::read(first, b"given", &mut given) else {
+    let mut given = files::room();
+    let FileRead::Whole(m) = files::read(rt, first, b"given", &mut given) else {
         return UNREAD;
     };
-    let mut text = io::large_buffer();
-    let FileRead::Whole(n) = files::read(first + 1, b"condition", &mut text) else {
+    let mut text = files::room();
+    let FileRead::Whole(n) = files::read(rt, first + 1, b"condition", &mut text) else {
         return UNREAD;
     };
-    show(page, &given[..m], &text[..n])
+    show(rt, page, &given[..m], &text[..n])
 }
 
-fn main() {
-    if asks_page() {
-        files::status(view_files(true, 2));
+fn main(rt: HostRuntime) {
+    if asks_page(&rt) {
+        files::status(&rt, view_files(&rt, true, 2));
         return;
     }
-    files::status(view_files(false, 1));
+    files::status(&rt, view_files(&rt, false, 1));
 }

@@ -1,3 +1,4 @@
+use Rattle.language.specs.declared.Statement.{Statement}
 use Rattle.atoms.specs.Facts.{FactsIn}
 use Rattle.codes.specs.Codes.{statement_code}
 use Rattle.labelling.specs.Labels.{Labelled}

@@ -1,5 +1,6 @@
 -- `run` meets its contract. The invariant: after `steps` steps, which the budget allows, the run stands before the statement at `at`, and took `ticks` under
 -- every table by which the prices are those of the program.
+use Rattle.language.specs.declared.Statement.{Statement}
 use mathlib.Core.Path.{◌≡◌, refl, ap, sym, ◌∙◌}
 use mathlib.Core.List.{List}
 use Prim.Native.Nat.{ℕ, ◌≤◌, ◌<◌, ◌-◌}
@@ -21,10 +22,8 @@ use Rattle.machine.specs.declared.Next.{Next}
 use Rattle.machine.proofs.Runs.{stands-first, step-inside, step-fault, step-over, step-paid, none-paid}
 use Rattle.arithmetic.proofs.Words.{stored_same}
 use Rattle.execution.proofs.run.Goals as goal
+use Rattle.execution.proofs.run.Invariants.{Paid}
 use Rattle.execution.proofs.run.Goals.{After-prices_of-prices}
-
-abbrev Paid : List Statement → List ℕ → ℕ → List ℕ → ℕ → ℕ → Type 0
-Paid P start input prices steps t = (ps : List ℕ) → prices ≡ column ps P → t ≡ spec.ticks ps P start input steps
 
 priced : (ps : List ℕ) {P : List Statement} {prices : List ℕ} {s : ℕ} → WellFormed P → s < length P → prices ≡ column ps P → get_or prices s 0 ≡ price ps (at P s)
 priced ps {P = P} {s = s} w h e = ap (λ (l : List ℕ). get_or l s 0) e ∙ column-at ps P w.counted.1 s h

@@ -1,8 +1,16 @@
-use Prim.Native.Nat.{◌≤◌, ◌-◌, ◌*◌}
+use Prim.Native.Nat.{◌≤◌, ◌-◌, ◌*◌, ℕ}
 use Rattle.program.specs.Program.{at}
 use Rattle.program.specs.Reading.{statements}
 use Rattle.machine.proofs.Runs.{Stands}
+use Rattle.language.specs.declared.Statement.{Statement}
+use mathlib.Core.Path.{◌≡◌}
+use mathlib.Core.List.{List}
+use Rattle.pricing.specs.Prices.{column}
+use Rattle.machine.specs.Ticks as spec
 use Rattle.execution.proofs.run.Given as goal
+
+abbrev pub Paid : List Statement → List ℕ → ℕ → List ℕ → ℕ → ℕ → Type 0
+Paid P start input prices steps t = (ps : List ℕ) → prices ≡ column ps P → t ≡ spec.ticks ps P start input steps
 
 abbrev pub invariant-loop-steps : goal.invariant-loop-steps
 invariant-loop-steps l =

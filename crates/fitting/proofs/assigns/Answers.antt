@@ -1,4 +1,6 @@
 -- `assigns` meets its contract: what a statement assigns to is the first number of its code. Assumes nothing.
+use Rattle.language.specs.declared.Statement.{Statement}
+use Rattle.language.specs.declared.Statement.TheVariants.{Assign}
 use mathlib.Core.Path.{◌≡◌, refl, sym, ◌∙◌, ap}
 use Prim.Native.Nat.{ℕ}
 use Rattle.base.proofs.Decides.{decides-same}

@@ -1,4 +1,5 @@
 -- `moved` meets its contract. Assumes nothing.
+use Rattle.language.specs.declared.Statement.TheVariants.{Branch}
 use native.Mathlib.Omega.{arith}
 use Rattle.program.specs.Program.{most, Targets}
 use Rattle.joining.proofs.moved.Goals as goal

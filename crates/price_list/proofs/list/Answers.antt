@@ -1,4 +1,5 @@
 -- `list` meets its contract: both texts read as their programs, and their columns are summed. Assumes nothing.
+use Rattle.language.specs.declared.Statement.{Statement}
 use mathlib.Core.Path.{◌≡◌, ◌∙◌}
 use mathlib.Core.List.{List}
 use Prim.Native.Nat.{ℕ}

@@ -18,12 +18,3 @@ more ps found k n i h e = rw (e, i) (more-force ps k h)
 
 pub loop-k-preserved : goal.loop-k-preserved
 loop-k-preserved c = (more _ _ c.loop-k.k _ c.loop-k.invariant.0 (search rules) c.counted.ensures, omega arith)
-
-pub returns : goal.returns
-returns c = c.loop-k.invariant.0 ∙ ap in_force (take_all c.loop-k.k c.args.t1 (search rules))
-
-pub bounds-prices-k : goal.bounds-prices-k
-bounds-prices-k c = omega (arith, ap length c.loop-k.invariant.0, force-length (take c.loop-k.k c.args.t1))
-
-pub bounds-prices-k-in-loop-k : goal.bounds-prices-k-in-loop-k
-bounds-prices-k-in-loop-k c = omega (arith, ap length c.loop-k.invariant.0, force-length (take c.loop-k.k c.args.t1))

@@ -10,13 +10,8 @@ use Rattle.encoding.specs.declared.Entry.{Entry}
 use Rattle.program.proofs.Held.{held, at_held, length-held}
 use Rattle.pricing.specs.Prices.{price}
 use Rattle.pricing.proofs.Columns.{begun, begun-none, begun-length, begun_more, begun_all}
+use Rattle.pricing.proofs.prices_of.Invariants.{Inv}
 use Rattle.pricing.proofs.prices_of.Goals as goal
-
-record Inv (ps : List ℕ) (es : List Entry) (n : ℕ) (found : List ℕ) (s : ℕ) : Type 0 where
-  room : length es ≡ most
-  few : n ≤ most
-  within : s ≤ n
-  filled : found ≡ begun ps (map statement_in (take n es)) s
 
 long : {ps : List ℕ} {es : List Entry} {n : ℕ} {found : List ℕ} {s : ℕ} → Inv ps es n found s → length found ≡ most
 long i = ap length i.filled ∙ begun-length _ _ _

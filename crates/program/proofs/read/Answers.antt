@@ -46,31 +46,29 @@ loop-i-init c =
 
 pub returns-then-not-in_place : goal.returns-then-not-in_place
 returns-then-not-in_place c =
-    let misplaced = each-fails InPlace _ _ (fits c.loop-i.invariant) c.loop-i.i c.loop-i-test.true (decided-false c.in_place.result (not-true _ c.if-not-in_place.true) (rw c.statement_of-t.ensures at c.in_place.ensures)) in
+    let misplaced = each-fails InPlace _ _ (fits c.loop-i.invariant) c.loop-i.i c.loop-i-test.true (decided-false c.in_place.result c.if-not-in_place.true (rw c.statement_of-t.ensures at c.in_place.ensures)) in
     rw c.refused-then-not-in_place.ensures.answer_value (place-refused c.loop-i.invariant.lines c.loop-i.invariant.low c.loop-i.invariant.high misplaced, c.refused-then-not-in_place.ensures.count_value)
 
 pub loop-i-preserved : goal.loop-i-preserved
 loop-i-preserved c =
-    more c.loop-i.invariant (omega arith) (so_far_more InPlace _ _ (fits c.loop-i.invariant) c.loop-i.i c.loop-i-test.true c.loop-i.invariant.so_far (decided-true c.in_place.result (not-false _ c.if-not-in_place.false) (rw c.statement_of-t.ensures at c.in_place.ensures)))
+    more c.loop-i.invariant (omega arith) (so_far_more InPlace _ _ (fits c.loop-i.invariant) c.loop-i.i c.loop-i-test.true c.loop-i.invariant.so_far (decided-true c.in_place.result c.if-not-in_place.false (rw c.statement_of-t.ensures at c.in_place.ensures)))
 
 pub loop-j-init : goal.loop-j-init
-loop-j-init c =
-    (
-      record { lines = c.loop-i.invariant.lines; room = c.loop-i.invariant.room; low = c.loop-i.invariant.low; high = c.loop-i.invariant.high; so_far = below_none _; within = omega arith },
-      each_holds InPlace _ _ (fits c.loop-i.invariant) c.loop-i.i c.loop-i-test.false c.loop-i.invariant.so_far,
-    )
+loop-j-init c = (
+  record { lines = c.loop-i.invariant.lines; room = c.loop-i.invariant.room; low = c.loop-i.invariant.low; high = c.loop-i.invariant.high; so_far = below_none _; within = omega arith },
+  each_holds InPlace _ _ (fits c.loop-i.invariant) c.loop-i.i c.loop-i-test.false c.loop-i.invariant.so_far,
+)
 
 pub returns-then-not-is_aimed : goal.returns-then-not-is_aimed
 returns-then-not-is_aimed c =
-    let beside = each-fails Aims _ _ (fits c.loop-j.invariant.0) c.loop-j.j c.loop-j-test.true (decided-false c.is_aimed.result (not-true _ c.if-not-is_aimed.true) (rw c.statement_of-t-in-loop-j.ensures at c.is_aimed.ensures)) in
+    let beside = each-fails Aims _ _ (fits c.loop-j.invariant.0) c.loop-j.j c.loop-j-test.true (decided-false c.is_aimed.result c.if-not-is_aimed.true (rw c.statement_of-t-in-loop-j.ensures at c.is_aimed.ensures)) in
     rw c.refused-then-not-is_aimed.ensures.answer_value (target-refused c.loop-j.invariant.0.lines c.loop-j.invariant.0.low c.loop-j.invariant.0.high c.loop-j.invariant.1 beside, c.refused-then-not-is_aimed.ensures.count_value)
 
 pub loop-j-preserved : goal.loop-j-preserved
-loop-j-preserved c =
-    (
-      more c.loop-j.invariant.0 (omega arith) (so_far_more Aims _ _ (fits c.loop-j.invariant.0) c.loop-j.j c.loop-j-test.true c.loop-j.invariant.0.so_far (decided-true c.is_aimed.result (not-false _ c.if-not-is_aimed.false) (rw c.statement_of-t-in-loop-j.ensures at c.is_aimed.ensures))),
-      c.loop-j.invariant.1,
-    )
+loop-j-preserved c = (
+  more c.loop-j.invariant.0 (omega arith) (so_far_more Aims _ _ (fits c.loop-j.invariant.0) c.loop-j.j c.loop-j-test.true c.loop-j.invariant.0.so_far (decided-true c.is_aimed.result c.if-not-is_aimed.false (rw c.statement_of-t-in-loop-j.ensures at c.is_aimed.ensures))),
+  c.loop-j.invariant.1,
+)
 
 pub returns : goal.returns
 returns c =

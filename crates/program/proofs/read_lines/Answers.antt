@@ -15,6 +15,7 @@ use Rattle.program.specs.Program.{most}
 use Rattle.program.proofs.Texts.{statements-unambiguous, no-statement, no_end, line_of, kept_more, kept_same}
 use Rattle.program.proofs.read_lines.Invariants.{SoFar}
 use Rattle.program.proofs.read_lines.Goals as goal
+use Rattle.program.proofs.read_lines.Goals.{then-count-lt-MOST, else-count-lt-MOST}
 
 pub loop-at-init : goal.loop-at-init
 unfolding reading.none_yet
@@ -49,11 +50,15 @@ loop-at-preserved c =
     record {
       lines = reading.one_more c.loop-at.invariant.lines (line_of _ c.loop-at.at c.statement.ensures.result_value c.in-Found.is c.word.ensures.result_value c.in-Found-word.is (c.word.ensures.result_in_bounds (omega arith)));
       kept =
-          ⊎_elim
-          (λ w. rw w.2 (kept_more c.loop-at.entries c.loop-at.count c.loop-at.invariant.lines.read c.in-Found.e c.loop-at.invariant.room c.loop-at.invariant.lines.counted c.loop-at.invariant.kept w.0.taken _ w.1.ensures))
-          (λ w. rw w.1 (kept_same c.loop-at.entries c.loop-at.count c.loop-at.invariant.lines.read c.in-Found.e c.loop-at.invariant.room c.loop-at.invariant.lines.counted c.loop-at.invariant.kept w.0.left))
-          c.if-count-lt-MOST.branch;
-      room = ⊎_elim (λ w. ap length w.2 ∙ length-set c.loop-at.entries c.loop-at.count _ ∙ c.loop-at.invariant.room) (λ w. ap length w.1 ∙ c.loop-at.invariant.room) c.if-count-lt-MOST.branch;
+          elim c.if-count-lt-MOST.branch [
+            | then-count-lt-MOST w ↦ rw w.entries-is (kept_more c.loop-at.entries c.loop-at.count c.loop-at.invariant.lines.read c.in-Found.e c.loop-at.invariant.room c.loop-at.invariant.lines.counted c.loop-at.invariant.kept w.if-count-lt-MOST.true _ w.entry_of.ensures)
+            | else-count-lt-MOST w ↦ rw w.entries-is (kept_same c.loop-at.entries c.loop-at.count c.loop-at.invariant.lines.read c.in-Found.e c.loop-at.invariant.room c.loop-at.invariant.lines.counted c.loop-at.invariant.kept w.if-count-lt-MOST.false)
+          ];
+      room =
+          elim c.if-count-lt-MOST.branch [
+            | then-count-lt-MOST w ↦ ap length w.entries-is ∙ length-set c.loop-at.entries c.loop-at.count _ ∙ c.loop-at.invariant.room
+            | else-count-lt-MOST w ↦ ap length w.entries-is ∙ c.loop-at.invariant.room
+          ];
     }
 
 pub returns : goal.returns

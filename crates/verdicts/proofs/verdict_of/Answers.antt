@@ -1,3 +1,4 @@
+use Rattle.language.specs.declared.Statement.{Statement}
 use mathlib.Core.Path.{◌≡◌, sym, ◌∙◌}
 use mathlib.Core.Bool.{false}
 use native.Mathlib.Omega.{arith}

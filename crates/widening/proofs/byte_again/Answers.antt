@@ -1,4 +1,5 @@
 -- `byte_again` meets its contract: the byte as it was, or by the row of the mark's condition. Assumes nothing.
+use Rattle.language.specs.declared.Statement.{Statement}
 use mathlib.Core.Path.{◌≡◌, sym, ◌∙◌, subst}
 use mathlib.Core.List.{List}
 use Prim.Native.Nat.{◌≤◌}

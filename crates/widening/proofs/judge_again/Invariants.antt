@@ -1,3 +1,4 @@
+use Rattle.language.specs.declared.Statement.{Statement}
 use mathlib.Core.Path.{◌≡◌}
 use mathlib.Core.List.{List}
 use Prim.Native.Nat.{◌-◌}

@@ -30,16 +30,6 @@ pub offset_bounds-stack-h : goal.offset_bounds-stack-h
 offset_bounds-stack-h c =
     omega (arith, c.requires.space.small, c.loop-h.invariant.4.fit, count-le (member c.loop-h.set) (length c.args.head.now))
 
-pub bounds-stack-h : goal.bounds-stack-h
-bounds-stack-h c =
-    omega (arith, c.requires.space.stack_room, c.loop-h.invariant.2, c.gather-h.auto.stack.0, c.loop-h.invariant.4.fit, count-le (member c.loop-h.set) (length c.args.head.now))
-
-pub visit-h-requires : goal.visit-h-requires
-visit-h-requires c =
-    let z = c.requires.space in
-    let pos = c.loop-h-test.true in
-    let top = c.loop-h.invariant.4.stacked (c.loop-h.h - 1) (omega arith) in record { turned = c.requires.turned; space = record { p_room = z.p_room; set_room = omega (arith, z.set_room, c.loop-h.invariant.0); stack_room = omega (arith, z.stack_room, c.loop-h.invariant.2, c.gather-h.auto.stack.0); small = z.small }; visit = record { low = rw c.wide-t.ensures top.0; reached = rw c.wide-t.ensures top.1; seen = c.loop-h.invariant.3; work = work-take _ _ _ _ _ c.requires.turned.opposite _ _ _ _ pos c.wide-t.ensures c.loop-h.invariant.4 } }
-
 pub loop-h-smaller : goal.loop-h-smaller
 loop-h-smaller c =
     let n = length c.args.head.now in
@@ -61,9 +51,6 @@ shape_of-set c = c.loop-h.invariant.0
 
 pub shape_of-rest : goal.shape_of-rest
 shape_of-rest c = c.loop-h.invariant.1
-
-pub shape_of-stack : goal.shape_of-stack
-shape_of-stack c = c.loop-h.invariant.2 ∙ c.gather-h.auto.stack.0
 
 pub returns : goal.returns
 returns c = work-last _ _ _ _ _ _ _ _ c.loop-h-test.false c.loop-h.invariant.4 c.loop-h.invariant.5

@@ -20,11 +20,6 @@ pub contains-requires : goal.contains-requires
 contains-requires c =
     omega (arith, c.wide.ensures, c.requires.n_in_bounds, (passed-room _ _ _ _ _ _ _ c.loop-k.invariant c.loop-k-test.true).2)
 
-pub returns-then-not-contains : goal.returns-then-not-contains
-returns-then-not-contains c =
-    skipped-here _ _ _ _ _ _ c.loop-k.invariant
-    (ap (member c.args.set.now) (sym c.wide.ensures) ∙ sym c.contains.ensures ∙ not-true _ c.if-not-contains.true)
-
 pub bounds-link-e : goal.bounds-link-e
 bounds-link-e c =
     (passed-room _ _ _ _ _ _ _ c.loop-k.invariant c.loop-k-test.true).0
@@ -34,10 +29,10 @@ loop-k-smaller c =
     rw c.wide-k.ensures
     (passed-less _ _ _ _ _ _ _ c.loop-k.invariant c.loop-k-test.true)
 
+pub returns : goal.returns
+returns c = skipped-all _ _ _ _ _ _ c.loop-k.invariant c.loop-k-test.false
+
 pub loop-k-preserved : goal.loop-k-preserved
 loop-k-preserved c =
     passed-next _ _ _ _ _ _ _ c.loop-k.invariant c.loop-k-test.true _ c.wide-k.ensures
     (λ e. clash (ap (member c.args.set.now) (sym c.wide.ensures) ∙ sym c.contains.ensures ∙ not-false _ c.if-not-contains.false) e)
-
-pub returns : goal.returns
-returns c = skipped-all _ _ _ _ _ _ c.loop-k.invariant c.loop-k-test.false
