@@ -34,7 +34,7 @@ fn own(package: &Path) -> PathBuf {
     let archive = folder.join("librewrites.a");
     if !archive.is_file() && !matches!(make(package), Ok(true)) {
         fail(format!(
-            "{} is missing: `rt staticlib rewrites` makes it, or REWRITES_LIB_DIR names the folder of another",
+            "{} is missing: `.ci/library` makes it, or REWRITES_LIB_DIR names the folder of another",
             archive.display()
         ));
     }

@@ -20,12 +20,12 @@ slice_bounds-forward-end c = sym (length-take-le entries c.args.flow.now (omega 
 pub number-requires : goal.number-requires
 number-requires c =
     let z = c.requires.lent in
-    record { directions_at = lent-directions _ _ (statements-size c.args.p c.requires.held) c.args.flow.now z.size z.flows; n_in_bounds = (omega (arith, c.requires.held.few, c.blank-mine.ensures.size, c.own.auto.mine.0), z.goal_room, z.numbers_room) }
+    record { directions_at = lent-directions _ _ (statements-size c.args.p c.requires.held) c.args.flow.now z.size z.flows; n_in_bounds = (omega (arith, c.requires.held.few, c.blank-mine.ensures.size, c.own.auto.mine), z.goal_room, z.numbers_room) }
 
 pub fill-requires : goal.fill-requires
 fill-requires c =
     let z = c.requires.lent in
-    record { held = c.requires.held; well_formed = c.requires.well_formed; count_in_bounds = (omega (arith, c.requires.held.few, c.blank-mine.ensures.size, c.own.auto.mine.0), omega (arith, z.numbers_room, c.number.auto.numbers.0), z.arms_room) }
+    record { held = c.requires.held; well_formed = c.requires.well_formed; count_in_bounds = (omega (arith, c.requires.held.few, c.blank-mine.ensures.size, c.own.auto.mine), omega (arith, z.numbers_room, c.number.auto.numbers), z.arms_room) }
 
 pub returns : goal.returns
 returns c =

@@ -20,7 +20,7 @@ asked-requires c =
     (rw c.statement_of-t.ensures (entry-valid _ c.requires.held c.requires.well_formed _ c.loop-s-test.true), c.requires.variables_in_bounds.0)
 
 pub insert-requires : goal.insert-requires
-insert-requires c = omega (arith, c.requires.variables_in_bounds, c.loop-s.invariant.1, c.clear.auto.row.0)
+insert-requires c = omega (arith, c.requires.variables_in_bounds, c.loop-s.invariant.1, c.clear.auto.row)
 
 pub loop-s-preserved-then-asked : goal.loop-s-preserved-then-asked
 loop-s-preserved-then-asked c =
@@ -31,7 +31,7 @@ loop-s-preserved c =
     (omega arith, c.loop-s.invariant.1, owned-out c.loop-s.invariant.2 (sym (rw c.statement_of-t.ensures at c.asked.ensures) ∙ c.if-asked.false))
 
 pub shape_of-mine : goal.shape_of-mine
-shape_of-mine c = c.loop-s.invariant.1 ∙ c.clear.auto.row.0
+shape_of-mine c = c.loop-s.invariant.1 ∙ c.clear.auto.row
 
 pub returns : goal.returns
 returns c = owned-his _ c.requires.held c.loop-s-test.false c.loop-s.invariant.2

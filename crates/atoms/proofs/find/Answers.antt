@@ -14,18 +14,18 @@ loop-s-init c = (omega arith, found_none _ _ _ c.requires.placeless)
 
 pub note-requires : goal.note-requires
 note-requires c =
-    (rw c.statement_of-i.ensures (place-valid c.args.t1 c.requires.held c.requires.well_formed _ c.loop-s-test.true), omega (arith, c.requires.held.few), c.loop-s.invariant.1.many)
+    (rw c.statement_of-i.ensures (place-valid c.args.p c.requires.held c.requires.well_formed _ c.loop-s-test.true), omega (arith, c.requires.held.few), c.loop-s.invariant.1.many)
 
 pub loop-s-preserved-then-s-codes : goal.loop-s-preserved-then-s-codes
 loop-s-preserved-then-s-codes c =
-    let p = c.args.t1 in
+    let p = c.args.p in
     let inside : c.loop-s.s < length (statements p) = omega (arith, count-size p c.requires.held) in
     let words = c.words_of-words.ensures ∙ ap code_words (c.statement_code.ensures ∙ ap statement_code c.statement_of-i.ensures) in
     (omega arith, found-coded _ _ _ (at_held p.entries p.count c.loop-s.s inside) _ _ _ _ c.loop-s.invariant.1 (rw c.statement_of-i.ensures at c.note.ensures) (omega (arith, c.loop-s.invariant.1.many_codes)) _ words)
 
 pub loop-s-preserved : goal.loop-s-preserved
 loop-s-preserved c =
-    let p = c.args.t1 in
+    let p = c.args.p in
     let inside : c.loop-s.s < length (statements p) = omega (arith, count-size p c.requires.held) in
     (omega arith, found-uncoded _ _ _ (at_held p.entries p.count c.loop-s.s inside) _ _ _ _ c.loop-s.invariant.1 (rw c.statement_of-i.ensures at c.note.ensures) (omega (arith, c.loop-s.invariant.1.many_codes)))
 
@@ -37,4 +37,4 @@ shape_of-codes c = c.loop-s.invariant.1.many_codes
 
 pub returns : goal.returns
 returns c =
-    found_all _ _ _ _ _ (omega (arith, count-size c.args.t1 c.requires.held)) c.loop-s.invariant.1
+    found_all _ _ _ _ _ (omega (arith, count-size c.args.p c.requires.held)) c.loop-s.invariant.1

@@ -12,12 +12,6 @@ row_at-requires c =
     let low = rw c.in-Variable.is at c.requires.valid_operand.0 in
     (omega (arith, c.row_number.ensures), c.requires.valid_operand.1)
 
-pub difference-requires : goal.difference-requires
-difference-requires c =
-    let asked = (let low = rw c.in-Variable.is at c.requires.valid_operand.0 in
-    (omega (arith, c.row_number.ensures), c.requires.valid_operand.1)) c.row_at.lifetimes in
-    record { left = c.requires.all_len.0 ∙ sym c.requires.all_len.1; right = ap length c.row_at.ensures ∙ row-size c.args.rows.now _ asked.0 asked.1 ∙ sym c.requires.all_len.1 }
-
 pub returns-in-Variable : goal.returns-in-Variable
 returns-in-Variable c =
     let low = rw c.in-Variable.is at c.requires.valid_operand.0 in

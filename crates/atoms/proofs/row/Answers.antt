@@ -14,22 +14,10 @@ row_at-requires c =
     let low = rw c.in-Def.is at c.requires.valid_atom.0 in
     (omega (arith, c.row_number.ensures), c.requires.valid_atom.1.many)
 
-pub copy-requires : goal.copy-requires
-copy-requires c =
-    let asked = (let low = rw c.in-Def.is at c.requires.valid_atom.0 in
-    (omega (arith, c.row_number.ensures), c.requires.valid_atom.1.many)) c.row_at.lifetimes in
-    ap length c.row_at.ensures ∙ row-size c.args.rows.now _ asked.0 asked.1 ∙ sym c.requires.n_le_most.1
-
 pub row_at-requires-in-Use : goal.row_at-requires-in-Use
 row_at-requires-in-Use c =
     let low = rw c.in-Use.is at c.requires.valid_atom.0 in
     (omega (arith, c.row_number-in-Use.ensures), c.requires.valid_atom.1.many)
-
-pub copy-requires-in-Use : goal.copy-requires-in-Use
-copy-requires-in-Use c =
-    let asked = (let low = rw c.in-Use.is at c.requires.valid_atom.0 in
-    (omega (arith, c.row_number-in-Use.ensures), c.requires.valid_atom.1.many)) c.row_at-in-Use.lifetimes in
-    ap length c.row_at-in-Use.ensures ∙ row-size c.args.rows.now _ asked.0 asked.1 ∙ sym c.requires.n_le_most.1
 
 pub trans_row-requires : goal.trans_row-requires
 trans_row-requires c =

@@ -13,7 +13,7 @@ keeping-requires-in-Binary c =
 
 pub keeping-requires-in-Binary-2 : goal.keeping-requires-in-Binary-2
 keeping-requires-in-Binary-2 c =
-    record { valid_operand = ((rw c.in-Binary.is at c.requires.valid_expression.0).1, c.requires.valid_expression.1); all_len = (omega (arith, c.keeping-in-Binary.auto.out.0, c.blank_row-left.ensures.size), c.requires.n_le_most.1) }
+    record { valid_operand = ((rw c.in-Binary.is at c.requires.valid_expression.0).1, c.requires.valid_expression.1); all_len = (omega (arith, c.keeping-in-Binary.auto.out, c.blank_row-left.ensures.size), c.requires.n_le_most.1) }
 
 pub returns-in-Single : goal.returns-in-Single
 returns-in-Single c =

@@ -20,7 +20,7 @@ returns-in_default c = λ P p e.
 
 pub returns-then-not-keeps : goal.returns-then-not-keeps
 returns-then-not-keeps c = λ P p e.
-    let b = decided-false c.keeps.result (not-true _ c.if-not-keeps.true) c.keeps.ensures in
+    let b = decided-false c.keeps.result c.if-not-keeps.true c.keeps.ensures in
     broken (first-broken c.loop-at.invariant P p e c.line.ensures c.in-Found.is b c.line_at-then-not-keeps.ensures)
 
 pub overflow_add-s : goal.overflow_add-s
@@ -31,7 +31,7 @@ loop-at-smaller c = line-further (line_of c.in-Found.is c.line.ensures)
 
 pub loop-at-preserved : goal.loop-at-preserved
 loop-at-preserved c =
-    good_more c.loop-at.invariant c.line.ensures c.in-Found.is (decided-true c.keeps.result (not-false _ c.if-not-keeps.false) c.keeps.ensures)
+    good_more c.loop-at.invariant c.line.ensures c.in-Found.is (decided-true c.keeps.result c.if-not-keeps.false c.keeps.ensures)
 
 pub returns : goal.returns
 returns c = λ P p e. none (none-broken c.loop-at.invariant P p e c.loop-at-test.false) refl

@@ -11,9 +11,16 @@ use Rattle.condition_reader.specs.Parsing.{parse_leaf, parse_bracketed, small}
 use Rattle.operator_reader.proofs.Spelling.{opening-sound}
 use Rattle.condition_reader.proofs.Readers as laws
 use Rattle.condition_reader.proofs.+binary_bracketed_condition_unary.Goals as goal
+use Rattle.condition_reader.proofs.+binary_bracketed_condition_unary.Goals.{binary-In-Found-closing, condition-in_default-via-then-c-lt97, condition-in_default-via-else-c-lt97+else-c-lt123}
 
 small-in : (x : ℕ) → 97 ≤ x → x ≤ 122 → small x ≡ true
 small-in x h l = rw (le-leb (byte "a") x h, le-leb x (byte "z") l)
+
+small-below : (x : ℕ) → x < 97 → small x ≡ false
+small-below x h = rw (lt-leb (byte "a") x h)
+
+small-above : (x : ℕ) → 97 ≤ x → 122 < x → small x ≡ false
+small-above x h l = rw (le-leb (byte "a") x h, lt-leb x (byte "z") l)
 
 pub binary-condition-requires : goal.binary-condition-requires
 binary-condition-requires t c =
@@ -58,7 +65,7 @@ binary-returns-in_default-closing-clause-reads_by t c =
         l.k1 l.m1 c.condition-2.new.out l.ensures.reads (sym c.in_default-closing.ensures.result_value)
 
 -- what is known once both conditions of a binary operator were read
-both_read : (t : ℕ) (c : goal.In-Found-closing t) → laws.Room c.in-Found.m c.in-Found-condition.m1 c.condition-2.new.out
+both_read : (t : ℕ) (c : binary-In-Found-closing t) → laws.Room c.in-Found.m c.in-Found-condition.m1 c.condition-2.new.out
 both_read t c =
     let a = c.args in
     let k = c.in-Found in
@@ -68,11 +75,11 @@ both_read t c =
         l.k1 l.m1 c.condition-2.new.out l.ensures.reads c.requires.ready
 
 pub binary-overflow_sub-m : goal.binary-overflow_sub-m
-binary-overflow_sub-m t c = (both_read t c).some
+binary-overflow_sub-m t c = (both_read t (goal.at.binary-overflow_sub-m t c).In-Found-closing).some
 
 pub binary-push-requires : goal.binary-push-requires
 binary-push-requires t c =
-    let r = both_read t c in
+    let r = both_read t (goal.at.binary-push-requires t c).In-Found-closing in
     record { left_le_most_bytes = (r.left, omega (arith, c.requires.at_in_bounds, c.requires.ready.short), omega (arith, c.in-Found-closing.ensures.result_in_bounds, c.requires.ready.short)); out_len = r.room }
 
 pub binary-overflow_add-result : goal.binary-overflow_add-result
@@ -117,7 +124,7 @@ pub condition-returns-in_default-clause-reads : goal.condition-returns-in_defaul
 condition-returns-in_default-clause-reads t c =
     let a = c.args in
     let h = c.if-s-at.false in
-    let other : small (get_or a.s.now a.at 0) ≡ false = let w = c.in_default in ? in
+    let other : small (get_or a.s.now a.at 0) ≡ false = elim c.in_default.branch [ condition-in_default-via-then-c-lt97 w ↦ small-below (get_or a.s.now a.at 0) (omega arith) | condition-in_default-via-else-c-lt97+else-c-lt123 w ↦ small-above (get_or a.s.now a.at 0) (omega arith) (omega arith) ] in
     laws.headed a.s.now a.at a.out.now a.n c.bracketed.new.out c.bracketed.result (λ p. parse_bracketed p (drop a.at a.s.now)) h
         (laws.head-bracketed a.s.now a.at h other) c.bracketed.ensures.reads_by
 

@@ -16,18 +16,18 @@ blank-length c = ap length c.blank-words.ensures ∙ length-replicate {A = ℕ} 
 pub returns-in_default : goal.returns-in_default
 returns-in_default c =
     let w = rw c.in_default.is at c.whole.ensures in
-    rw c.refused-in_default.ensures.0 (none-refused c.args.text.now c.blank-words.result c.whole.new.out.0 w c.if-text-gt-MOST_BYTES.false, c.refused-in_default.ensures.1)
+    rw c.refused-in_default.ensures.0 (none-refused c.args.text.now c.blank-words.result c.whole.new.out w c.if-text-gt-MOST_BYTES.false, c.refused-in_default.ensures.1)
 
 pub returns-then-parts-gt-MOST_PARTS : goal.returns-then-parts-gt-MOST_PARTS
 returns-then-parts-gt-MOST_PARTS c =
     let w = rw c.in-Found.is at c.whole.ensures in
     rw c.refused-then-parts-gt-MOST_PARTS.ensures.0
-    (many-refused c.args.text.now c.blank-words.result c.whole.new.out.0 c.in-Found.field-0 c.in-Found.parts w c.if-text-gt-MOST_BYTES.false c.if-parts-gt-MOST_PARTS.true, c.refused-then-parts-gt-MOST_PARTS.ensures.1)
+    (many-refused c.args.text.now c.blank-words.result c.whole.new.out c.in-Found.field-0 c.in-Found.parts w c.if-text-gt-MOST_BYTES.false c.if-parts-gt-MOST_PARTS.true, c.refused-then-parts-gt-MOST_PARTS.ensures.1)
 
 pub returns : goal.returns
 returns c =
     let w = rw c.in-Found.is at c.whole.ensures in
-    few-taken c.args.text.now c.blank-words.result c.whole.new.out.0 c.in-Found.field-0 c.in-Found.parts w c.if-text-gt-MOST_BYTES.false c.if-parts-gt-MOST_PARTS.false c.blank-words.ensures
+    few-taken c.args.text.now c.blank-words.result c.whole.new.out c.in-Found.field-0 c.in-Found.parts w c.if-text-gt-MOST_BYTES.false c.if-parts-gt-MOST_PARTS.false c.blank-words.ensures
 
 pub whole-requires : goal.whole-requires
 whole-requires c = record { text_len_bound = c.if-text-gt-MOST_BYTES.false; out_len = blank-length (goal.at.whole-requires c).After-blank-words }

@@ -16,12 +16,12 @@ measure-requires c = let d = c.requires.directions_at.directions in record { opp
 pub nearest-u-requires : goal.nearest-u-requires
 nearest-u-requires c =
     let d = c.requires.directions_at.directions in
-    record { linked = (d.forth, rw d.head_size d.graph); s_in_bounds = (omega (arith, d.head_size, c.requires.s_lt_n.0), omega (arith, d.head_size, d.few, c.measure.auto.numbers.0, c.blank_numbers-numbers.ensures.size)) }
+    record { linked = (d.forth, rw d.head_size d.graph); s_in_bounds = (omega (arith, d.head_size, c.requires.s_lt_n.0), omega (arith, d.head_size, d.few, c.measure.auto.numbers, c.blank_numbers-numbers.ensures.size)) }
 
 pub walk-requires : goal.walk-requires
 walk-requires c =
     let d = c.requires.directions_at.directions in
-    let f = c.measure.ensures.found.distances _ d.graph d.opposite in record { linked = (d.forth, rw d.head_size d.graph, omega (arith, d.head_size, d.few)); some_numbered = (rw d.head_size (leave-numbered d.graph _ _ _ c.requires.s_lt_n.0 c.measure.new.numbers.0 c.measure.ensures.by_index f c.requires.s_lt_n.1 _ c.nearest-u.ensures), omega (arith, d.head_size, d.few, c.measure.auto.numbers.0, c.blank_numbers-numbers.ensures.size)); head_in_bounds = omega (arith, d.head_size, c.requires.n_in_bounds.2, length-set c.args.path.now 0 (c.args.s + 1)) }
+    let f = c.measure.ensures.found.distances _ d.graph d.opposite in record { linked = (d.forth, rw d.head_size d.graph, omega (arith, d.head_size, d.few)); some_numbered = (rw d.head_size (leave-numbered d.graph _ _ _ c.requires.s_lt_n.0 c.measure.new.numbers c.measure.ensures.by_index f c.requires.s_lt_n.1 _ c.nearest-u.ensures), omega (arith, d.head_size, d.few, c.measure.auto.numbers, c.blank_numbers-numbers.ensures.size)); head_in_bounds = omega (arith, d.head_size, c.requires.n_in_bounds.2, length-set c.args.path.now 0 (c.args.s + 1)) }
 
 pub shape_of-path : goal.shape_of-path
 shape_of-path c = c.walk.ensures.told.same ∙ length-set c.args.path.now 0 (c.args.s + 1)
@@ -31,4 +31,4 @@ returns c =
     let d = c.requires.directions_at.directions in
     let f = c.measure.ensures.found.distances _ d.graph d.opposite in
     let w = rw d.head_size at c.walk.ensures in
-    (leave-left d.graph _ _ _ c.requires.s_lt_n.0 c.measure.new.numbers.0 c.measure.ensures.by_index f c.requires.s_lt_n.1 _ c.nearest-u.ensures _ _ _ (omega (arith, c.requires.n_in_bounds.2)) w, leave-few d.graph _ _ _ c.requires.s_lt_n.0 c.measure.new.numbers.0 c.measure.ensures.by_index f c.requires.s_lt_n.1 _ c.nearest-u.ensures _ _ _ w)
+    (leave-left d.graph _ _ _ c.requires.s_lt_n.0 c.measure.new.numbers c.measure.ensures.by_index f c.requires.s_lt_n.1 _ c.nearest-u.ensures _ _ _ (omega (arith, c.requires.n_in_bounds.2)) w, leave-few d.graph _ _ _ c.requires.s_lt_n.0 c.measure.new.numbers c.measure.ensures.by_index f c.requires.s_lt_n.1 _ c.nearest-u.ensures _ _ _ w)

@@ -18,7 +18,7 @@ visit-hi-requires c =
         linked = z.linked;
         through_room = z.through_room;
         numbers_size = c.loop-at.invariant.0 ∙ c.start-hi.auto.numbers ∙ z.numbers_size;
-        queue_room = omega (arith, z.queue_room, c.loop-at.invariant.1, c.start-hi.auto.queue.0);
+        queue_room = omega (arith, z.queue_room, c.loop-at.invariant.1, c.start-hi.auto.queue);
         small = z.small;
       }; at_lt_hi = (c.loop-at-test.true, (member c.args.goal.now, c.loop-at.invariant.2)) }
 
@@ -35,7 +35,7 @@ pub shape_of-numbers : goal.shape_of-numbers
 shape_of-numbers c = c.loop-at.invariant.0 ∙ c.start-hi.auto.numbers
 
 pub shape_of-queue : goal.shape_of-queue
-shape_of-queue c = c.loop-at.invariant.1 ∙ c.start-hi.auto.queue.0
+shape_of-queue c = c.loop-at.invariant.1 ∙ c.start-hi.auto.queue
 
 pub returns : goal.returns
 returns c = searched-last _ _ _ _ _ _ _ _ _ c.loop-at.invariant.2 c.loop-at-test.false

@@ -33,45 +33,45 @@ shape_of-named c = c.loop-at.invariant.1
 pub contains-requires : goal.contains-requires
 contains-requires c =
     let e = c.in-Found.ensures in
-    omega (arith, name-valid _ _ _ c.loop-at.invariant.2 c.in-Found.x c.in-Found.k e.0, c.loop-at.invariant.1, c.requires.variables_in_bounds)
+    omega (arith, name-valid _ _ _ c.loop-at.invariant.2 c.in-Found.x c.in-Found.k e.result_value, c.loop-at.invariant.1, c.requires.variables_in_bounds)
 
 pub insert-requires : goal.insert-requires
 insert-requires c =
     let e = c.in-Found.ensures in
-    omega (arith, name-valid _ _ _ c.loop-at.invariant.2 c.in-Found.x c.in-Found.k e.0, c.loop-at.invariant.1, c.requires.variables_in_bounds)
+    omega (arith, name-valid _ _ _ c.loop-at.invariant.2 c.in-Found.x c.in-Found.k e.result_value, c.loop-at.invariant.1, c.requires.variables_in_bounds)
 
 pub loop-at-preserved : goal.loop-at-preserved
 loop-at-preserved c =
     let e = c.in-Found.ensures in
     let off = sym c.contains.ensures ∙ c.if-contains.false in (
-      omega (arith, c.in-Found.ensures.1, c.if-k-n.false),
+      omega (arith, c.in-Found.ensures.result_in_bounds, c.if-k-n.false),
       c.insert.auto.row ∙ c.loop-at.invariant.1,
-      name-next _ _ _ c.loop-at.invariant.2 c.in-Found.x c.in-Found.k e.0 off _ c.insert.ensures (omega (arith, c.in-Found.ensures.1, c.if-k-n.false)) c.if-s-k-ne32.false,
+      name-next _ _ _ c.loop-at.invariant.2 c.in-Found.x c.in-Found.k e.result_value off _ c.insert.ensures (omega (arith, c.in-Found.ensures.result_in_bounds, c.if-k-n.false)) c.if-s-k-ne32.false,
     )
 
 pub loop-at-smaller : goal.loop-at-smaller
 loop-at-smaller c =
     let e = c.in-Found.ensures in
-    omega (arith, name-further _ _ _ c.loop-at.invariant.2 c.in-Found.x c.in-Found.k e.0 c.loop-at.invariant.0 e.1, c.loop-at-test.true)
+    omega (arith, name-further _ _ _ c.loop-at.invariant.2 c.in-Found.x c.in-Found.k e.result_value c.loop-at.invariant.0 e.result_in_bounds, c.loop-at-test.true)
 
 pub returns-in_default : goal.returns-in_default
 returns-in_default c =
     let e = c.in_default.ensures in
-    reading-misspelled _ _ _ c.loop-at.invariant.2 e.0
+    reading-misspelled _ _ _ c.loop-at.invariant.2 e.result_value
 
 pub returns-then-contains : goal.returns-then-contains
 returns-then-contains c =
     let e = c.in-Found.ensures in
-    name-repeated _ _ _ c.loop-at.invariant.2 c.in-Found.x c.in-Found.k e.0 (sym c.contains.ensures ∙ c.if-contains.true)
+    name-repeated _ _ _ c.loop-at.invariant.2 c.in-Found.x c.in-Found.k e.result_value (sym c.contains.ensures ∙ c.if-contains.true)
 
 pub returns-then-k-n : goal.returns-then-k-n
 returns-then-k-n c =
     let e = c.in-Found.ensures in
     let off = sym c.contains.ensures ∙ c.if-contains.false in
-    name-last _ _ _ c.loop-at.invariant.2 c.in-Found.x c.in-Found.k e.0 off _ c.insert.ensures (omega (arith, c.if-k-n.true))
+    name-last _ _ _ c.loop-at.invariant.2 c.in-Found.x c.in-Found.k e.result_value off _ c.insert.ensures (omega (arith, c.if-k-n.true))
 
 pub returns-then-s-k-ne32 : goal.returns-then-s-k-ne32
 returns-then-s-k-ne32 c =
     let e = c.in-Found.ensures in
     let off = sym c.contains.ensures ∙ c.if-contains.false in
-    name-unspaced _ _ _ c.loop-at.invariant.2 c.in-Found.x c.in-Found.k e.0 off _ c.insert.ensures (omega (arith, c.in-Found.ensures.1, c.if-k-n.false)) c.if-s-k-ne32.true
+    name-unspaced _ _ _ c.loop-at.invariant.2 c.in-Found.x c.in-Found.k e.result_value off _ c.insert.ensures (omega (arith, c.in-Found.ensures.result_in_bounds, c.if-k-n.false)) c.if-s-k-ne32.true

@@ -33,7 +33,7 @@ loop-steps-init c = (stands-first _ _ _ c.requires.well_formed, omega arith, ome
 
 pub step-next-requires : goal.step-next-requires
 step-next-requires c =
-    let p = c.args.t1 in
+    let p = c.args.program in
     let inside = c.loop-steps.invariant.0.inside in
     let w = c.requires.well_formed in
     record { valid = held-valid p.entries p.count _ inside w; targets = held-targets p.entries p.count _ inside w; at_lt_most = omega (arith, inside, w.counted.1) }
@@ -44,10 +44,10 @@ bounds-prices-i c =
     omega (arith, found, c.loop-steps.invariant.0.inside, c.requires.well_formed.counted.1)
 
 -- a price has 32 bits
-price-most : (c : After-prices_of-prices (k : ℕ) → get_or c.prices_of-prices.result k 0 ≤ 4294967295
+price-most : (c : After-prices_of-prices) (k : ℕ) → get_or c.prices_of-prices.result k 0 ≤ 4294967295
 price-most c k =
-    let table : AtMost 4294967295 c.args.t5 = λ j. let h : Fits w32 (get_or c.args.t5 j 0) = search rules in omega (arith, h.fits) in
-    rw c.prices_of-prices.ensures (column-most 4294967295 c.args.t5 (statements c.args.t1) table k)
+    let table : AtMost 4294967295 c.args.table = λ j. let h : Fits w32 (get_or c.args.table j 0) = search rules in omega (arith, h.fits) in
+    rw c.prices_of-prices.ensures (column-most 4294967295 c.args.table (statements c.args.program) table k)
 
 pub overflow_add-ticks : goal.overflow_add-ticks
 overflow_add-ticks c = omega (arith, price-most (goal.at.overflow_add-ticks c).After-prices_of-prices c.loop-steps.at, c.loop-steps.invariant.2)
@@ -55,7 +55,7 @@ overflow_add-ticks c = omega (arith, price-most (goal.at.overflow_add-ticks c).A
 pub loop-steps-preserved : goal.loop-steps-preserved
 loop-steps-preserved c =
     let w = c.requires.well_formed in (
-      step-inside c.args.t1 _ _ _ _ _ _ _ c.loop-steps.invariant.0 c.step-next.ensures _ w c.in-Goto.is,
+      step-inside c.args.program _ _ _ _ _ _ _ c.loop-steps.invariant.0 c.step-next.ensures _ w c.in-Goto.is,
       omega arith,
       omega (arith, price-most (goal.at.loop-steps-preserved c).After-prices_of-prices c.loop-steps.at, c.loop-steps.invariant.2),
       λ ps e. step-paid c.loop-steps.invariant.0 ps (priced ps w c.loop-steps.invariant.0.inside e) (c.loop-steps.invariant.3 ps e),
@@ -63,11 +63,11 @@ loop-steps-preserved c =
 
 pub returns-in-Finish : goal.returns-in-Finish
 returns-in-Finish c =
-    let us = c.step-next.new.values.0 in
+    let us = c.step-next.new.values in
     let ends = ap (λ (x : Next). state_of x us) c.in-Finish.is ∙ ap (λ (ks : List ℕ). ended (written c.in-Finish.v ks)) (sym c.kept_of.ensures) in
     (
       c.in-Finish.v,
-      step-over c.args.t1 _ _ _ _ _ us c.step-next.result c.loop-steps.invariant.0 c.step-next.ensures _ ends,
+      step-over c.args.program _ _ _ _ _ us c.step-next.result c.loop-steps.invariant.0 c.step-next.ensures _ ends,
       omega (arith, c.loop-steps-test.true),
       stored_same c.in-Finish.v (search rules) c.signed.ensures,
       refl,
@@ -76,16 +76,16 @@ returns-in-Finish c =
 
 pub overflow_add-number : goal.overflow_add-number
 overflow_add-number c =
-    let us = c.step-next.new.values.0 in
-    let here = step-fault c.args.t1 _ _ _ _ _ us c.step-next.result c.loop-steps.invariant.0 c.step-next.ensures _ (ap (λ (x : Next). state_of x us) c.in-Fault.is) in
+    let us = c.step-next.new.values in
+    let here = step-fault c.args.program _ _ _ _ _ us c.step-next.result c.loop-steps.invariant.0 c.step-next.ensures _ (ap (λ (x : Next). state_of x us) c.in-Fault.is) in
     omega (arith, here, c.loop-steps.invariant.0.inside, c.requires.well_formed.counted.1)
 
 pub returns-in-Fault : goal.returns-in-Fault
 returns-in-Fault c =
-    let us = c.step-next.new.values.0 in
+    let us = c.step-next.new.values in
     (
       c.in-Fault.t,
-      step-over c.args.t1 _ _ _ _ _ us c.step-next.result c.loop-steps.invariant.0 c.step-next.ensures _ (ap (λ (x : Next). state_of x us) c.in-Fault.is),
+      step-over c.args.program _ _ _ _ _ us c.step-next.result c.loop-steps.invariant.0 c.step-next.ensures _ (ap (λ (x : Next). state_of x us) c.in-Fault.is),
       omega arith,
       refl,
       refl,

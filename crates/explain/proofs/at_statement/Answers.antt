@@ -34,7 +34,7 @@ part_at-requires c =
         c.if-part-parts.false,
         omega (arith, c.if-place-n.false, c.if-place-eq0.false),
       ); parts_in_bounds = (
-        omega (arith, held-few h.held, c.fill.auto.table.0, c.blank_table-table.ensures.size),
+        omega (arith, held-few h.held, c.fill.auto.table, c.blank_table-table.ensures.size),
         record { each = omega (arith, c.requires.path_words_in_bounds, c.requires.held.0.few); two = omega (arith, c.requires.path_words_in_bounds) },
       ) }
 
@@ -44,7 +44,7 @@ returns c =
     λ t d taken held.
     let filled = c.fill.ensures.table d held in
     let tabled : Tabled (statements c.args.p) _ d _ _ _ _ _ = record { size = size; few = omega (arith, size, c.requires.held.0.few); held = held; flow_size = c.fill.auto.flow ∙ c.blank-flow.ensures.size; flows = c.fill.ensures.flows; old = _; filled = filled } in
-    answers _ _ c.args.part c.args.statement c.args.path.now c.part_at.new.path.0 (statements c.args.p) d (record { room = c.requires.path_words_in_bounds; program = taken; condition = held.taken })
+    answers _ _ c.args.part c.args.statement c.args.path.now c.part_at.new.path (statements c.args.p) d (record { room = c.requires.path_words_in_bounds; program = taken; condition = held.taken })
     (omega (arith, held.held.counted, c.if-part-parts.false), omega (arith, c.if-place-eq0.false), omega (arith, size, c.if-place-n.false)) c.contains-truth.result
     (rw (c.contains-truth.ensures, c.row_of-row.ensures) ((filled.rows c.args.part (omega (arith, held.held.counted, c.if-part-parts.false))).exact _ (omega (arith, size, c.if-place-n.false, c.if-place-eq0.false)))) c.part_at.result
     (c.part_at.ensures _ _ d tabled)

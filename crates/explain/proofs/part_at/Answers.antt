@@ -22,7 +22,7 @@ returns-then-contains-all c =
     λ P u d tb. (refl, at-quiet P u d _ _ _ _ (tabled-own tb) _ _ c.below_negations-j.ensures c.requires.some_tabled.1 _ (omega (arith, tb.size, c.requires.some_tabled.2)) _ _ _ f e, refl)
 
 -- the left operand's part comes before
-low : (c : Else-contains-all) → left_of (get_or c.args.t1 c.below_negations-j.result 0) c.below_negations-j.result < c.below_negations-j.result
+low : (c : Else-contains-all) → left_of (get_or c.args.words c.below_negations-j.result 0) c.below_negations-j.result < c.below_negations-j.result
 low c =
     let z = c.requires.some_tabled.0 in
     let l : c.args.s < length z.P = omega (arith, z.tabled.size, c.requires.some_tabled.2) in

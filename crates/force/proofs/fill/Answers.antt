@@ -14,7 +14,7 @@ use Rattle.driver_reader.specs.Names.{among}
 use Rattle.force.specs.Force.{driver, condition}
 use Rattle.force.proofs.Forces.{beyond-kept, filled}
 use Rattle.force.proofs.fill.Goals as goal
-use Rattle.force.proofs.fill.Goals.{In-Taken-2, In_default}
+use Rattle.force.proofs.fill.Goals.{In-Taken, In_default}
 
 pub returns-then-table-lt-TABLE_WORDS : goal.returns-then-table-lt-TABLE_WORDS
 returns-then-table-lt-TABLE_WORDS c = (inl (c.if-table-lt-TABLE_WORDS.true, refl), refl, refl)
@@ -34,30 +34,30 @@ returns-then-not-read c =
     (inr (inr (c.if-table-lt-TABLE_WORDS.false, statements c.read-reading.result.program, (program-taken (goal.at.returns-then-not-read c).In_default).0, driver, d.0, refl)), refl, refl)
 
 -- and the condition
-condition-held : (c : In-Taken-2) → SomeHeld c.args.condition.now c.in-Taken.parts c.read-conditions.result.words
+condition-held : (c : In-Taken) → SomeHeld c.args.condition.now c.in-Taken.parts c.read-conditions.result.words
 condition-held c = let h = rw c.in-Taken.is at c.read-conditions.ensures in record { c = h.0; held = record { taken = h.1; held = h.2 } }
 
 pub fill-summary-requires : goal.fill-summary-requires
-fill-summary-requires c = let p = program-taken (goal.at.fill-summary-requires c).In_default in record { held = (p.1, (_, p.0)); some_held = condition-held (goal.at.fill-summary-requires c).In-Taken-2; flow_len = (c.blank-flow.ensures.size, c.if-table-lt-TABLE_WORDS.false) }
+fill-summary-requires c = let p = program-taken (goal.at.fill-summary-requires c).In_default in record { held = (p.1, (_, p.0)); some_held = condition-held (goal.at.fill-summary-requires c).In-Taken; flow_len = (c.blank-flow.ensures.size, c.if-table-lt-TABLE_WORDS.false) }
 
 pub overflow_sub-count : goal.overflow_sub-count
-overflow_sub-count c = omega (arith, held-some (condition-held (goal.at.overflow_sub-count c).In-Taken-2).held)
+overflow_sub-count c = omega (arith, held-some (condition-held (goal.at.overflow_sub-count c).In-Taken).held)
 
 pub row_of-goal-requires : goal.row_of-goal-requires
 row_of-goal-requires c =
-    let h = (condition-held (goal.at.row_of-goal-requires c).In-Taken-2).held in
-    omega (arith, held-some h, held-few h, c.if-table-lt-TABLE_WORDS.false, c.fill-summary.auto.table.0)
+    let h = (condition-held (goal.at.row_of-goal-requires c).In-Taken).held in
+    omega (arith, held-some h, held-few h, c.if-table-lt-TABLE_WORDS.false, c.fill-summary.auto.table)
 
 pub of-requires : goal.of-requires
 of-requires c =
     let p = program-taken (goal.at.of-requires c).In_default in
     let few = p.1.few in
-    let goal = ap length c.row_of-goal.ensures ∙ row-length _ _ _ ((let h = (condition-held (goal.at.of-requires c).In-Taken-2).held in
-    omega (arith, held-some h, held-few h, c.if-table-lt-TABLE_WORDS.false, c.fill-summary.auto.table.0)) c.row_of-goal.lifetimes) in
+    let goal = ap length c.row_of-goal.ensures ∙ row-length _ _ _ ((let h = (condition-held (goal.at.of-requires c).In-Taken).held in
+    omega (arith, held-some h, held-few h, c.if-table-lt-TABLE_WORDS.false, c.fill-summary.auto.table)) c.row_of-goal.lifetimes) in
     record { held = p.1; well_formed = p.0.program; lent = record {
           size = c.fill-summary.auto.flow ∙ c.blank-flow.ensures.size;
           flows = c.fill-summary.ensures.flows;
-          named_room = omega (arith, c.blank-named.ensures.size, c.read.auto.named.0);
+          named_room = omega (arith, c.blank-named.ensures.size, c.read.auto.named);
           goal_room = omega (arith, goal, few);
           numbers_room = omega (arith, c.requires.0, few);
           arms_room = omega (arith, c.requires.1, few);
@@ -72,8 +72,8 @@ returns-in-Refused-told c =
 pub returns-in-Taken : goal.returns-in-Taken
 returns-in-Taken c =
     let p = program-taken (goal.at.returns-in-Taken c).In_default in
-    let h = condition-held (goal.at.returns-in-Taken c).In-Taken-2 in
+    let h = condition-held (goal.at.returns-in-Taken c).In-Taken in
     let d = rw (true_of_not c.read.result c.if-not-read.false) at c.read.ensures in
     let forced = rw c.row_of-goal.ensures at (c.of.ensures.by_index (among d.0) d.2) in
     filled h.held p.0 c.if-table-lt-TABLE_WORDS.false (c.fill-summary.ensures.table h.c h.held) c.fill-summary.ensures.counts d.1 forced
-    (beyond-kept (statements-size _ p.1) c.of.auto.numbers c.of.auto.arms.0 c.of.ensures.kept)
+    (beyond-kept (statements-size _ p.1) c.of.auto.numbers c.of.auto.arms c.of.ensures.kept)

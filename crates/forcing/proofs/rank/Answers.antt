@@ -19,18 +19,18 @@ pub offset_bounds-queue-at : goal.offset_bounds-queue-at
 offset_bounds-queue-at c = omega (arith, c.requires.space.small, (going-low _ _ _ _ _ _ _ _ _ _ _ c.loop-at.invariant.4 c.loop-at-test.true).0)
 
 pub bounds-queue-at : goal.bounds-queue-at
-bounds-queue-at c = omega (arith, c.requires.space.queue_room, c.loop-at.invariant.3, c.start-hi.auto.queue.0, (going-low _ _ _ _ _ _ _ _ _ _ _ c.loop-at.invariant.4 c.loop-at-test.true).0)
+bounds-queue-at c = omega (arith, c.requires.space.queue_room, c.loop-at.invariant.3, c.start-hi.auto.queue, (going-low _ _ _ _ _ _ _ _ _ _ _ c.loop-at.invariant.4 c.loop-at-test.true).0)
 
 pub insert-requires : goal.insert-requires
-insert-requires c = omega (arith, c.wide.ensures, c.requires.space.set_room, c.loop-at.invariant.0, c.clear.auto.row.0, (going-low _ _ _ _ _ _ _ _ _ _ _ c.loop-at.invariant.4 c.loop-at-test.true).1)
+insert-requires c = omega (arith, c.wide.ensures, c.requires.space.set_room, c.loop-at.invariant.0, c.clear.auto.row, (going-low _ _ _ _ _ _ _ _ _ _ _ c.loop-at.invariant.4 c.loop-at-test.true).1)
 
 pub visit-hi-requires : goal.visit-hi-requires
 visit-hi-requires c =
     let z = c.requires.space in record { turned = c.requires.turned; space = record {
           mine_room = z.mine_room;
-          set_room = omega (arith, z.set_room, c.loop-at.invariant.0, c.insert.auto.row, c.clear.auto.row.0);
+          set_room = omega (arith, z.set_room, c.loop-at.invariant.0, c.insert.auto.row, c.clear.auto.row);
           numbers_size = c.loop-at.invariant.2 ∙ c.start-hi.auto.numbers ∙ z.numbers_size;
-          queue_room = omega (arith, z.queue_room, c.loop-at.invariant.3, c.start-hi.auto.queue.0);
+          queue_room = omega (arith, z.queue_room, c.loop-at.invariant.3, c.start-hi.auto.queue);
           small = z.small;
         }; visit = going-take _ _ _ _ _ _ _ _ _ _ _ c.loop-at.invariant.4 c.loop-at-test.true _ (λ j. c.insert.ensures j ∙ ap (λ (i : ℕ). member c.loop-at.set j || eqb i j) c.wide.ensures) _ c.requires.turned.opposite }
 
@@ -51,7 +51,7 @@ loop-at-preserved c =
     )
 
 pub shape_of-set : goal.shape_of-set
-shape_of-set c = c.loop-at.invariant.0 ∙ c.clear.auto.row.0
+shape_of-set c = c.loop-at.invariant.0 ∙ c.clear.auto.row
 
 pub shape_of-rest : goal.shape_of-rest
 shape_of-rest c = c.loop-at.invariant.1
@@ -60,7 +60,7 @@ pub shape_of-numbers : goal.shape_of-numbers
 shape_of-numbers c = c.loop-at.invariant.2 ∙ c.start-hi.auto.numbers
 
 pub shape_of-queue : goal.shape_of-queue
-shape_of-queue c = c.loop-at.invariant.3 ∙ c.start-hi.auto.queue.0
+shape_of-queue c = c.loop-at.invariant.3 ∙ c.start-hi.auto.queue
 
 pub returns : goal.returns
 returns c = going-last _ _ _ _ _ _ _ _ _ _ _ c.loop-at.invariant.4 c.requires.turned.graph c.loop-at-test.false

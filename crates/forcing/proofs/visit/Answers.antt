@@ -86,7 +86,7 @@ loop-k-preserved-then-joins c =
     let due = c.joins.ensures.variant.0 c.if-joins.true in
     let low = walk-low c.args.entry.now _ _ _ _ _ c.loop-k.invariant.3 pos _ c.wide-s.ensures in
     let v = visit-low _ _ _ _ _ _ _ _ _ _ _ c.requires.visit in (
-      c.joins.auto.rest.0 ∙ c.loop-k.invariant.0,
+      c.joins.auto.rest ∙ c.loop-k.invariant.0,
       length-set c.loop-k.numbers c.wide-s.result (get_or c.args.numbers.now c.wide-t.result 0 + 1) ∙ c.loop-k.invariant.1,
       length-set c.loop-k.queue c.loop-k.h c.wide-s.result ∙ c.loop-k.invariant.2,
       passed-next _ _ _ _ _ _ _ c.loop-k.invariant.3 pos _ c.wide-k-then-joins.ensures (λ e. clash refl e),
@@ -111,7 +111,7 @@ pub loop-k-preserved : goal.loop-k-preserved
 loop-k-preserved c =
     let pos = c.loop-k-test.true in
     (
-      c.joins.auto.rest.0 ∙ c.loop-k.invariant.0,
+      c.joins.auto.rest ∙ c.loop-k.invariant.0,
       c.loop-k.invariant.1,
       c.loop-k.invariant.2,
       passed-next _ _ _ _ _ _ _ c.loop-k.invariant.3 pos _ c.wide-k-else-joins.ensures (λ e. clash refl e),

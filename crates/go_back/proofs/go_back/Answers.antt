@@ -3,7 +3,7 @@ use mathlib.Core.Path.{◌≡◌, refl, sym, ap, ◌∙◌}
 use mathlib.Core.Logic.{inl, inr}
 use Prim.Native.Nat.{ℕ, ◌+◌, ◌-◌, ◌≤◌}
 use native.Mathlib.Omega.{arith}
-use borrow.Author.Tests.{not-true, not-false}
+use borrow.Author.Tests.{not-false}
 use lib.ListN.{length, take, drop}
 use Rattle.base.proofs.Decides.{decided-true, decided-false}
 use Rattle.program.specs.Program.{text_room}
@@ -57,7 +57,7 @@ module _ (c : tie.After-length-of) where
 -- ---- what each return owes
 pub returns-then-not-valid : goal.returns-then-not-valid
 returns-then-not-valid c =
-    (inr (inl ((c.if-stages-lt-STAGE_BYTES.false, c.if-text-lt-TEXT_BYTES.false), decided-false c.valid.result (not-true _ c.if-not-valid.true) c.valid.ensures, refl)), refl)
+    (inr (inl ((c.if-stages-lt-STAGE_BYTES.false, c.if-text-lt-TEXT_BYTES.false), decided-false c.valid.result c.if-not-valid.true c.valid.ensures, refl)), refl)
 
 pub returns-in_default : goal.returns-in_default
 returns-in_default c =

@@ -38,7 +38,7 @@ returns-in-Refused c =
     let n = c.in-Refused.n in
     head-refused c.args.program.now c.args.marks.now _
     (record { verdicts = c.verdict_buffer-verdicts.result; new = c.args.new.now })
-    (record { verdicts = c.judge-answer.new.verdicts; new = c.judge-answer.new.text.0 })
+    (record { verdicts = c.judge-answer.new.verdicts; new = c.judge-answer.new.text })
     c.judge-answer.ensures c.if-budget-gt-MOST_STEPS.false n c.line_of_number-line.result c.in-Refused.is
     (omega arith, c.if-new-lt-TEXT_BYTES.false) (blamed c.line_of_number-line.ensures)
     (omega (arith, refusal-most n c.line_of_number-line.result small short, c.if-out-lt-HEADING_ROOM.false)) c.refusal-in-Refused.ensures
@@ -49,6 +49,6 @@ returns-in-Finished c =
     let a = c.in-Finished.accepted in
     head-judged c.args.program.now c.args.marks.now _
     (record { verdicts = c.verdict_buffer-verdicts.result; new = c.args.new.now })
-    (record { verdicts = c.judge-answer.new.verdicts; new = c.judge-answer.new.text.0 })
+    (record { verdicts = c.judge-answer.new.verdicts; new = c.judge-answer.new.text })
     c.judge-answer.ensures c.if-budget-gt-MOST_STEPS.false m a _ c.in-Finished.is
     (omega (arith, heading-most m a (search rules) (search rules), c.if-out-lt-HEADING_ROOM.false)) c.judged.ensures

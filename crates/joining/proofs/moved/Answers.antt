@@ -3,17 +3,17 @@ use Rattle.language.specs.declared.Statement.TheVariants.{Branch}
 use native.Mathlib.Omega.{arith}
 use Rattle.program.specs.Program.{most, Targets}
 use Rattle.joining.proofs.moved.Goals as goal
-use Rattle.joining.proofs.moved.Goals.{In-Branch-2}
+use Rattle.joining.proofs.moved.Goals.{In-Branch}
 
 -- the targets of a branch
-aimed : (c : In-Branch-2) → let s = c.s-in-Branch-1.given.0 in Targets most (Branch s.0 s.1.0 s.1.1.0)
+aimed : (c : In-Branch) → let s = c.s-in-Branch-1.given.0 in Targets most (Branch s.0 s.1.0 s.1.1.0)
 aimed c = rw c.in-Branch.is at c.requires.0
 
 pub overflow_add-a : goal.overflow_add-a
-overflow_add-a c = omega (arith, (aimed (goal.at.overflow_add-a c).In-Branch-2).0.1, c.requires.1)
+overflow_add-a c = omega (arith, (aimed (goal.at.overflow_add-a c).In-Branch).0.1, c.requires.1)
 
 pub overflow_add-b : goal.overflow_add-b
-overflow_add-b c = omega (arith, (aimed (goal.at.overflow_add-b c).In-Branch-2).1.1, c.requires.1)
+overflow_add-b c = omega (arith, (aimed (goal.at.overflow_add-b c).In-Branch).1.1, c.requires.1)
 
 pub returns-in-Read : goal.returns-in-Read
 returns-in-Read c = rw c.in-Read.is

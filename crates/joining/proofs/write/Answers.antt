@@ -19,7 +19,7 @@ record Sizes (road creeper : Program) : Type 0 where
   together : road.count + creeper.count ≤ most + 1
   whole : length (joined (statements road) (statements creeper)) ≡ road.count - 1 + creeper.count
 
-sizes : (c : Start → Sizes c.args.t1 c.args.t2
+sizes : (c : Start → Sizes c.args.road c.args.creeper
 sizes c =
     record {
       first = omega (arith, c.requires.held.1.counted.0, held-size c.requires.held.0);
@@ -68,8 +68,8 @@ bounds-road-last c = let s = sizes (goal.at.bounds-road-last c).Start in omega a
 
 -- all lines of the road but the last are written
 before-seam : (c : After-loop-s → 
-    Written (joined (statements b.args.t1) (statements b.args.t2)) b.args.out.now c.loop-s.out c.loop-s.at (b.args.t1.count - 1)
-before-seam c = let e : c.loop-s.s ≡ c.args.t1.count - 1 = omega (arith, c.loop-s.invariant.0) in rw e at c.loop-s.invariant.1
+    Written (joined (statements b.args.road) (statements b.args.creeper)) b.args.out.now c.loop-s.out c.loop-s.at (b.args.road.count - 1)
+before-seam c = let e : c.loop-s.s ≡ c.args.road.count - 1 = omega (arith, c.loop-s.invariant.0) in rw e at c.loop-s.invariant.1
 
 pub line-at-requires-2 : goal.line-at-requires-2
 line-at-requires-2 c =
@@ -81,8 +81,8 @@ pub overflow_cast-d : goal.overflow_cast-d
 overflow_cast-d c = let s = sizes (goal.at.overflow_cast-d c).Start in omega arith
 
 after-seam : (c : After-slice_known-2-1 → 
-    Written (joined (statements b.args.t1) (statements b.args.t2)) b.args.out.now c.line-at-2.new.out c.line-at-2.result
-    (b.args.t1.count - 1 + 1)
+    Written (joined (statements b.args.road) (statements b.args.creeper)) b.args.out.now c.line-at-2.new.out c.line-at-2.result
+    (b.args.road.count - 1 + 1)
 after-seam c =
     let s = sizes (c.Start) in
     written-more (before-seam (c.After-loop-s)) (omega arith) _
@@ -111,8 +111,8 @@ moved-j-requires c =
 
 -- what is written before the line at place k
 module _ (c : tie.After-slice-known3 invariant-loop decreases-loop invariant-loop2 decreases-loop2) {q : List ℕ} {k j : ℕ}
-    (i : Behind (start c).args.t2.entries (start c).args.t2.count ((start c).args.t1.count - 1) c.before.before.line2.new.0 c.before.before.line2.result q k j) where
-  lines : Written (joined (statements (start c).args.t1) (statements (start c).args.t2)) (start c).args.out.now q k ((start c).args.t1.count - 1 + j)
+    (i : Behind (start c).args.creeper.entries (start c).args.creeper.count ((start c).args.road.count - 1) c.before.before.line2.new.0 c.before.before.line2.result q k j) where
+  lines : Written (joined (statements (start c).args.road) (statements (start c).args.creeper)) (start c).args.out.now q k ((start c).args.road.count - 1 + j)
   lines =
       let p = (start c).requires in
       i.further _ _ (creeper-lines p.0.0 p.0.1 p.1.0.0 p.1.0.1 refl) (after-seam c)

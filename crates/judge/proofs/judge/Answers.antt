@@ -12,14 +12,14 @@ use Rattle.atoms.proofs.Found.{placeless}
 use Rattle.calls.proofs.Known.{known-program}
 use Rattle.judge.proofs.Judges.{some-judged, text-short, finished, none-judged, none_made}
 use Rattle.judge.proofs.judge.Goals as goal
-use Rattle.judge.proofs.judge.Goals.{In-Taken-2, In_default, Then-count-eq0}
+use Rattle.judge.proofs.judge.Goals.{In-Taken, In_default, Then-count-eq0}
 
 -- the text that was read is taken
 program-taken : (c : In_default) → Taken c.args.program.now (statements c.read-reading.result.program) × Held c.read-reading.result.program
 program-taken c = rw c.in_default.is at c.read-reading.ensures
 
 -- and the list of marks
-marks-taken : (c : In-Taken-2) → (ms : List Mark) × marks.Taken c.args.marks.now ms × (c.in-Taken.count ≡ length ms)
+marks-taken : (c : In-Taken) → (ms : List Mark) × marks.Taken c.args.marks.now ms × (c.in-Taken.count ≡ length ms)
 marks-taken c = let told = rw c.in-Taken.is at c.check-checked.ensures in (told.0, told.1, told.2)
 
 pub returns-then-verdicts-lt-VERDICT_BYTES : goal.returns-then-verdicts-lt-VERDICT_BYTES
@@ -34,27 +34,27 @@ returns-in-Refused c =
     (inr (inl ((c.if-verdicts-lt-VERDICT_BYTES.false, c.if-text-lt-TEXT_BYTES.false), c.in-Refused.refusal, read.0, c.number_of.ensures)), refl)
 
 -- a list without marks
-no-marks : (c : Then-count-eq0) → length (marks-taken (c.In-Taken-2)).0 ≡ 0
-no-marks c = sym (marks-taken (c.In-Taken-2)).2 ∙ c.if-count-eq0.true
+no-marks : (c : Then-count-eq0) → length (marks-taken (c.In-Taken)).0 ≡ 0
+no-marks c = sym (marks-taken (c.In-Taken)).2 ∙ c.if-count-eq0.true
 
 pub write-length-requires : goal.write-length-requires
 write-length-requires c =
     let p = program-taken (goal.at.write-length-requires c).In_default in
-    let m = marks-taken (goal.at.write-length-requires c).In-Taken-2 in
+    let m = marks-taken (goal.at.write-length-requires c).In-Taken in
     let none = no-marks (goal.at.write-length-requires c).Then-count-eq0 in
     record { held = p.1; p_in_bounds = omega (arith, c.if-text-lt-TEXT_BYTES.false, text-short p.0 m.1 (none-judged none _ _ c.args.verdicts.now) (none_made none _ p.1 _)) }
 
 pub overflow_cast-result : goal.overflow_cast-result
 overflow_cast-result c =
     let p = program-taken (goal.at.overflow_cast-result c).In_default in
-    let m = marks-taken (goal.at.overflow_cast-result c).In-Taken-2 in
+    let m = marks-taken (goal.at.overflow_cast-result c).In-Taken in
     let none = no-marks (goal.at.overflow_cast-result c).Then-count-eq0 in
     omega (arith, c.write-length.ensures.after, text-short p.0 m.1 (none-judged none _ _ c.args.verdicts.now) (none_made none _ p.1 _))
 
 pub returns-then-count-eq0 : goal.returns-then-count-eq0
 returns-then-count-eq0 c =
     let p = program-taken (goal.at.returns-then-count-eq0 c).In_default in
-    let m = marks-taken (goal.at.returns-then-count-eq0 c).In-Taken-2 in
+    let m = marks-taken (goal.at.returns-then-count-eq0 c).In-Taken in
     let none = no-marks (goal.at.returns-then-count-eq0 c).Then-count-eq0 in
     finished p.0 m.1 (none-judged none _ _ _) (none_made none _ p.1 _) (c.if-verdicts-lt-VERDICT_BYTES.false, c.if-text-lt-TEXT_BYTES.false) (sym none) c.write-length.ensures
 
@@ -69,27 +69,27 @@ of-requires c = let p = program-taken (goal.at.of-requires c).In_default in reco
 pub judge-requires : goal.judge-requires
 judge-requires c =
     let p = program-taken (goal.at.judge-requires c).In_default in
-    let m = marks-taken (goal.at.judge-requires c).In-Taken-2 in
-    let known = known-program {flow = c.of.new.flow.0} p.0 p.1 c.find.ensures c.blank_codes-codes.ensures.many c.of.ensures in
+    let m = marks-taken (goal.at.judge-requires c).In-Taken in
+    let known = known-program {flow = c.of.new.flow} p.0 p.1 c.find.ensures c.blank_codes-codes.ensures.many c.of.ensures in
     record { held = (p.1, known (omega (arith, c.of.auto, c.blank-flow.ensures.size))); some_taken = (record { ms = m.0; taken = m.1 }, c.if-verdicts-lt-VERDICT_BYTES.false) }
 
 pub rewrite-rewriting-requires : goal.rewrite-rewriting-requires
 rewrite-rewriting-requires c =
     let p = program-taken (goal.at.rewrite-rewriting-requires c).In_default in
-    let m = marks-taken (goal.at.rewrite-rewriting-requires c).In-Taken-2 in
+    let m = marks-taken (goal.at.rewrite-rewriting-requires c).In-Taken in
     record { held = p.1; some_judged = some-judged p.0 m.1 (c.judge.ensures m.0 m.1).0 c.if-verdicts-lt-VERDICT_BYTES.false }
 
 pub write-bytes-requires : goal.write-bytes-requires
 write-bytes-requires c =
     let p = program-taken (goal.at.write-bytes-requires c).In_default in
-    let m = marks-taken (goal.at.write-bytes-requires c).In-Taken-2 in
+    let m = marks-taken (goal.at.write-bytes-requires c).In-Taken in
     let w = c.rewrite-rewriting.ensures m.0 m.1 in
     record { held = w.held; p_in_bounds = omega (arith, c.if-text-lt-TEXT_BYTES.false, text-short p.0 m.1 (c.judge.ensures m.0 m.1).0 w) }
 
 pub overflow_cast-result-in-Taken : goal.overflow_cast-result-in-Taken
 overflow_cast-result-in-Taken c =
     let p = program-taken (goal.at.overflow_cast-result-in-Taken c).In_default in
-    let m = marks-taken (goal.at.overflow_cast-result-in-Taken c).In-Taken-2 in
+    let m = marks-taken (goal.at.overflow_cast-result-in-Taken c).In-Taken in
     omega (arith, c.write-bytes.ensures.after, text-short p.0 m.1 (c.judge.ensures m.0 m.1).0 (c.rewrite-rewriting.ensures m.0 m.1))
 
 pub returns-in-Refused-checked : goal.returns-in-Refused-checked
@@ -102,7 +102,7 @@ returns-in-Refused-checked c =
 pub returns-else-count-eq0 : goal.returns-else-count-eq0
 returns-else-count-eq0 c =
     let p = program-taken (goal.at.returns-else-count-eq0 c).In_default in
-    let m = marks-taken (goal.at.returns-else-count-eq0 c).In-Taken-2 in
+    let m = marks-taken (goal.at.returns-else-count-eq0 c).In-Taken in
     let judged = (c.judge.ensures m.0 m.1).0 in
     let rewritten = c.rewrite-rewriting.ensures m.0 m.1 in
     finished p.0 m.1 judged rewritten (c.if-verdicts-lt-VERDICT_BYTES.false, c.if-text-lt-TEXT_BYTES.false) m.2 c.write-bytes.ensures

@@ -3,7 +3,7 @@ use mathlib.Core.Path.{refl}
 use mathlib.Core.Logic.{inl, inr}
 use Prim.Native.Nat.{◌<◌}
 use native.Mathlib.Omega.{arith}
-use borrow.Author.Tests.{not-true, not-false}
+use borrow.Author.Tests.{not-false}
 use Rattle.base.proofs.Decides.{decided-true, decided-false}
 use Rattle.program.specs.Program.{Taken}
 use Rattle.program.specs.Reading.{statements}
@@ -53,7 +53,7 @@ returns-in-Refused c =
 
 pub returns-then-not-valid : goal.returns-then-not-valid
 returns-then-not-valid c =
-    (inr (inr (c.if-stages-lt-STAGE_BYTES.false, _, taken (goal.at.returns-then-not-valid c).In_default, misnamed, decided-false c.valid.result (not-true _ c.if-not-valid.true) c.valid.ensures, refl)), refl)
+    (inr (inr (c.if-stages-lt-STAGE_BYTES.false, _, taken (goal.at.returns-then-not-valid c).In_default, misnamed, decided-false c.valid.result c.if-not-valid.true c.valid.ensures, refl)), refl)
 
 pub choose-chosen-requires : goal.choose-chosen-requires
 choose-chosen-requires c = (c.if-stages-lt-STAGE_BYTES.false, valid c)

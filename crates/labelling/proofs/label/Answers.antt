@@ -12,21 +12,13 @@ use Rattle.labelling.proofs.label.Goals as goal
 pub slice_bounds-below-end : goal.slice_bounds-below-end
 slice_bounds-below-end c = sym (length-take-le _ _ (omega (arith, c.blank-places.ensures.size, c.requires.rows.short)))
 
-pub below-requires : goal.below-requires
-below-requires c = omega (arith, (sym (length-take-le _ _ (omega (arith, c.blank-places.ensures.size, c.requires.rows.short)))), c.requires.rows.room)
-
 pub slice_bounds-places-end-2 : goal.slice_bounds-places-end-2
 slice_bounds-places-end-2 c =
-    rw (length_front _ _ _ c.below.auto.row.0) (omega (arith, c.blank-places.ensures.size, c.requires.rows.short))
+    rw (length_front _ _ _ c.below.auto.row) (omega (arith, c.blank-places.ensures.size, c.requires.rows.short))
 
 pub slice_bounds-apply-end : goal.slice_bounds-apply-end
-slice_bounds-apply-end c = sym (length-take-le _ _ ((rw (length_front _ _ _ c.below.auto.row.0) (omega (arith, c.blank-places.ensures.size, c.requires.rows.short)))))
+slice_bounds-apply-end c = sym (length-take-le _ _ ((rw (length_front _ _ _ c.below.auto.row) (omega (arith, c.blank-places.ensures.size, c.requires.rows.short)))))
 
 pub slice_bounds-apply-end-2 : goal.slice_bounds-apply-end-2
 slice_bounds-apply-end-2 c =
     sym (length-take-le _ _ (omega (arith, c.blank-through.ensures.size, c.requires.rows.short)))
-
-pub apply-requires : goal.apply-requires
-apply-requires c =
-    let w = length c.args.out.now in
-    let e = take_at c.below.new.row.0 (drop w c.blank-places.result) w (c.below.auto.row.0 ∙ sym ((sym (length-take-le _ _ (omega (arith, c.blank-places.ensures.size, c.requires.rows.short)))))) in record { directions_at = c.requires.directions_at; rows = c.requires.rows; spare = record { of_places = sym ((sym (length-take-le _ _ ((rw (length_front _ _ _ c.below.auto.row.0) (omega (arith, c.blank-places.ensures.size, c.requires.rows.short))))))); of_through = sym ((sym (length-take-le _ _ (omega (arith, c.blank-through.ensures.size, c.requires.rows.short))))); whole = λ s. ap (λ (l : List ℕ). member c s) e ∙ c.below.ensures s } }

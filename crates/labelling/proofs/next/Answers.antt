@@ -11,9 +11,6 @@ pub slice_bounds-preimage-end : goal.slice_bounds-preimage-end
 slice_bounds-preimage-end c =
     sym (heads-size c.args.steps.now c.requires.steps_len.0 _ c.requires.steps_len.1)
 
-pub preimage-requires : goal.preimage-requires
-preimage-requires c = record { linked = (rw (heads-size c.args.steps.now c.requires.steps_len.0 _ c.requires.steps_len.1) c.requires.1).0; head_in_bounds = (rw (heads-size c.args.steps.now c.requires.steps_len.0 _ c.requires.steps_len.1) c.requires.1).1 }
-
 pub returns : goal.returns
 returns c =
     rw (heads-size c.args.steps.now c.requires.steps_len.0 _ c.requires.steps_len.1) at c.preimage.ensures

@@ -12,7 +12,7 @@ loop-s-init c = (omega arith, refl, record { exact = λ s l. absurd (omega arith
 
 pub insert-requires : goal.insert-requires
 insert-requires c =
-    omega (arith, c.requires.head_in_bounds.1, c.clear.auto.row.0, c.loop-s.invariant.1)
+    omega (arith, c.requires.head_in_bounds.1, c.clear.auto.row, c.loop-s.invariant.1)
 
 pub loop-s-preserved-then-onto : goal.loop-s-preserved-then-onto
 loop-s-preserved-then-onto c =
@@ -27,7 +27,7 @@ loop-s-preserved c =
     (omega arith, c.loop-s.invariant.1, label-skip _ _ _ c.loop-s.invariant.2 _ c.onto.ensures c.if-onto.false)
 
 pub shape_of-out : goal.shape_of-out
-shape_of-out c = c.loop-s.invariant.1 ∙ c.clear.auto.row.0
+shape_of-out c = c.loop-s.invariant.1 ∙ c.clear.auto.row
 
 pub returns : goal.returns
 returns c =

@@ -37,8 +37,8 @@ pub close-requires : goal.close-requires
 close-requires c =
     let d = c.requires.directions_at.directions in
     let few = d.few in
-    let kept = c.copy.auto.to.0 ∙ sym ((sym (length-take-le _ _ c.requires.n_in_bounds_2.0))) in
-    let copied = take_at c.copy.new.to.0 (drop c.args.n c.args.rest.now) c.args.n kept in record { turned = rw d.head_size d; space = rw d.head_size (record { p_room = c.requires.n_in_bounds.0; set_room = c.requires.n_in_bounds.1; stack_room = omega (arith, (sym (length-take-le _ _ c.requires.n_in_bounds_2.1))); small = omega arith }); rest_value = copied ∙ c.copy.ensures }
+    let kept = c.copy.auto.to ∙ sym ((sym (length-take-le _ _ c.requires.n_in_bounds_2.0))) in
+    let copied = take_at c.copy.new.to (drop c.args.n c.args.rest.now) c.args.n kept in record { turned = rw d.head_size d; space = rw d.head_size (record { p_room = c.requires.n_in_bounds.0; set_room = c.requires.n_in_bounds.1; stack_room = omega (arith, (sym (length-take-le _ _ c.requires.n_in_bounds_2.1))); small = omega arith }); rest_value = copied ∙ c.copy.ensures }
 
 pub returns : goal.returns
 returns c =

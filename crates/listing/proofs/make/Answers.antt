@@ -12,17 +12,17 @@ pub slice_bounds-clear-end-2 : goal.slice_bounds-clear-end-2
 slice_bounds-clear-end-2 c = sym (length-take-le list_words c.args.list.now c.requires.list_words_in_bounds)
 
 -- the front that was cleared is as long as before
-size : (c : After-clear) → length c.clear.new.row.0 ≡ list_words
-size c = c.clear.auto.row.0 ∙ sym ((sym (length-take-le list_words c.args.list.now c.requires.list_words_in_bounds)))
+size : (c : After-clear) → length c.clear.new.row ≡ list_words
+size c = c.clear.auto.row ∙ sym ((sym (length-take-le list_words c.args.list.now c.requires.list_words_in_bounds)))
 
 pub slice_bounds-find-end-2 : goal.slice_bounds-find-end-2
-slice_bounds-find-end-2 c = sym (front-size c.args.list.now c.clear.new.row.0 c.requires.list_words_in_bounds (size (goal.at.slice_bounds-find-end-2 c).After-clear))
+slice_bounds-find-end-2 c = sym (front-size c.args.list.now c.clear.new.row c.requires.list_words_in_bounds (size (goal.at.slice_bounds-find-end-2 c).After-clear))
 
 pub find-requires : goal.find-requires
 find-requires c =
-    record { held = c.requires.held; well_formed = c.requires.well_formed; placeless = front-placeless c.args.list.now c.clear.new.row.0 c.requires.list_words_in_bounds (size (goal.at.find-requires c).After-clear) c.clear.ensures }
+    record { held = c.requires.held; well_formed = c.requires.well_formed; placeless = front-placeless c.args.list.now c.clear.new.row c.requires.list_words_in_bounds (size (goal.at.find-requires c).After-clear) c.clear.ensures }
 
 pub returns : goal.returns
 returns c =
     let room = c.requires.list_words_in_bounds in
-    made _ _ _ _ room (front-beyond c.args.list.now c.clear.new.row.0 room (size (goal.at.returns c).After-clear)) c.find.ensures
+    made _ _ _ _ room (front-beyond c.args.list.now c.clear.new.row room (size (goal.at.returns c).After-clear)) c.find.ensures

@@ -23,7 +23,7 @@ pub loop-x-preserved : goal.loop-x-preserved
 loop-x-preserved c =
     let below = c.loop-x-test.true in
     one_found c.loop-x.invariant below c.requires.some_known
-    (λ P k. part-written part_words c.loop-x.live c.loop-x.x (omega (arith, c.loop-x.invariant.size)) _ _ _ (c.copy.auto.out.0 ∙ part_length part_words c.loop-x.live c.loop-x.x (omega (arith, c.loop-x.invariant.size))) (label_same _ _ _ _ c.copy.ensures (c.live_row-row.ensures.1 P k)))
+    (λ P k. part-written part_words c.loop-x.live c.loop-x.x (omega (arith, c.loop-x.invariant.size)) _ _ _ (c.copy.auto.out ∙ part_length part_words c.loop-x.live c.loop-x.x (omega (arith, c.loop-x.invariant.size))) (label_same _ _ _ _ c.copy.ensures (c.live_row-row.ensures.1 P k)))
 
 pub shape_of-live : goal.shape_of-live
 shape_of-live c = c.loop-x.invariant.size ∙ sym c.requires.live_len

@@ -52,4 +52,4 @@ returns c =
     let k = known c in
     let p = program-taken (goal.at.returns c).In-Taken in
     let size = ap length c.blank-live.ensures ∙ length-replicate {A = ℕ} live_words 0 in
-    of-text p.0 (all_live k (c.fill.auto.live.0 ∙ size) (c.fill.ensures _ (known_in k)))
+    of-text p.0 (all_live k (c.fill.auto.live ∙ size) (c.fill.ensures _ (known_in k)))

@@ -7,7 +7,7 @@ use mathlib.Core.Path.{sym}
 use mathlib.Core.List.{List}
 use Prim.Native.Nat.{ℕ}
 use Rattle.page.proofs.page.Goals as goal
-use Rattle.page.proofs.page.Goals.{After-view, In-Refused-2, In-Written-2}
+use Rattle.page.proofs.page.Goals.{After-view, In-Refused, In-Written}
 
 -- such an output of n bytes, which the viewer left in the plain bytes
 abbrev Left : (List ℕ → List ℕ → List ℕ → Type 0) → After-view → ℕ → Type 0
@@ -15,41 +15,41 @@ Left Says v n =
     let a = v.before.before.before.before.before.before.before.args in
     Printed (Says a.program.now a.condition.now) v.before.before.plain-buffer.result v.view.last.1.1.0 n
 
-seen : (c : In-Written-2) → Left PrintsView c c.in-Written.n
+seen : (c : In-Written) → Left PrintsView c c.in-Written.n
 seen c =
-    as-view c.args.program.now c.args.condition.now c.plain_buffer-plain.result c.view.new.out.0 c.view.ensures c.in-Written.is
+    as-view c.args.program.now c.args.condition.now c.plain_buffer-plain.result c.view.new.out c.view.ensures c.in-Written.is
 
-refused : (c : In-Refused-2) → Left PrintsRefusal c c.in-Refused.n
+refused : (c : In-Refused) → Left PrintsRefusal c c.in-Refused.n
 refused c =
-    as-refusal c.args.program.now c.args.condition.now c.plain_buffer-plain.result c.view.new.out.0 c.view.ensures c.in-Refused.is
+    as-refusal c.args.program.now c.args.condition.now c.plain_buffer-plain.result c.view.new.out c.view.ensures c.in-Refused.is
 
 pub slice_bounds-plain-end : goal.slice_bounds-plain-end
-slice_bounds-plain-end c = printed-within (seen (goal.at.slice_bounds-plain-end c).In-Written-2)
+slice_bounds-plain-end c = printed-within (seen (goal.at.slice_bounds-plain-end c).In-Written)
 
 pub slice_bounds-escape-end : goal.slice_bounds-escape-end
-slice_bounds-escape-end c = sym (length-take-le _ _ (printed-within (seen (goal.at.slice_bounds-escape-end c).In-Written-2)))
+slice_bounds-escape-end c = sym (length-take-le _ _ (printed-within (seen (goal.at.slice_bounds-escape-end c).In-Written)))
 
 pub escape-requires : goal.escape-requires
 escape-requires c =
-    page-fits (seen (goal.at.escape-requires c).In-Written-2) c.plain_buffer-plain.ensures _ c.if-out-lt-PAGE_ROOM.false
+    page-fits (seen (goal.at.escape-requires c).In-Written) c.plain_buffer-plain.ensures _ c.if-out-lt-PAGE_ROOM.false
 
 pub slice_bounds-plain-end-in-Refused : goal.slice_bounds-plain-end-in-Refused
-slice_bounds-plain-end-in-Refused c = printed-within (refused (goal.at.slice_bounds-plain-end-in-Refused c).In-Refused-2)
+slice_bounds-plain-end-in-Refused c = printed-within (refused (goal.at.slice_bounds-plain-end-in-Refused c).In-Refused)
 
 pub slice_bounds-escape-end-in-Refused : goal.slice_bounds-escape-end-in-Refused
-slice_bounds-escape-end-in-Refused c = sym (length-take-le _ _ (printed-within (refused (goal.at.slice_bounds-escape-end-in-Refused c).In-Refused-2)))
+slice_bounds-escape-end-in-Refused c = sym (length-take-le _ _ (printed-within (refused (goal.at.slice_bounds-escape-end-in-Refused c).In-Refused)))
 
 pub escape-requires-in-Refused : goal.escape-requires-in-Refused
 escape-requires-in-Refused c =
-    page-fits (refused (goal.at.escape-requires-in-Refused c).In-Refused-2) c.plain_buffer-plain.ensures _ c.if-out-lt-PAGE_ROOM.false
+    page-fits (refused (goal.at.escape-requires-in-Refused c).In-Refused) c.plain_buffer-plain.ensures _ c.if-out-lt-PAGE_ROOM.false
 
 pub returns-in-Written : goal.returns-in-Written
 returns-in-Written c =
-    page-printed (seen (goal.at.returns-in-Written c).In-Written-2) c.plain_buffer-plain.ensures c.if-out-lt-PAGE_ROOM.false c.escape.ensures
+    page-printed (seen (goal.at.returns-in-Written c).In-Written) c.plain_buffer-plain.ensures c.if-out-lt-PAGE_ROOM.false c.escape.ensures
 
 pub returns-in-Refused : goal.returns-in-Refused
 returns-in-Refused c =
-    page-printed (refused (goal.at.returns-in-Refused c).In-Refused-2) c.plain_buffer-plain.ensures c.if-out-lt-PAGE_ROOM.false c.escape-in-Refused.ensures
+    page-printed (refused (goal.at.returns-in-Refused c).In-Refused) c.plain_buffer-plain.ensures c.if-out-lt-PAGE_ROOM.false c.escape-in-Refused.ensures
 
 pub returns-in-NoRoom : goal.returns-in-NoRoom
 returns-in-NoRoom c =

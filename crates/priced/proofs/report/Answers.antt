@@ -6,29 +6,29 @@ use Rattle.judge.specs.Judge.{Lent, JudgeFinished}
 use Rattle.pricing.proofs.InForce.{in-force-fair}
 use Rattle.priced.proofs.Reports.{refused-report, new-within, both-taken, report-listed}
 use Rattle.priced.proofs.report.Goals as goal
-use Rattle.priced.proofs.report.Goals.{After-judge-answer, After-text-1, In-Finished-2}
+use Rattle.priced.proofs.report.Goals.{After-judge-answer, After-text-1, In-Finished}
 
 -- what was lent to `judge`, and what it left
 abbrev lent : After-text-1 → Lent
 lent c = record { verdicts = c.verdict_buffer-verdicts.result; new = c.text_buffer-text.result }
 
 abbrev left : After-judge-answer → Lent
-left c = record { verdicts = c.judge-answer.new.verdicts; new = c.judge-answer.new.text.0 }
+left c = record { verdicts = c.judge-answer.new.verdicts; new = c.judge-answer.new.text }
 
 -- the answer is a result
-finished : (c : In-Finished-2)
+finished : (c : In-Finished)
     → let n = c.answer-in-Finished-1.given.0 in
     JudgeFinished c.args.program.now c.args.marks.now (lent (c.After-text-1)) (left (c.After-judge-answer)) n.0 n.1.0 n.1.1.0
 finished c = rw c.in-Finished.is at c.judge-answer.ensures
 
 pub slice_bounds-text-end : goal.slice_bounds-text-end
-slice_bounds-text-end c = new-within (finished (goal.at.slice_bounds-text-end c).In-Finished-2)
+slice_bounds-text-end c = new-within (finished (goal.at.slice_bounds-text-end c).In-Finished)
 
 pub slice_bounds-list-end : goal.slice_bounds-list-end
-slice_bounds-list-end c = sym (length-take-le _ _ (new-within (finished (goal.at.slice_bounds-list-end c).In-Finished-2)))
+slice_bounds-list-end c = sym (length-take-le _ _ (new-within (finished (goal.at.slice_bounds-list-end c).In-Finished)))
 
 pub list-requires : goal.list-requires
-list-requires c = record { both = both-taken (finished (goal.at.list-requires c).In-Finished-2); fair = rw c.in_force-table.ensures (in-force-fair _) }
+list-requires c = record { both = both-taken (finished (goal.at.list-requires c).In-Finished); fair = rw c.in_force-table.ensures (in-force-fair _) }
 
 pub returns-in-Refused : goal.returns-in-Refused
 returns-in-Refused c =
@@ -37,4 +37,4 @@ returns-in-Refused c =
 
 pub returns-in-Finished : goal.returns-in-Finished
 returns-in-Finished c =
-    report-listed (finished (goal.at.returns-in-Finished c).In-Finished-2) (rw c.in_force-table.ensures at c.list.ensures)
+    report-listed (finished (goal.at.returns-in-Finished c).In-Finished) (rw c.in_force-table.ensures at c.list.ensures)

@@ -10,8 +10,8 @@ use Rattle.published_rows.proofs.remembered_row.Goals as goal
 use Rattle.published_rows.proofs.remembered_row.Goals.{After-statement_code-key, Start}
 
 -- what is remembered, of some program
-remembered : (s : Start) → Remembers (used_in s.args.rows.now) s.requires.0.P s.args.keys.now s.args.memory.now
-remembered s = s.requires.1.2 s.requires.0.P s.requires.0.known
+remembered : (s : Start) → Remembers (used_in s.args.rows.now) s.requires.some_known.P s.args.keys.now s.args.memory.now
+remembered s = s.requires.valid_mark.2 s.requires.some_known.P s.requires.some_known.known
 
 -- the code is that of the mark's key
 key : (c : After-statement_code-key) → c.statement_code-key.result ≡ statement_code (key_of c.args.m)

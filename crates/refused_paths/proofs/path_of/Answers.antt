@@ -10,7 +10,7 @@ rows_for-requires c = let r = c.requires.0.refused in record { valid_mark = (r.v
 pub search-length-requires : goal.search-length-requires
 search-length-requires c =
     let r = c.requires.0.refused in
-    record { both_ways = (refused-ways r, (refused-room r).few, c.rows_for.auto.through ∙ c.blank_row-through.ensures.size, c.rows_for.auto.goal.0 ∙ c.blank_row-goal.ensures.size, c.requires.2); s_lt_n = (omega (arith, r.inside, c.requires.0.here), rw (c.goes_back.ensures, c.requires.0.here) (search-some r (c.rows_for.ensures _ (refused-facts r)))) }
+    record { both_ways = (refused-ways r, (refused-room r).few, c.rows_for.auto.through ∙ c.blank_row-through.ensures.size, c.rows_for.auto.goal ∙ c.blank_row-goal.ensures.size, c.requires.2); s_lt_n = (omega (arith, r.inside, c.requires.0.here), rw (c.goes_back.ensures, c.requires.0.here) (search-some r (c.rows_for.ensures _ (refused-facts r)))) }
 
 pub overflow_sub-t-2 : goal.overflow_sub-t-2
 overflow_sub-t-2 c =

@@ -11,7 +11,7 @@ find-requires c = record { held = c.requires.held; well_formed = c.requires.well
 
 pub judge-requires : goal.judge-requires
 judge-requires c =
-    let known = known-program {flow = c.of.new.flow.0} (own-text c.requires.well_formed) c.requires.held c.find.ensures c.blank_codes-codes.ensures.many c.of.ensures (omega (arith, c.of.auto, c.blank-flow.ensures.size)) in
+    let known = known-program {flow = c.of.new.flow} (own-text c.requires.well_formed) c.requires.held c.find.ensures c.blank_codes-codes.ensures.many c.of.ensures (omega (arith, c.of.auto, c.blank-flow.ensures.size)) in
     record { held = (c.requires.held, known); some_taken = (c.requires.some_taken, omega (arith, c.verdict_buffer-verdicts.ensures)) }
 
 pub rewrite-requires : goal.rewrite-requires

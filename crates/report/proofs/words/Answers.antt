@@ -14,7 +14,7 @@ abbrev lent : After-text-1 → Lent
 lent c = record { verdicts = c.verdict_buffer-verdicts.result; new = c.text_buffer-text.result }
 
 abbrev left : After-judge-answer → Lent
-left c = record { verdicts = c.judge-answer.new.verdicts; new = c.judge-answer.new.text.0 }
+left c = record { verdicts = c.judge-answer.new.verdicts; new = c.judge-answer.new.text }
 
 pub write_words-requires : goal.write_words-requires
 write_words-requires c =

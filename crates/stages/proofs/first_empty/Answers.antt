@@ -2,7 +2,6 @@
 use mathlib.Core.Path.{◌≡◌, ap, ◌∙◌}
 use Prim.Native.Nat.{◌-◌}
 use native.Mathlib.Omega.{arith}
-use borrow.Author.Tests.{not-true, not-false}
 use lib.ListN.{length}
 use Rattle.base.proofs.Decides.{decided-true, decided-false}
 use Rattle.stage_names.specs.Names.{name_bytes}
@@ -29,13 +28,13 @@ pub returns-then-not-occupied : goal.returns-then-not-occupied
 returns-then-not-occupied c =
     record {
       inside = c.loop-k-test.true;
-      empty = empty-not c.args.stages.now c.loop-k.k (decided-false c.occupied.result (not-true _ c.if-not-occupied.true) c.occupied.ensures);
+      empty = empty-not c.args.stages.now c.loop-k.k (decided-false c.occupied.result c.if-not-occupied.true c.occupied.ensures);
       before = c.loop-k.invariant;
     }
 
 pub loop-k-preserved : goal.loop-k-preserved
 loop-k-preserved c =
-    full-more c.args.stages.now c.loop-k.k c.loop-k.invariant (decided-true c.occupied.result (not-false _ c.if-not-occupied.false) c.occupied.ensures)
+    full-more c.args.stages.now c.loop-k.k c.loop-k.invariant (decided-true c.occupied.result c.if-not-occupied.false c.occupied.ensures)
 
 pub fill-key-requires : goal.fill-key-requires
 fill-key-requires c = c.requires.1.few

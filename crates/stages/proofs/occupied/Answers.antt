@@ -1,6 +1,5 @@
 -- `occupied` meets its contract. Assumes nothing.
 use mathlib.Core.Path.{◌≡◌, ap, ◌∙◌}
-use borrow.Author.Tests.{not-true, not-false}
 use lib.ListN.{take}
 use Rattle.base.proofs.Decides.{decided-true, decided-false, decides-same}
 use Rattle.stage_names.specs.Names.{name_bytes}
@@ -15,7 +14,7 @@ name-is c = c.name_of.ensures.0 ∙ ap (take name_bytes) c.part-bytes.ensures.0
 
 pub returns-then-not-named : goal.returns-then-not-named
 returns-then-not-named c =
-    unnamed c.args.stages.now c.args.k (rw (name-is (goal.at.returns-then-not-named c).After-name_of) at (decided-false c.named.result (not-true _ c.if-not-named.true) c.named.ensures))
+    unnamed c.args.stages.now c.args.k (rw (name-is (goal.at.returns-then-not-named c).After-name_of) at (decided-false c.named.result c.if-not-named.true c.named.ensures))
 
 pub returns-then-repeated : goal.returns-then-repeated
 returns-then-repeated c =
@@ -23,7 +22,7 @@ returns-then-repeated c =
 
 pub returns : goal.returns
 returns c =
-    let right = rw (name-is (goal.at.returns c).After-name_of) at (decided-true c.named.result (not-false _ c.if-not-named.false) c.named.ensures) in
+    let right = rw (name-is (goal.at.returns c).After-name_of) at (decided-true c.named.result c.if-not-named.false c.named.ensures) in
     let once = decided-false c.repeated.result c.if-repeated.false c.repeated.ensures in
     decides-same c.text_taken.result (occupies c.args.stages.now c.args.k c.requires.stage_bytes_in_bounds.1 right once)
     (occupied-taken c.args.stages.now c.args.k) (rw c.part-bytes.ensures.0 at c.text_taken.ensures)

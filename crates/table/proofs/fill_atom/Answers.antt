@@ -19,5 +19,5 @@ row-requires c =
 pub returns : goal.returns
 returns c = λ P a rest size f e.
     let read = sym c.atom.ensures.result_value ∙ ap (parsed_atom c.args.text.now) c.in-Found.is in
-    let l = c.row.auto.out.0 ∙ part_length part_words c.args.table.now c.args.k c.requires.part_words_in_bounds in
+    let l = c.row.auto.out ∙ part_length part_words c.args.table.now c.args.k c.requires.part_words_in_bounds in
     part-written part_words c.args.table.now c.args.k c.requires.part_words_in_bounds _ _ _ l (rw (found-same read e) at (c.row.ensures P size f))

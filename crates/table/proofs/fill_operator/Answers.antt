@@ -21,5 +21,5 @@ operator_row-requires c =
 pub returns : goal.returns
 returns c = λ x e.
     let r = c.rule_of-rule.ensures x e in
-    let l = c.operator_row.auto.out.0 ∙ part_length part_words c.args.table.now c.args.k c.requires.left_lt_k.2 in
+    let l = c.operator_row.auto.out ∙ part_length part_words c.args.table.now c.args.k c.requires.left_lt_k.2 in
     part-written part_words c.args.table.now c.args.k c.requires.left_lt_k.2 _ _ _ l (rw (r, c.row_of-p.ensures, c.row_of-q.ensures) at c.operator_row.ensures)

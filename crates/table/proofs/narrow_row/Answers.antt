@@ -17,23 +17,20 @@ slice_bounds-places-end c = search rules
 pub slice_bounds-below-end : goal.slice_bounds-below-end
 slice_bounds-below-end c = sym (length-take-le _ _ ((search rules)))
 
-pub below-requires : goal.below-requires
-below-requires c = omega (arith, (sym (length-take-le _ _ ((search rules)))), c.requires.rows.room)
-
 pub slice_bounds-places-end-in-Negation : goal.slice_bounds-places-end-in-Negation
-slice_bounds-places-end-in-Negation c = rw (length_front _ _ _ c.below.auto.row.0) ((search rules))
+slice_bounds-places-end-in-Negation c = rw (length_front _ _ _ c.below.auto.row) ((search rules))
 
 pub slice_bounds-difference-end : goal.slice_bounds-difference-end
-slice_bounds-difference-end c = sym (length-take-le _ _ ((rw (length_front _ _ _ c.below.auto.row.0) ((search rules)))))
+slice_bounds-difference-end c = sym (length-take-le _ _ ((rw (length_front _ _ _ c.below.auto.row) ((search rules)))))
 
 pub difference-requires : goal.difference-requires
 difference-requires c =
-    record { left = sym ((sym (length-take-le _ _ ((rw (length_front _ _ _ c.below.auto.row.0) ((search rules))))))); right = c.requires.rows.of_p }
+    record { left = sym ((sym (length-take-le _ _ ((rw (length_front _ _ _ c.below.auto.row) ((search rules))))))); right = c.requires.rows.of_p }
 
 pub returns-in-Negation : goal.returns-in-Negation
 returns-in-Negation c =
     let w = length c.args.out.now in
-    let places = take_at c.below.new.row.0 (drop w c.blank-places.result) w (c.below.auto.row.0 ∙ sym ((sym (length-take-le _ _ ((search rules)))))) in
+    let places = take_at c.below.new.row (drop w c.blank-places.result) w (c.below.auto.row ∙ sym ((sym (length-take-le _ _ ((search rules)))))) in
     rw c.in-Negation.is (negation-row _ _ _ _ (λ s. ap (λ (l : List ℕ). member l s) places ∙ c.below.ensures s) c.difference.ensures)
 
 pub returns-in-Conjunction : goal.returns-in-Conjunction

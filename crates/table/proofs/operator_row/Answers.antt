@@ -51,13 +51,13 @@ narrow_row-requires c =
 
 pub shape_of-out : goal.shape_of-out
 shape_of-out c =
-    let front = c.narrow_row.new.out.0 in
+    let front = c.narrow_row.new.out in
     let row = front ++ drop (needed c.args.n) c.args.out.now in
-    same_len_mid (needed c.args.n) (length row - needed c.args.n) row c.clear.new.row.0 c.clear.auto.row.0 ∙ length_front c.args.out.now front (needed c.args.n) c.narrow_row.auto.out.0
+    same_len_mid (needed c.args.n) (length row - needed c.args.n) row c.clear.new.row c.clear.auto.row ∙ length_front c.args.out.now front (needed c.args.n) c.narrow_row.auto.out
 
 pub returns : goal.returns
 returns c =
     let none = c.requires.by_index in
-    let l = c.narrow_row.auto.out.0 ∙ sym ((sym (length-take-le _ _ ((search rules))))) in
+    let l = c.narrow_row.auto.out ∙ sym ((sym (length-take-le _ _ ((search rules))))) in
     rw (lent-member _ _ _ _ l c.clear.ensures)
     (rw (narrowed c.args.n c.args.p.now none.0, narrowed c.args.n c.args.q.now none.1) at c.narrow_row.ensures)

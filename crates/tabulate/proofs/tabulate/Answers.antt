@@ -6,7 +6,7 @@ use Rattle.program.specs.Reading.{statements, Held}
 use Rattle.table.specs.Fill.{SomeHeld}
 use Rattle.tabulate.proofs.Tabulates.{tabulated}
 use Rattle.tabulate.proofs.tabulate.Goals as goal
-use Rattle.tabulate.proofs.tabulate.Goals.{In-Taken-2, In_default}
+use Rattle.tabulate.proofs.tabulate.Goals.{In-Taken, In_default}
 
 pub returns-then-table-lt-TABLE_WORDS : goal.returns-then-table-lt-TABLE_WORDS
 returns-then-table-lt-TABLE_WORDS c = (inl (c.if-table-lt-TABLE_WORDS.true, refl), refl)
@@ -20,11 +20,11 @@ program-taken : (c : In_default) → Taken c.args.program.now (statements c.read
 program-taken c = rw c.in_default.is at c.read-reading.ensures
 
 -- and the condition
-condition-held : (c : In-Taken-2) → SomeHeld c.args.condition.now c.in-Taken.parts c.read-conditions.result.words
+condition-held : (c : In-Taken) → SomeHeld c.args.condition.now c.in-Taken.parts c.read-conditions.result.words
 condition-held c = let h = rw c.in-Taken.is at c.read-conditions.ensures in record { c = h.0; held = record { taken = h.1; held = h.2 } }
 
 pub fill-summary-requires : goal.fill-summary-requires
-fill-summary-requires c = let p = program-taken (goal.at.fill-summary-requires c).In_default in record { held = (p.1, (_, p.0)); some_held = condition-held (goal.at.fill-summary-requires c).In-Taken-2; flow_len = (c.blank-flow.ensures.size, c.if-table-lt-TABLE_WORDS.false) }
+fill-summary-requires c = let p = program-taken (goal.at.fill-summary-requires c).In_default in record { held = (p.1, (_, p.0)); some_held = condition-held (goal.at.fill-summary-requires c).In-Taken; flow_len = (c.blank-flow.ensures.size, c.if-table-lt-TABLE_WORDS.false) }
 
 pub returns-in-Refused-told : goal.returns-in-Refused-told
 returns-in-Refused-told c =
@@ -33,5 +33,5 @@ returns-in-Refused-told c =
 
 pub returns-in-Taken : goal.returns-in-Taken
 returns-in-Taken c =
-    let h = condition-held (goal.at.returns-in-Taken c).In-Taken-2 in
+    let h = condition-held (goal.at.returns-in-Taken c).In-Taken in
     tabulated h.held (program-taken (goal.at.returns-in-Taken c).In_default).0 c.if-table-lt-TABLE_WORDS.false (c.fill-summary.ensures.table h.c h.held) c.fill-summary.ensures.counts

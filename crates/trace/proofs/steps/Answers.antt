@@ -23,25 +23,25 @@ returns-then-out-to-lt-LINE_ROOM c =
 
 pub step-next-requires : goal.step-next-requires
 step-next-requires c =
-    let p = c.args.t1 in
+    let p = c.args.p in
     let w = c.requires.well_formed in
     record { valid = rw c.statement_of-s.ensures (held-valid p.entries p.count _ c.loop-k.invariant.inside w); targets = rw c.statement_of-s.ensures (held-targets p.entries p.count _ c.loop-k.invariant.inside w); at_lt_most = omega (arith, c.loop-k.invariant.inside, w.counted.1) }
 
 pub line-to-requires : goal.line-to-requires
 line-to-requires c =
-    let p = c.args.t1 in
+    let p = c.args.p in
     let w = c.requires.well_formed in
     record { valid = rw c.statement_of-s.ensures (held-valid p.entries p.count _ c.loop-k.invariant.inside w); targets = rw c.statement_of-s.ensures (held-targets p.entries p.count _ c.loop-k.invariant.inside w); place_lt_most = omega (arith, c.loop-k.invariant.inside, w.counted.1); line_room_in_bounds = omega (arith, c.if-out-to-lt-LINE_ROOM.false, c.loop-k.invariant.fits, c.loop-k.invariant.same) }
 
 pub loop-k-preserved : goal.loop-k-preserved
 loop-k-preserved c =
     let goes = rw c.in-To.is at c.way_on-way.ensures in
-    going_more c.args.t1 _ _ _ _ _ (rw c.statement_of-s.ensures at step.step.ensures) c.loop-k.invariant c.loop-k-test.true
+    going_more c.args.p _ _ _ _ _ (rw c.statement_of-s.ensures at step.step.ensures) c.loop-k.invariant c.loop-k-test.true
     (omega (arith, c.if-out-to-lt-LINE_ROOM.false, c.loop-k.invariant.fits, c.loop-k.invariant.same)) c.line-to.ensures.1 _ c.requires.well_formed goes (rw c.statement_of-s.ensures at c.line-to.ensures.0)
 
 pub last_line-to-requires : goal.last_line-to-requires
 last_line-to-requires c =
-    let p = c.args.t1 in
+    let p = c.args.p in
     let w = c.requires.well_formed in
     record { valid = rw c.statement_of-s.ensures (held-valid p.entries p.count _ c.loop-k.invariant.inside w); targets = rw c.statement_of-s.ensures (held-targets p.entries p.count _ c.loop-k.invariant.inside w); place_lt_most = omega (arith, c.loop-k.invariant.inside, w.counted.1); line_room_in_bounds = omega (arith, c.if-out-to-lt-LINE_ROOM.false, c.loop-k.invariant.fits, c.loop-k.invariant.same) }
 
@@ -51,9 +51,9 @@ shape_of-out-in-Ended c =
 
 pub returns-in-Ended : goal.returns-in-Ended
 returns-in-Ended c =
-    let us = c.step-next.new.values.0 in
+    let us = c.step-next.new.values in
     let over = ((rw c.in-Ended.is at c.way_on-way.ensures) us).1 in
-    ends c.args.t1 _ _ _ us c.step-next.result (rw c.statement_of-s.ensures at c.step-next.ensures) c.loop-k.invariant c.loop-k-test.true
+    ends c.args.p _ _ _ us c.step-next.result (rw c.statement_of-s.ensures at c.step-next.ensures) c.loop-k.invariant c.loop-k-test.true
     (omega (arith, c.if-out-to-lt-LINE_ROOM.false, c.loop-k.invariant.fits, c.loop-k.invariant.same)) c.last_line-to.ensures.1 _ _ refl refl refl refl over (rw c.statement_of-s.ensures at c.last_line-to.ensures.0)
 
 pub shape_of-out : goal.shape_of-out

@@ -9,7 +9,7 @@ use Rattle.marks.proofs.Walk.{line-further}
 use Rattle.verdicts.proofs.Lists.{never-misspelled, line-below}
 use Rattle.verdicts.proofs.Made.{InsideOf, made_none, made-less, accepted-inside, made_more, accepted-few, verdicts-same, held-few, made_all, counted-all}
 use Rattle.verdicts.proofs.rewrite.Goals as goal
-use Rattle.verdicts.proofs.rewrite.Goals.{At-loop-at, Start, Then-verdicts-j-eq0}
+use Rattle.verdicts.proofs.rewrite.Goals.{In-Found, Then-verdicts-j-eq0}
 
 pub loop-at-init : goal.loop-at-init
 loop-at-init c = (c.requires.held.room, λ ms t. made_none t.spells)
@@ -19,69 +19,66 @@ returns-in_default c =
     λ ms t. absurd (never-misspelled (c.loop-at.invariant.1 ms t).begins c.loop-at-test.true c.in_default.is c.line.ensures)
 
 -- ---- a mark is read
-abbrev Marked : Type 0
-Marked = tie.After-m invariant-loop decreases-loop
-
-abbrev start : Marked → Start
-start c = c
-
-abbrev loop : Marked → At-loop-at
-loop c = c
 
 -- its line is one of at most `marks.most`
-below : (c : Marked) → (loop c).loop.j < marks.most
+below : (c : In-Found) → c.loop-at.j < marks.most
 below c =
-    let list = (start c).requires.1 in
-    line-below ((loop c).loop.invariant.1 list.ms list.taken).begins list.taken c.m.given.1 c.before.before.line.ensures
+    let list = c.requires.some_judged in
+    line-below (c.loop-at.invariant.1 list.ms list.taken).begins list.taken c.in-Found.is c.line.ensures
 
-few : (c : Marked) → (loop c).loop.accepted ≤ (loop c).loop.j
-few c = let list = (start c).requires.1 in accepted-few ((loop c).loop.invariant.1 list.ms list.taken)
+few : (c : In-Found) → c.loop-at.accepted ≤ c.loop-at.j
+few c = let list = c.requires.some_judged in accepted-few (c.loop-at.invariant.1 list.ms list.taken)
 
 -- the given program has room in the entries
-room : (c : Marked) → length (statements (start c).args.t2) ≤ most
-room c = held-few (start c).requires.0
+room : (c : In-Found) → length (statements c.args.p) ≤ most
+room c = held-few c.requires.held
 
-room-on : (c : Marked) → length (statements (start c).args.t2) ≤ length (loop c).loop.entries
-room-on c = omega (arith, room c, (loop c).loop.invariant.0)
+room-on : (c : In-Found) → length (statements c.args.p) ≤ length c.loop-at.entries
+room-on c = omega (arith, room c, c.loop-at.invariant.0)
 
 -- where it is accepted, its statement is one of the program's
-inside : (c : Then-verdicts-j-eq0 → InsideOf (statements (start (c.Start)).args.t2) c.in-Found.m
-inside c =
-    let list = (start (c.Start)).requires.1 in
-    accepted-inside ((loop (c.At-loop-at)).loop.invariant.1 list.ms list.taken) c.in-Found.is c.line.ensures _ list.judged
-    (room-on c) c.if-verdicts-j-eq0.true
+inside : (c : Then-verdicts-j-eq0) → length (statements c.args.p) ≤ length c.loop-at.entries → InsideOf (statements c.args.p) c.in-Found.m
+inside c fits =
+    let list = c.requires.some_judged in
+    accepted-inside (c.loop-at.invariant.1 list.ms list.taken) c.in-Found.is c.line.ensures _ list.judged fits c.if-verdicts-j-eq0.true
 
 pub bounds-verdicts-j : goal.bounds-verdicts-j
-bounds-verdicts-j c = omega (arith, (start (goal.at.bounds-verdicts-j c).Start).pre.1.room, below c)
+bounds-verdicts-j c = omega (arith, c.requires.some_judged.room, below (goal.at.bounds-verdicts-j c).In-Found)
 
 pub overflow_sub-place : goal.overflow_sub-place
-overflow_sub-place c = omega (arith, c.statement_of-n.ensures, inside (goal.at.overflow_sub-place c).Then-verdicts-j-eq0)
+overflow_sub-place c =
+    let to = goal.at.overflow_sub-place c in
+    omega (arith, c.statement_of-n.ensures, inside to.Then-verdicts-j-eq0 (room-on to.In-Found))
 
 pub bounds-p-place : goal.bounds-p-place
-bounds-p-place c = omega (arith, c.statement_of-n.ensures, room c, inside (goal.at.bounds-p-place c).Then-verdicts-j-eq0)
+bounds-p-place c =
+    let to = goal.at.bounds-p-place c in
+    omega (arith, c.statement_of-n.ensures, room to.In-Found, inside to.Then-verdicts-j-eq0 (room-on to.In-Found))
 
 pub bounds-entries-place : goal.bounds-entries-place
-bounds-entries-place c = omega (arith, c.statement_of-n.ensures, room c, inside (goal.at.bounds-entries-place c).Then-verdicts-j-eq0)
+bounds-entries-place c =
+    let to = goal.at.bounds-entries-place c in
+    omega (arith, c.statement_of-n.ensures, room to.In-Found, inside to.Then-verdicts-j-eq0 (room-on to.In-Found))
 
 pub overflow_add-accepted : goal.overflow_add-accepted
-overflow_add-accepted c = omega (arith, few c, below c)
+overflow_add-accepted c = let to = (goal.at.overflow_add-accepted c).In-Found in omega (arith, few to, below to)
 
 pub overflow_add-j : goal.overflow_add-j
-overflow_add-j c = omega (arith, below c)
+overflow_add-j c = omega (arith, below (goal.at.overflow_add-j c).In-Found)
 
 pub loop-at-smaller-then-verdicts-j-eq0 : goal.loop-at-smaller-then-verdicts-j-eq0
 loop-at-smaller-then-verdicts-j-eq0 c = line-further _ _ c.in-Found.is c.line.ensures
 
 pub loop-at-preserved-then-verdicts-j-eq0 : goal.loop-at-preserved-then-verdicts-j-eq0
 loop-at-preserved-then-verdicts-j-eq0 c =
-    let l = (loop (goal.at.loop-at-preserved-then-verdicts-j-eq0 c).At-loop-at).loop in (
-      length-set l.entries _ _ ∙ l.inv.0,
-      λ ms t. made_more (l.inv.1 ms t) c.in-Found.is c.line.ensures (statements (start (goal.at.loop-at-preserved-then-verdicts-j-eq0 c).Start).args.t2) (verdicts-same (start (goal.at.loop-at-preserved-then-verdicts-j-eq0 c).Start).requires.1 t)
-          (room-on c) c.if-verdicts-j-eq0.true _ c.statement_of-n.ensures _ (c.entry_of.ensures ∙ (rw c.statement_of-i.ensures at c.makes.ensures)),
+    let l = c.loop-at in (
+      length-set l.entries _ _ ∙ l.invariant.0,
+      λ ms t. made_more (l.invariant.1 ms t) c.in-Found.is c.line.ensures (statements c.args.p) (verdicts-same c.requires.some_judged t)
+          (room-on (goal.at.loop-at-preserved-then-verdicts-j-eq0 c).In-Found) c.if-verdicts-j-eq0.true _ c.statement_of-n.ensures _ (c.entry_of.ensures ∙ (rw c.statement_of-i.ensures at c.makes.ensures)),
     )
 
 pub overflow_add-j-else-verdicts-j-eq0 : goal.overflow_add-j-else-verdicts-j-eq0
-overflow_add-j-else-verdicts-j-eq0 c = omega (arith, below c)
+overflow_add-j-else-verdicts-j-eq0 c = omega (arith, below (goal.at.overflow_add-j-else-verdicts-j-eq0 c).In-Found)
 
 pub loop-at-smaller : goal.loop-at-smaller
 loop-at-smaller c = line-further _ _ c.in-Found.is c.line.ensures
@@ -97,6 +94,6 @@ returns c =
     let judged = verdicts-same c.requires.some_judged t in
     record {
       held = record { room = c.loop-at.invariant.0; few = h.few };
-      rewritten = made_all c.args.t2 h _ (c.loop-at.invariant.1 ms t) c.loop-at-test.false c.loop-at.invariant.0 judged;
-      counted = counted-all c.args.t2 h _ (c.loop-at.invariant.1 ms t) c.loop-at-test.false c.loop-at.invariant.0 judged;
+      rewritten = made_all c.args.p h _ (c.loop-at.invariant.1 ms t) c.loop-at-test.false c.loop-at.invariant.0 judged;
+      counted = counted-all c.args.p h _ (c.loop-at.invariant.1 ms t) c.loop-at-test.false c.loop-at.invariant.0 judged;
     }

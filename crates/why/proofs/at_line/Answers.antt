@@ -11,9 +11,9 @@ use Rattle.why.proofs.at_line.Goals as goal
 use Rattle.why.proofs.at_line.Goals.{After-flow-2-1}
 
 -- what is known of the program before its list is judged
-program-known : (c : After-flow-2-1) → Known (statements c.args.p) c.args.p.count c.find.new.rows c.find.new.codes.0 c.of.new.flow.0
+program-known : (c : After-flow-2-1) → Known (statements c.args.p) c.args.p.count c.find.new.rows c.find.new.codes c.of.new.flow
 program-known c =
-    known-program {flow = c.of.new.flow.0} c.requires.1.1 c.requires.0 c.find.ensures c.blank_codes-codes.ensures.many c.of.ensures (omega (arith, c.of.auto, c.blank-flow.ensures.size))
+    known-program {flow = c.of.new.flow} c.requires.1.1 c.requires.0 c.find.ensures c.blank_codes-codes.ensures.many c.of.ensures (omega (arith, c.of.auto, c.blank-flow.ensures.size))
 
 pub find-requires : goal.find-requires
 find-requires c = record { held = c.requires.0; well_formed = c.requires.1.1.program; placeless = placeless c.blank-rows.ensures }
@@ -41,7 +41,7 @@ path_of-shown-requires c =
     let v = j.0.judged c.args.line l.inside in
     let byte = sym v.2 ∙ c.if-byte-number_of.false ∙ c.number_of.ensures in
     let own = own_uses l (statements c.args.p) k _ _ c.variable_of.ensures (c.row.ensures _ k.size (facts-in k.found)) in
-    (record { P = statements c.args.p; ms = l.ms; refused = refusal l (statements c.args.p) v.0 v.1 byte j.1 _ own; here = refusal-place l (statements c.args.p) v.0 v.1 byte k.few _ c.place_of-s.ensures.1 }, c.row.auto.out.0 ∙ c.blank_row-own.ensures.size, omega (arith, c.requires.3, k.size, k.few))
+    (record { P = statements c.args.p; ms = l.ms; refused = refusal l (statements c.args.p) v.0 v.1 byte j.1 _ own; here = refusal-place l (statements c.args.p) v.0 v.1 byte k.few _ c.place_of-s.ensures.1 }, c.row.auto.out ∙ c.blank_row-own.ensures.size, omega (arith, c.requires.3, k.size, k.few))
 
 pub overflow_cast-result : goal.overflow_cast-result
 overflow_cast-result c = let k = program-known (goal.at.overflow_cast-result c).After-flow-2-1 in omega (arith, c.path_of-shown.ensures.1, k.size, k.few)

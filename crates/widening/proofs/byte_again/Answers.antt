@@ -4,7 +4,6 @@ use mathlib.Core.Path.{◌≡◌, sym, ◌∙◌, subst}
 use mathlib.Core.List.{List}
 use Prim.Native.Nat.{◌≤◌}
 use native.Mathlib.Omega.{arith}
-use borrow.Author.Tests.{not-true, not-false}
 use lib.ListN.{length}
 use Rattle.program.specs.Program.{most}
 use Rattle.truth.specs.Truth.{uses_of}
@@ -18,22 +17,18 @@ use Rattle.widening.proofs.Again.{open-keyed, kept-judged, open-came, again-acce
 use Rattle.widening.proofs.byte_again.Goals as goal
 use Rattle.widening.proofs.byte_again.Goals.{After-contains, Else-not-is_open}
 
-abbrev start : Else-not-is_open → Start
-start c = c
-
 -- the mark came to its condition
-is-by-condition : (c : Else-not-is_open) → Open (start c).args.m (start c).args.b
-is-by-condition c = decided-true c.is_open.result (not-false _ c.if-not-is_open.false) c.is_open.ensures
+is-by-condition : (c : Else-not-is_open) → Open c.args.m c.args.b
+is-by-condition c = decided-true c.is_open.result c.if-not-is_open.false c.is_open.ensures
 
 pub returns-then-not-is_open : goal.returns-then-not-is_open
 returns-then-not-is_open c =
-    let closed = decided-false c.is_open.result (not-true _ c.if-not-is_open.true) c.is_open.ensures in
+    let closed = decided-false c.is_open.result c.if-not-is_open.true c.is_open.ensures in
     ((λ P k earlier v h e. (v, kept-judged (uses_of P) (used_in c.args.rows.now) P earlier c.args.m v (λ o. closed (subst (Open c.args.m) (sym e) o)) h, e)), c.requires.valid_mark.1)
 
 pub remembered_row-row-requires : goal.remembered_row-row-requires
 remembered_row-row-requires c =
-    let s = start (goal.at.remembered_row-row-requires c).Else-not-is_open in
-    record { some_known = s.pre.0; valid_mark = (s.pre.1.0, open-keyed s.args.m s.args.b (is-by-condition (goal.at.remembered_row-row-requires c).Else-not-is_open), s.pre.1.1) }
+    record { some_known = c.requires.some_known; valid_mark = (c.requires.valid_mark.0, open-keyed c.args.m c.args.b (is-by-condition (goal.at.remembered_row-row-requires c).Else-not-is_open), c.requires.valid_mark.1) }
 
 pub contains-requires : goal.contains-requires
 contains-requires c =
@@ -46,12 +41,12 @@ placed c P few i = c.place_of-place.ensures.1 (i.0, omega (arith, i.1, few))
 
 pub returns-then-contains : goal.returns-then-contains
 returns-then-contains c =
-    let s = start (goal.at.returns-then-contains c).Else-not-is_open in (
+    (
       (λ P k earlier v h e.
-          let o = subst (Open s.args.m) e (is-by-condition (goal.at.returns-then-contains c).Else-not-is_open) in
-          let i = open-came (uses_of P) (used_in s.args.rows.now) P earlier s.args.m v o h in (
+          let o = subst (Open c.args.m) e (is-by-condition (goal.at.returns-then-contains c).Else-not-is_open) in
+          let i = open-came (uses_of P) (used_in c.args.rows.now) P earlier c.args.m v o h in (
             Accepted,
-            again-accepted (uses_of P) (used_in s.args.rows.now) P earlier s.args.m v o h c.remembered_row-row.result (c.remembered_row-row.ensures.0 P k)
+            again-accepted (uses_of P) (used_in c.args.rows.now) P earlier c.args.m v o h c.remembered_row-row.result (c.remembered_row-row.ensures.0 P k)
                 (rw (← placed (goal.at.returns-then-contains c).After-contains P k.few i.0) (sym c.contains.ensures ∙ c.if-contains.true)),
             c.number_of.ensures,
           )),
@@ -60,12 +55,12 @@ returns-then-contains c =
 
 pub returns : goal.returns
 returns c =
-    let s = start (goal.at.returns c).Else-not-is_open in (
+    (
       (λ P k earlier v h e.
-          let o = subst (Open s.args.m) e (is-by-condition (goal.at.returns c).Else-not-is_open) in
-          let i = open-came (uses_of P) (used_in s.args.rows.now) P earlier s.args.m v o h in (
+          let o = subst (Open c.args.m) e (is-by-condition (goal.at.returns c).Else-not-is_open) in
+          let i = open-came (uses_of P) (used_in c.args.rows.now) P earlier c.args.m v o h in (
             Unmet,
-            again-unmet (uses_of P) (used_in s.args.rows.now) P earlier s.args.m v o h c.remembered_row-row.result (c.remembered_row-row.ensures.0 P k)
+            again-unmet (uses_of P) (used_in c.args.rows.now) P earlier c.args.m v o h c.remembered_row-row.result (c.remembered_row-row.ensures.0 P k)
                 (rw (← placed (goal.at.returns c).After-contains P k.few i.0) (sym c.contains.ensures ∙ c.if-contains.false)),
             c.number_of-2.ensures,
           )),

@@ -12,7 +12,7 @@ use Rattle.widening.proofs.Again.{again-none, again-more, again-line, again-all}
 use Rattle.marks.proofs.Walk.{begins-first, line_of, line-further, line-mark, line-next, line-inside, text-done}
 use Rattle.verdicts.proofs.Lists.{never-misspelled, line-below}
 use Rattle.widening.proofs.judge_again.Goals as goal
-use Rattle.widening.proofs.judge_again.Goals.{At-loop-at, Start}
+use Rattle.widening.proofs.judge_again.Goals.{In-Found}
 
 pub loop-at-init : goal.loop-at-init
 loop-at-init c = (
@@ -30,53 +30,44 @@ returns-in_default c =
     λ P k ms t v. absurd (never-misspelled (c.loop-at.invariant.1 ms t) c.loop-at-test.true c.in_default.is c.line.ensures)
 
 -- ---- a mark is read
-abbrev Read : Type 0
-Read = tie.After-m invariant-loop decreases-loop
-
-abbrev start : Read → Start
-start c = c
-
-abbrev loop : Read → At-loop-at
-loop c = c
-
 -- its line is one of those that there can be
-below : (c : Read) → (loop c).loop.j < most
+below : (c : In-Found) → c.loop-at.j < most
 below c =
-    let list = (start c).requires.1.0 in
-    line-below ((loop c).loop.invariant.1 list.ms list.taken) list.taken c.m.given.1 c.before.before.line.ensures
+    let list = c.requires.some_taken.0 in
+    line-below (c.loop-at.invariant.1 list.ms list.taken) list.taken c.in-Found.is c.line.ensures
 
 -- the rows that are remembered so far
-remembered : (c : Read) → Remembers (used_in (start c).args.rows.now) (start c).requires.0.P (loop c).loop.keys (loop c).loop.memory
-remembered c = (loop c).loop.invariant.3 (start c).requires.0.P (start c).requires.0.known
+remembered : (c : In-Found) → Remembers (used_in c.args.rows.now) c.requires.some_known.P c.loop-at.keys c.loop-at.memory
+remembered c = c.loop-at.invariant.3 c.requires.some_known.P c.requires.some_known.known
 
 pub bounds-verdicts-j : goal.bounds-verdicts-j
-bounds-verdicts-j c = omega (arith, (loop (goal.at.bounds-verdicts-j c).At-loop-at).loop.invariant.0, (start (goal.at.bounds-verdicts-j c).Start).requires.1.1, below c)
+bounds-verdicts-j c = omega (arith, c.loop-at.invariant.0, c.requires.some_taken.1, below (goal.at.bounds-verdicts-j c).In-Found)
 
 pub byte_again-requires : goal.byte_again-requires
 byte_again-requires c =
-    record { some_known = (start (goal.at.byte_again-requires c).Start).requires.0; valid_mark = ((line_of _ _ c.in-Found.is c.line.ensures).valid, (loop (goal.at.byte_again-requires c).At-loop-at).loop.invariant.3) }
+    record { some_known = c.requires.some_known; valid_mark = ((line_of _ _ c.in-Found.is c.line.ensures).valid, c.loop-at.invariant.3) }
 
 pub bounds-verdicts-j-in-loop-at : goal.bounds-verdicts-j-in-loop-at
-bounds-verdicts-j-in-loop-at c = omega (arith, (loop (goal.at.bounds-verdicts-j-in-loop-at c).At-loop-at).loop.invariant.0, (start (goal.at.bounds-verdicts-j-in-loop-at c).Start).requires.1.1, below c)
+bounds-verdicts-j-in-loop-at c = omega (arith, c.loop-at.invariant.0, c.requires.some_taken.1, below (goal.at.bounds-verdicts-j-in-loop-at c).In-Found)
 
 pub overflow_add-j : goal.overflow_add-j
-overflow_add-j c = omega (arith, below c)
+overflow_add-j c = omega (arith, below (goal.at.overflow_add-j c).In-Found)
 
 pub loop-at-smaller : goal.loop-at-smaller
 loop-at-smaller c = line-further _ _ c.in-Found.is c.line.ensures
 
 pub loop-at-preserved : goal.loop-at-preserved
 loop-at-preserved c =
-    let l = (loop (goal.at.loop-at-preserved c).At-loop-at).loop in
+    let l = c.loop-at in
     (
-      length-set l.verdicts l.j c.byte_again.result ∙ l.inv.0,
-      (λ ms t. line-next (l.inv.1 ms t) c.in-Found.is c.line.ensures),
+      length-set l.verdicts l.j c.byte_again.result ∙ l.invariant.0,
+      (λ ms t. line-next (l.invariant.1 ms t) c.in-Found.is c.line.ensures),
       (λ P k ms t v.
-          let b = l.inv.1 ms t in
-          let so = l.inv.2 P k ms t v in
+          let b = l.invariant.1 ms t in
+          let so = l.invariant.2 P k ms t v in
           again-more so c.byte_again.result
           (again-line so v (line-inside b c.in-Found.is c.line.ensures) c.in-Found.m (line-mark b c.in-Found.is c.line.ensures _) c.byte_again.result (c.byte_again.ensures.0 P k))
-          ((omega (arith, (loop (goal.at.loop-at-preserved c).At-loop-at).loop.invariant.0, (start (goal.at.loop-at-preserved c).Start).requires.1.1, below c)))),
+          ((omega (arith, c.loop-at.invariant.0, c.requires.some_taken.1, below (goal.at.loop-at-preserved c).In-Found)))),
       c.byte_again.ensures.1,
     )
 

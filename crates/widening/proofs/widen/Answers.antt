@@ -7,7 +7,7 @@ use Rattle.widening.proofs.Uses.{added-valid, added_none, added-nothing, added-u
 use Rattle.marks.proofs.Walk.{begins-first, line_of, line-further, line-mark, line-next, line-inside, text-done}
 use Rattle.verdicts.proofs.Lists.{never-misspelled, line-below}
 use Rattle.widening.proofs.widen.Goals as goal
-use Rattle.widening.proofs.widen.Goals.{At-loop-at, Start}
+use Rattle.widening.proofs.widen.Goals.{In-Found}
 
 pub loop-at-init : goal.loop-at-init
 loop-at-init c = (c.requires.1, (λ ms t. begins-first t.spells), λ P n codes flow k ms t v. added_none ms k)
@@ -20,63 +20,54 @@ returns-in_default c =
     λ P n codes flow k ms t v. absurd (never-misspelled (c.loop-at.invariant.1 ms t) c.loop-at-test.true c.in_default.is c.line.ensures)
 
 -- ---- a mark is read
-abbrev Read : Type 0
-Read = tie.After-m invariant-loop decreases-loop
-
-abbrev start : Read → Start
-start c = c
-
-abbrev loop : Read → At-loop-at
-loop c = c
-
 -- its line is one of those that there can be
-below : (c : Read) → (loop c).loop.j < most
+below : (c : In-Found) → c.loop-at.j < most
 below c =
-    let list = (start c).requires.0 in
-    line-below ((loop c).loop.invariant.1 list.ms list.taken) list.taken c.m.given.1 c.before.before.line.ensures
+    let list = c.requires.0 in
+    line-below (c.loop-at.invariant.1 list.ms list.taken) list.taken c.in-Found.is c.line.ensures
 
 pub bounds-verdicts-j : goal.bounds-verdicts-j
-bounds-verdicts-j c = omega (arith, below c, (start (goal.at.bounds-verdicts-j c).Start).requires.2)
+bounds-verdicts-j c = omega (arith, below (goal.at.bounds-verdicts-j c).In-Found, c.requires.2)
 
 pub use_also-requires : goal.use_also-requires
 use_also-requires c =
     let adds = rw c.in-Use.is at c.added_by-add.ensures in
-    (added-valid c.in-Found.m _ _ adds (line_of _ _ c.in-Found.is c.line.ensures).valid, c.place_of-place.ensures.0, (loop (goal.at.use_also-requires c).At-loop-at).loop.invariant.0)
+    (added-valid c.in-Found.m _ _ adds (line_of _ _ c.in-Found.is c.line.ensures).valid, c.place_of-place.ensures.0, c.loop-at.invariant.0)
 
 pub overflow_add-j : goal.overflow_add-j
-overflow_add-j c = omega (arith, below c)
+overflow_add-j c = omega (arith, below (goal.at.overflow_add-j c).In-Found)
 
 pub loop-at-smaller-in-Use : goal.loop-at-smaller-in-Use
 loop-at-smaller-in-Use c = line-further _ _ c.in-Found.is c.line.ensures
 
 pub loop-at-preserved-in-Use : goal.loop-at-preserved-in-Use
 loop-at-preserved-in-Use c =
-    let l = (loop (goal.at.loop-at-preserved-in-Use c).At-loop-at).loop in
+    let l = c.loop-at in
     let adds = rw c.in-Use.is at c.added_by-add.ensures in
     (
-      c.use_also.ensures.same ∙ l.inv.0,
-      (λ ms t. line-next (l.inv.1 ms t) c.in-Found.is c.line.ensures),
+      c.use_also.ensures.same ∙ l.invariant.0,
+      (λ ms t. line-next (l.invariant.1 ms t) c.in-Found.is c.line.ensures),
       λ P n codes flow k ms t v.
-          let b = l.inv.1 ms t in
-          added-use (l.inv.2 P n codes flow k ms t v) (line-inside b c.in-Found.is c.line.ensures) (start (goal.at.loop-at-preserved-in-Use c).Start).args.verdicts.now v c.in-Found.m (line-mark b c.in-Found.is c.line.ensures _)
+          let b = l.invariant.1 ms t in
+          added-use (l.invariant.2 P n codes flow k ms t v) (line-inside b c.in-Found.is c.line.ensures) c.args.verdicts.now v c.in-Found.m (line-mark b c.in-Found.is c.line.ensures _)
           _ _ adds c.place_of-place.ensures.1 c.use_also.ensures,
     )
 
 pub overflow_add-j-in-Nothing : goal.overflow_add-j-in-Nothing
-overflow_add-j-in-Nothing c = omega (arith, below c)
+overflow_add-j-in-Nothing c = omega (arith, below (goal.at.overflow_add-j-in-Nothing c).In-Found)
 
 pub loop-at-smaller : goal.loop-at-smaller
 loop-at-smaller c = line-further _ _ c.in-Found.is c.line.ensures
 
 pub loop-at-preserved : goal.loop-at-preserved
 loop-at-preserved c =
-    let l = (loop (goal.at.loop-at-preserved c).At-loop-at).loop in
+    let l = c.loop-at in
     let adds = rw c.in-Nothing.is at c.added_by-add.ensures in (
-      l.inv.0,
-      (λ ms t. line-next (l.inv.1 ms t) c.in-Found.is c.line.ensures),
+      l.invariant.0,
+      (λ ms t. line-next (l.invariant.1 ms t) c.in-Found.is c.line.ensures),
       λ P n codes flow k ms t v.
-          let b = l.inv.1 ms t in
-          added-nothing (l.inv.2 P n codes flow k ms t v) (line-inside b c.in-Found.is c.line.ensures) (start (goal.at.loop-at-preserved c).Start).args.verdicts.now v c.in-Found.m (line-mark b c.in-Found.is c.line.ensures _) adds,
+          let b = l.invariant.1 ms t in
+          added-nothing (l.invariant.2 P n codes flow k ms t v) (line-inside b c.in-Found.is c.line.ensures) c.args.verdicts.now v c.in-Found.m (line-mark b c.in-Found.is c.line.ensures _) adds,
     )
 
 pub shape_of-rows : goal.shape_of-rows

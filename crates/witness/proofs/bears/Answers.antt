@@ -8,7 +8,7 @@ pub next-requires : goal.next-requires
 next-requires c =
     let r = c.requires.room.0 in
     let h = rw c.in-Next.is at c.requires.possible in
-    record { by_index = ((c.args.opposite.now, c.requires.directions_at), omega (arith, r.room, r.of_spare, c.difference.auto.out.0), c.requires.room.1); s_lt_n = (h.low, next-ready c.requires.directions_at.directions.graph _ _ _ _ _ (all-cut _ _ r.whole (member c.args.p.now) _ c.difference.ensures) h) }
+    record { by_index = ((c.args.opposite.now, c.requires.directions_at), omega (arith, r.room, r.of_spare, c.difference.auto.out), c.requires.room.1); s_lt_n = (h.low, next-ready c.requires.directions_at.directions.graph _ _ _ _ _ (all-cut _ _ r.whole (member c.args.p.now) _ c.difference.ensures) h) }
 
 pub trail-requires : goal.trail-requires
 trail-requires c =
@@ -20,7 +20,7 @@ pub trail-requires-in-Globally : goal.trail-requires-in-Globally
 trail-requires-in-Globally c =
     let r = c.requires.room.0 in
     let h = rw c.in-Globally.is at c.requires.possible in
-    record { directions_at = c.requires.directions_at; n_in_bounds = (omega (arith, r.room, r.of_p), omega (arith, r.room, r.of_spare, c.clear.auto.row.0), omega (arith, r.room, r.of_avoid), c.requires.room.1); ready = globally-ready c.requires.directions_at.directions.graph _ _ _ _ _ c.clear.ensures h }
+    record { directions_at = c.requires.directions_at; n_in_bounds = (omega (arith, r.room, r.of_p), omega (arith, r.room, r.of_spare, c.clear.auto.row), omega (arith, r.room, r.of_avoid), c.requires.room.1); ready = globally-ready c.requires.directions_at.directions.graph _ _ _ _ _ c.clear.ensures h }
 
 pub trail-requires-in-Until : goal.trail-requires-in-Until
 trail-requires-in-Until c =

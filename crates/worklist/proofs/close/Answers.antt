@@ -54,3 +54,7 @@ shape_of-rest c = c.loop-h.invariant.1
 
 pub returns : goal.returns
 returns c = work-last _ _ _ _ _ _ _ _ c.loop-h-test.false c.loop-h.invariant.4 c.loop-h.invariant.5
+
+pub bounds-stack-h : goal.bounds-stack-h
+bounds-stack-h c =
+    omega (arith, c.requires.space.stack_room, c.loop-h.invariant.2, c.gather-h.auto.stack, c.loop-h.invariant.4.fit, count-le (member c.loop-h.set) (length c.args.head.now))

@@ -35,4 +35,4 @@ returns c = skipped-all _ _ _ _ _ _ c.loop-k.invariant c.loop-k-test.false
 pub loop-k-preserved : goal.loop-k-preserved
 loop-k-preserved c =
     passed-next _ _ _ _ _ _ _ c.loop-k.invariant c.loop-k-test.true _ c.wide-k.ensures
-    (λ e. clash (ap (member c.args.set.now) (sym c.wide.ensures) ∙ sym c.contains.ensures ∙ not-false _ c.if-not-contains.false) e)
+    (λ e. clash (ap (member c.args.set.now) (sym c.wide.ensures) ∙ sym c.contains.ensures ∙ c.if-not-contains.false) e)
