@@ -69,7 +69,7 @@ value-most v (c ∷ l) h = go (is_digit c) (value-most (min (v * 10 + (c - byte 
 count_most : (n : ℕ) (l : List ℕ) → n ≤ most_number → count_behind n l ≤ most_number
 unfolding count_behind
 count_most n [] h = h
-count_most n (c ∷ l) h = count_most _ l (go (eqb c 10))
+count_most n (c ∷ l) h = count_most (pick (eqb c 10) (min (n + 1) most_number) n) l (go (eqb c 10))
   where
     go : (b : Bool) → pick b (min (n + 1) most_number) n ≤ most_number
     go true = omega arith

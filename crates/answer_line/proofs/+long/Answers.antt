@@ -10,11 +10,10 @@ use Rattle.statement_writer.proofs.Puts.{put_then, room}
 use Rattle.answer_line.proofs.+long.Goals as goal
 
 pub long-k-requires : goal.long-k-requires
-long-k-requires t c =
-    (
-      omega arith,
-      omega (arith, c.requires, ap length (digits-next c.args.n (omega (arith, c.if-n-lt4294967296.false))), length-append (digits (c.args.n / 10)) ((48 + c.args.n % 10) ∷ [])),
-    )
+long-k-requires t c = (
+  omega arith,
+  omega (arith, c.requires, ap length (digits-next c.args.n (omega (arith, c.if-n-lt4294967296.false))), length-append (digits (c.args.n / 10)) ((48 + c.args.n % 10) ∷ [])),
+)
 
 pub byte-requires : goal.byte-requires
 byte-requires t c =

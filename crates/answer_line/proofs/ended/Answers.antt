@@ -28,8 +28,7 @@ byte-requires c =
 
 pub returns : goal.returns
 unfolding line_of_answer
-returns c =
-    (
-      put_then c.word-k1.ensures (put_then (rw (to_z-of_z {w = w32} c.ranges.v) at (c.signed-k2.ensures)) (put_then c.steps-k3.ensures.0 (put_then c.word-k4.ensures (put_then c.spaced-k5.ensures.0 c.byte.ensures)))),
-      omega (arith, c.word-k1.ensures.after, c.signed-k2.ensures.after, c.steps-k3.ensures.1, c.word-k4.ensures.after, c.spaced-k5.ensures.1, c.byte.ensures.after, constant-most (of_z w32 c.args.v)),
-    )
+returns c = (
+  put_then c.word-k1.ensures (put_then (rw (to_z-of_z {w = w32} c.ranges.v) at (c.signed-k2.ensures)) (put_then c.steps-k3.ensures.0 (put_then c.word-k4.ensures (put_then c.spaced-k5.ensures.0 c.byte.ensures)))),
+  omega (arith, c.word-k1.ensures.after, c.signed-k2.ensures.after, c.steps-k3.ensures.1, c.word-k4.ensures.after, c.spaced-k5.ensures.1, c.byte.ensures.after, constant-most (of_z w32 c.args.v)),
+)

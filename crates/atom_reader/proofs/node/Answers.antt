@@ -12,16 +12,22 @@ returns-in_default c = record { result_value = rw (sym c.word.ensures.result_val
 pub returns-in_default-statement_number : goal.returns-in_default-statement_number
 unfolding parse_node
 returns-in_default-statement_number c =
-    record { result_value = rw (
+    record {
+      result_value = rw (
         sym c.word.ensures.result_value ∙ ap (parsed_word _) c.in-Found.is,
         sym c.statement_number.ensures.result_value ∙ ap (parsed_number _) c.in_default-statement_number.is,
-      ); result_in_bounds = omega arith }
+      );
+      result_in_bounds = omega arith;
+    }
 
 pub returns : goal.returns
 unfolding parse_node
 returns c =
-    record { result_value = rw (
+    record {
+      result_value = rw (
         sym c.word.ensures.result_value ∙ ap (parsed_word _) c.in-Found.is,
         sym c.statement_number.ensures.result_value ∙ ap (parsed_number _) c.in-Found-statement_number.is,
       )
-          c.ended.ensures.result_value; result_in_bounds = c.ended.ensures.result_in_bounds (omega arith) }
+          c.ended.ensures.result_value;
+      result_in_bounds = c.ended.ensures.result_in_bounds (omega arith);
+    }

@@ -13,16 +13,22 @@ returns-in_default c = record { result_value = rw (sym c.word.ensures.result_val
 pub returns-in_default-statement : goal.returns-in_default-statement
 unfolding parse_stmt
 returns-in_default-statement c =
-    record { result_value = rw (
+    record {
+      result_value = rw (
         sym c.word.ensures.result_value ∙ ap (parsed_word _) c.in-Found.is,
         sym c.statement.ensures.result_value ∙ ap (parsed_statement _) c.in_default-statement.is,
-      ); result_in_bounds = omega arith }
+      );
+      result_in_bounds = omega arith;
+    }
 
 pub returns : goal.returns
 unfolding parse_stmt
 returns c =
-    record { result_value = rw (
+    record {
+      result_value = rw (
         sym c.word.ensures.result_value ∙ ap (parsed_word _) c.in-Found.is,
         sym c.statement.ensures.result_value ∙ ap (parsed_statement _) c.in-Found-statement.is,
       )
-          c.ended.ensures.result_value; result_in_bounds = c.ended.ensures.result_in_bounds (omega arith) }
+          c.ended.ensures.result_value;
+      result_in_bounds = c.ended.ensures.result_in_bounds (omega arith);
+    }

@@ -13,16 +13,22 @@ returns-in_default c = record { result_value = rw (sym c.word.ensures.result_val
 pub returns-in_default-expression : goal.returns-in_default-expression
 unfolding parse_trans
 returns-in_default-expression c =
-    record { result_value = rw (
+    record {
+      result_value = rw (
         sym c.word.ensures.result_value ∙ ap (parsed_word _) c.in-Found.is,
         sym c.expression.ensures.result_value ∙ ap (parsed_expression _) c.in_default-expression.is,
-      ); result_in_bounds = omega arith }
+      );
+      result_in_bounds = omega arith;
+    }
 
 pub returns : goal.returns
 unfolding parse_trans
 returns c =
-    record { result_value = rw (
+    record {
+      result_value = rw (
         sym c.word.ensures.result_value ∙ ap (parsed_word _) c.in-Found.is,
         sym c.expression.ensures.result_value ∙ ap (parsed_expression _) c.in-Found-expression.is,
       )
-          c.ended.ensures.result_value; result_in_bounds = c.ended.ensures.result_in_bounds (omega arith) }
+          c.ended.ensures.result_value;
+      result_in_bounds = c.ended.ensures.result_in_bounds (omega arith);
+    }

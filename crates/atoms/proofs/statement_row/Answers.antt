@@ -12,24 +12,22 @@ loop-s-init c =
     (omega arith, refl, λ P rows i e f. record { exact = λ s l. absurd (omega arith); beyond = λ s l. c.clear.ensures s })
 
 pub loop-s-preserved-then-same_words : goal.loop-s-preserved-then-same_words
-loop-s-preserved-then-same_words c =
-    (
-      omega arith,
-      c.insert.auto.row ∙ c.loop-s.invariant.1,
-      λ P rows i e f.
-          let x = statement-iff P c.args.n rows c.args.codes.now f c.loop-s.s c.loop-s-test.true i _ e c.same_words.result c.same_words.ensures in
-          label-join (λ t. at P t ≡ i) _ _ (c.loop-s.invariant.2 P rows i e f) (x.0 c.if-same_words.true) _ c.insert.ensures,
-    )
+loop-s-preserved-then-same_words c = (
+  omega arith,
+  c.insert.auto.row ∙ c.loop-s.invariant.1,
+  λ P rows i e f.
+      let x = statement-iff P c.args.n rows c.args.codes.now f c.loop-s.s c.loop-s-test.true i _ e c.same_words.result c.same_words.ensures in
+      label-join (λ t. at P t ≡ i) _ _ (c.loop-s.invariant.2 P rows i e f) (x.0 c.if-same_words.true) _ c.insert.ensures,
+)
 
 pub loop-s-preserved : goal.loop-s-preserved
-loop-s-preserved c =
-    (
-      omega arith,
-      c.loop-s.invariant.1,
-      λ P rows i e f.
-          let x = statement-iff P c.args.n rows c.args.codes.now f c.loop-s.s c.loop-s-test.true i _ e c.same_words.result c.same_words.ensures in
-          label-skip (λ t. at P t ≡ i) _ _ (c.loop-s.invariant.2 P rows i e f) c.same_words.result x c.if-same_words.false,
-    )
+loop-s-preserved c = (
+  omega arith,
+  c.loop-s.invariant.1,
+  λ P rows i e f.
+      let x = statement-iff P c.args.n rows c.args.codes.now f c.loop-s.s c.loop-s-test.true i _ e c.same_words.result c.same_words.ensures in
+      label-skip (λ t. at P t ≡ i) _ _ (c.loop-s.invariant.2 P rows i e f) c.same_words.result x c.if-same_words.false,
+)
 
 pub returns : goal.returns
 returns c = λ P rows f.

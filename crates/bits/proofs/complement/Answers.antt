@@ -18,11 +18,10 @@ pub loop-k-smaller : goal.loop-k-smaller
 loop-k-smaller c = simp length-set (omega arith)
 
 pub loop-k-preserved : goal.loop-k-preserved
-loop-k-preserved c =
-    (
-      rw (c.loop-k.invariant.1 c.loop-k.k (omega arith)) (paired-more (λ x y. bit_and x (bit_xor y (2 ^ 64 - 1))) (λ x y. x && not y) bit-and-not _ _ _ _ _ c.loop-k.invariant.0 (omega arith)),
-      λ m l. get_or-set_other c.loop-k.row c.loop-k.k m _ 0 (omega arith) ∙ c.loop-k.invariant.1 m (omega arith),
-    )
+loop-k-preserved c = (
+  rw (c.loop-k.invariant.1 c.loop-k.k (omega arith)) (paired-more (λ x y. bit_and x (bit_xor y (2 ^ 64 - 1))) (λ x y. x && not y) bit-and-not _ _ _ _ _ c.loop-k.invariant.0 (omega arith)),
+  λ m l. get_or-set_other c.loop-k.row c.loop-k.k m _ 0 (omega arith) ∙ c.loop-k.invariant.1 m (omega arith),
+)
 
 pub shape_of-row : goal.shape_of-row
 shape_of-row c = c.loop-k.invariant.0.same

@@ -21,8 +21,11 @@ returns-then-stack-top c =
 
 pub returns-then-i : goal.returns-then-i
 returns-then-i c =
-    let h = c.if-stack-top.false in record { result_after = c.row.ensures.result_after
-          ∙ sym (step_row c.args.s.bound c.args.s.value c.args.c c.args.s.top c.args.stack.now (sym c.more.ensures ∙ c.if-more.false) h c.if-i.true); near = near-after c.args.s.top _ c.row.result (omega arith) c.row.ensures.near }
+    let h = c.if-stack-top.false in record {
+      result_after = c.row.ensures.result_after
+          ∙ sym (step_row c.args.s.bound c.args.s.value c.args.c c.args.s.top c.args.stack.now (sym c.more.ensures ∙ c.if-more.false) h c.if-i.true);
+      near = near-after c.args.s.top _ c.row.result (omega arith) c.row.ensures.near;
+    }
 
 pub returns-then-i-c : goal.returns-then-i-c
 returns-then-i-c c =

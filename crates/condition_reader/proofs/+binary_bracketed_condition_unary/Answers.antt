@@ -53,7 +53,7 @@ binary-returns-in_default-condition-clause-reads_by t c =
     let k = c.in-Found in
     let x = c.in-Found-middle in
     laws.second-not a.s.now a.at a.first a.bracket a.out.now a.n c.requires.s_value k.k k.m c.condition.new.out k.ensures.reads x.code x.second (sym x.ensures.result_value)
-        c.condition-2.new.out c.in_default-condition.ensures.reads
+    c.condition-2.new.out c.in_default-condition.ensures.reads
 
 pub binary-returns-in_default-closing-clause-reads_by : goal.binary-returns-in_default-closing-clause-reads_by
 binary-returns-in_default-closing-clause-reads_by t c =
@@ -62,7 +62,7 @@ binary-returns-in_default-closing-clause-reads_by t c =
     let x = c.in-Found-middle in
     let l = c.in-Found-condition in
     laws.closing-not a.s.now a.at a.first a.bracket a.out.now a.n c.requires.s_value k.k k.m c.condition.new.out k.ensures.reads x.code x.second (sym x.ensures.result_value)
-        l.k1 l.m1 c.condition-2.new.out l.ensures.reads (sym c.in_default-closing.ensures.result_value)
+    l.k1 l.m1 c.condition-2.new.out l.ensures.reads (sym c.in_default-closing.ensures.result_value)
 
 -- what is known once both conditions of a binary operator were read
 both_read : (t : ℕ) (c : binary-In-Found-closing t) → laws.Room c.in-Found.m c.in-Found-condition.m1 c.condition-2.new.out
@@ -72,7 +72,7 @@ both_read t c =
     let x = c.in-Found-middle in
     let l = c.in-Found-condition in
     laws.both-fit a.s.now a.at a.first a.bracket a.out.now a.n c.requires.s_value k.k k.m c.condition.new.out k.ensures.reads x.code x.second (sym x.ensures.result_value)
-        l.k1 l.m1 c.condition-2.new.out l.ensures.reads c.requires.ready
+    l.k1 l.m1 c.condition-2.new.out l.ensures.reads c.requires.ready
 
 pub binary-overflow_sub-m : goal.binary-overflow_sub-m
 binary-overflow_sub-m t c = (both_read t (goal.at.binary-overflow_sub-m t c).In-Found-closing).some
@@ -93,7 +93,7 @@ binary-returns-clause-reads_by t c =
     let l = c.in-Found-condition in
     let w : c.in-Found-closing.next ≤ length a.s.now = omega (arith, c.in-Found-closing.ensures.result_in_bounds) in
     laws.binary-found a.s.now a.at a.first a.bracket a.out.now a.n c.requires.s_value k.k k.m c.condition.new.out k.ensures.reads x.code x.second (sym x.ensures.result_value)
-        l.k1 l.m1 c.condition-2.new.out l.ensures.reads c.push.new.out c.in-Found-closing.next (sym c.in-Found-closing.ensures.result_value) w c.push.ensures
+    l.k1 l.m1 c.condition-2.new.out l.ensures.reads c.push.new.out c.in-Found-closing.next (sym c.in-Found-closing.ensures.result_value) w c.push.ensures
 
 pub bracketed-returns-in_default-clause-reads_by : goal.bracketed-returns-in_default-clause-reads_by
 bracketed-returns-in_default-clause-reads_by t c =
@@ -118,7 +118,7 @@ condition-returns-in-97-to-122-clause-reads t c =
     let a = c.args in
     let h = c.if-s-at.false in
     laws.headed a.s.now a.at a.out.now a.n c.leaf.new.out c.leaf.result (λ _. parse_leaf (drop a.at a.s.now)) h
-        (laws.head-leaf a.s.now a.at h (small-in (get_or a.s.now a.at 0) (omega arith) (omega arith))) (λ f l. c.leaf.ensures.tells)
+    (laws.head-leaf a.s.now a.at h (small-in (get_or a.s.now a.at 0) (omega arith) (omega arith))) (λ f l. c.leaf.ensures.tells)
 
 pub condition-returns-in_default-clause-reads : goal.condition-returns-in_default-clause-reads
 condition-returns-in_default-clause-reads t c =
@@ -126,7 +126,7 @@ condition-returns-in_default-clause-reads t c =
     let h = c.if-s-at.false in
     let other : small (get_or a.s.now a.at 0) ≡ false = elim c.in_default.branch [ condition-in_default-via-then-c-lt97 w ↦ small-below (get_or a.s.now a.at 0) (omega arith) | condition-in_default-via-else-c-lt97+else-c-lt123 w ↦ small-above (get_or a.s.now a.at 0) (omega arith) (omega arith) ] in
     laws.headed a.s.now a.at a.out.now a.n c.bracketed.new.out c.bracketed.result (λ p. parse_bracketed p (drop a.at a.s.now)) h
-        (laws.head-bracketed a.s.now a.at h other) c.bracketed.ensures.reads_by
+    (laws.head-bracketed a.s.now a.at h other) c.bracketed.ensures.reads_by
 
 pub unary-returns-in_default-clause-reads_by : goal.unary-returns-in_default-clause-reads_by
 unary-returns-in_default-clause-reads_by t c =

@@ -18,5 +18,8 @@ push-requires c =
 
 pub returns : goal.returns
 returns c =
-    let w : c.in-Found.k ≤ length c.args.s.now = omega (arith, c.atom.ensures.result_in_bounds, ap atom_end c.in-Found.is) in record { tells = leaf-found c.args.s.now c.args.at c.args.out.now c.args.n c.in-Found.k c.in-Found.field-0 c.push.new.out (sym c.atom.ensures.result_value ∙ ap (parsed_atom _) c.in-Found.is)
-          w c.push.ensures; result_in_bounds = w }
+    let w : c.in-Found.k ≤ length c.args.s.now = omega (arith, c.atom.ensures.result_in_bounds, ap atom_end c.in-Found.is) in record {
+      tells = leaf-found c.args.s.now c.args.at c.args.out.now c.args.n c.in-Found.k c.in-Found.field-0 c.push.new.out (sym c.atom.ensures.result_value ∙ ap (parsed_atom _) c.in-Found.is)
+          w c.push.ensures;
+      result_in_bounds = w;
+    }

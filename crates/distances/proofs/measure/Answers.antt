@@ -18,19 +18,3 @@ slice_bounds-search-end-3 c = sym (length-take-le _ _ c.requires.n_in_bounds.2)
 
 pub slice_bounds-search-end-4 : goal.slice_bounds-search-end-4
 slice_bounds-search-end-4 c = sym (length-take-le _ _ (omega (arith, c.requires.opposite_len.1, c.blank-queue.ensures.size)))
-
-pub search-requires : goal.search-requires
-search-requires c =
-    let size = sym ((sym (length-take-le _ _ (omega (arith, c.requires.opposite_len.1, head_size c.args.opposite.now c.requires.opposite_len.0))))) in record { space = record {
-        linked = c.requires.linked;
-        through_room = rw size c.requires.n_in_bounds.0;
-        numbers_size = sym ((sym (length-take-le _ _ c.requires.n_in_bounds.2))) ∙ sym size;
-        queue_room = omega (arith, size, (sym (length-take-le _ _ (omega (arith, c.requires.opposite_len.1, c.blank-queue.ensures.size)))));
-        small = omega (arith, size, c.requires.opposite_len.1);
-      }; in_bounds = rw size c.requires.n_in_bounds.1 }
-
-pub returns : goal.returns
-returns c =
-    let size = sym ((sym (length-take-le _ _ (omega (arith, c.requires.opposite_len.1, head_size c.args.opposite.now c.requires.opposite_len.0))))) in
-    let same : length c.search.new.numbers ≡ c.args.n = c.search.auto.numbers ∙ sym ((sym (length-take-le _ _ c.requires.n_in_bounds.2))) in
-    record { found = found_front _ _ _ _ c.search.new.numbers _ same (rw size at c.search.ensures); by_index = λ s. omega (arith, c.slice_known-2-1.given s) }

@@ -38,7 +38,7 @@ loop-k-init c =
     (refl, refl, walk_first _ _ _ _ _ _ c.requires.space.linked refl e, λ goal w. rw e (visiting-first _ _ _ _ _ _ _ _ _ w c.requires.at_lt_hi.0))
 
 pub offset_bounds-from-e : goal.offset_bounds-from-e
-offset_bounds-from-e c = omega (arith, c.well-formed, passed-room _ _ _ _ _ _ _ c.loop-k.invariant.2 c.loop-k-test.true)
+offset_bounds-from-e c = omega (arith, c.well_formed, passed-room _ _ _ _ _ _ _ c.loop-k.invariant.2 c.loop-k-test.true)
 
 pub bounds-from-e : goal.bounds-from-e
 bounds-from-e c = (passed-room _ _ _ _ _ _ _ c.loop-k.invariant.2 c.loop-k-test.true).1
@@ -63,18 +63,8 @@ bounds-queue-h c =
     let v = c.loop-k.invariant.3 c.requires.at_lt_hi.1.0 c.requires.at_lt_hi.1.1 in
     omega (arith, c.requires.space.queue_room, c.loop-k.invariant.1, visiting-room _ _ _ _ _ _ _ _ _ _ _ _ v _ _ (walk-each c.args.entry.now _ _ _ _ _ c.loop-k.invariant.2 c.loop-k-test.true _ c.wide-s.ensures _ refl) low (c.loop-k.invariant.0 ∙ c.requires.space.numbers_size) (sym c.joins.ensures ∙ c.if-joins.true))
 
-pub offset_bounds-queue-h : goal.offset_bounds-queue-h
-offset_bounds-queue-h c = omega (arith, c.well-formed, c.loop-k.invariant.1, (let low = walk-low c.args.entry.now _ _ _ _ _ c.loop-k.invariant.2 c.loop-k-test.true _ c.wide-s.ensures in
-    let v = c.loop-k.invariant.3 c.requires.at_lt_hi.1.0 c.requires.at_lt_hi.1.1 in
-    omega (arith, c.requires.space.queue_room, c.loop-k.invariant.1, visiting-room _ _ _ _ _ _ _ _ _ _ _ _ v _ _ (walk-each c.args.entry.now _ _ _ _ _ c.loop-k.invariant.2 c.loop-k-test.true _ c.wide-s.ensures _ refl) low (c.loop-k.invariant.0 ∙ c.requires.space.numbers_size) (sym c.joins.ensures ∙ c.if-joins.true))))
-
-pub overflow_add-h : goal.overflow_add-h
-overflow_add-h c = omega (arith, c.well-formed, c.loop-k.invariant.1, (let low = walk-low c.args.entry.now _ _ _ _ _ c.loop-k.invariant.2 c.loop-k-test.true _ c.wide-s.ensures in
-    let v = c.loop-k.invariant.3 c.requires.at_lt_hi.1.0 c.requires.at_lt_hi.1.1 in
-    omega (arith, c.requires.space.queue_room, c.loop-k.invariant.1, visiting-room _ _ _ _ _ _ _ _ _ _ _ _ v _ _ (walk-each c.args.entry.now _ _ _ _ _ c.loop-k.invariant.2 c.loop-k-test.true _ c.wide-s.ensures _ refl) low (c.loop-k.invariant.0 ∙ c.requires.space.numbers_size) (sym c.joins.ensures ∙ c.if-joins.true))))
-
 pub offset_bounds-chain-e : goal.offset_bounds-chain-e
-offset_bounds-chain-e c = omega (arith, c.well-formed, passed-room _ _ _ _ _ _ _ c.loop-k.invariant.2 c.loop-k-test.true)
+offset_bounds-chain-e c = omega (arith, c.well_formed, passed-room _ _ _ _ _ _ _ c.loop-k.invariant.2 c.loop-k-test.true)
 
 pub bounds-chain-e : goal.bounds-chain-e
 bounds-chain-e c = (passed-room _ _ _ _ _ _ _ c.loop-k.invariant.2 c.loop-k-test.true).0
@@ -95,7 +85,7 @@ loop-k-preserved-then-joins c =
     )
 
 pub offset_bounds-chain-e-else-joins : goal.offset_bounds-chain-e-else-joins
-offset_bounds-chain-e-else-joins c = omega (arith, c.well-formed, passed-room _ _ _ _ _ _ _ c.loop-k.invariant.2 c.loop-k-test.true)
+offset_bounds-chain-e-else-joins c = omega (arith, c.well_formed, passed-room _ _ _ _ _ _ _ c.loop-k.invariant.2 c.loop-k-test.true)
 
 pub bounds-chain-e-else-joins : goal.bounds-chain-e-else-joins
 bounds-chain-e-else-joins c = (passed-room _ _ _ _ _ _ _ c.loop-k.invariant.2 c.loop-k-test.true).0

@@ -64,8 +64,7 @@ loop-steps-preserved c =
 pub returns-in-Finish : goal.returns-in-Finish
 returns-in-Finish c =
     let us = c.step-next.new.values in
-    let ends = ap (λ (x : Next). state_of x us) c.in-Finish.is ∙ ap (λ (ks : List ℕ). ended (written c.in-Finish.v ks)) (sym c.kept_of.ensures) in
-    (
+    let ends = ap (λ (x : Next). state_of x us) c.in-Finish.is ∙ ap (λ (ks : List ℕ). ended (written c.in-Finish.v ks)) (sym c.kept_of.ensures) in (
       c.in-Finish.v,
       step-over c.args.program _ _ _ _ _ us c.step-next.result c.loop-steps.invariant.0 c.step-next.ensures _ ends,
       omega (arith, c.loop-steps-test.true),
@@ -82,8 +81,7 @@ overflow_add-number c =
 
 pub returns-in-Fault : goal.returns-in-Fault
 returns-in-Fault c =
-    let us = c.step-next.new.values in
-    (
+    let us = c.step-next.new.values in (
       c.in-Fault.t,
       step-over c.args.program _ _ _ _ _ us c.step-next.result c.loop-steps.invariant.0 c.step-next.ensures _ (ap (λ (x : Next). state_of x us) c.in-Fault.is),
       omega arith,

@@ -24,7 +24,8 @@ pub part_at-requires : goal.part_at-requires
 part_at-requires c =
     let h = c.requires.some_held in
     let size = statements-size _ c.requires.held.0 in
-    record { some_tabled = (
+    record {
+      some_tabled = (
         record {
           P = statements c.args.p;
           u = _;
@@ -33,10 +34,12 @@ part_at-requires c =
         },
         c.if-part-parts.false,
         omega (arith, c.if-place-n.false, c.if-place-eq0.false),
-      ); parts_in_bounds = (
+      );
+      parts_in_bounds = (
         omega (arith, held-few h.held, c.fill.auto.table, c.blank_table-table.ensures.size),
         record { each = omega (arith, c.requires.path_words_in_bounds, c.requires.held.0.few); two = omega (arith, c.requires.path_words_in_bounds) },
-      ) }
+      );
+    }
 
 pub returns : goal.returns
 returns c =

@@ -44,15 +44,19 @@ path_for-trail-requires c =
     let l : c.args.s < length z.P = omega (arith, b.size, c.requires.some_tabled.2) in
     let f = rw c.in-Path.is at c.rule_of-rule.ensures in
     let lower = low (goal.at.path_for-trail-requires c).Else-contains-all in
-    let size = ap length c.row_of-row.ensures ∙ row-length part_words c.args.table.now c.below_negations-j.result (omega (arith, c.requires.parts_in_bounds.0, c.requires.some_tabled.1, c.below_negations-j.ensures.low)) in record { both_ways = (tabled-ways b, omega (arith, size, b.size, b.few), c.requires.parts_in_bounds.1); p_len = (
-          ap length c.row_of-p.ensures ∙ row-length part_words c.args.table.now c.left_of-left.result (omega (arith, c.requires.parts_in_bounds.0, c.requires.some_tabled.1, c.below_negations-j.ensures.low, lower, c.left_of-left.ensures)),
-          ap length c.row_of-q.ensures ∙ row-length part_words c.args.table.now (c.below_negations-j.result - 1) (omega (arith, c.requires.parts_in_bounds.0, c.requires.some_tabled.1, c.below_negations-j.ensures.low)),
-          size,
-        ); s_lt_n = (
-          c.requires.some_tabled.2,
-          sym c.contains.ensures ∙ differ-not _ _ (beq-differ _ _ c.if-contains-all.false),
-          rw (c.row_of-row.ensures, c.row_of-p.ensures, c.row_of-q.ensures, c.left_of-left.ensures, ← b.size) (at-labelled z.P z.u z.c _ _ _ _ (tabled-own b) _ _ c.below_negations-j.ensures c.requires.some_tabled.1 _ l _ _ _ f c.if-code-eq0.false),
-        ) }
+    let size = ap length c.row_of-row.ensures ∙ row-length part_words c.args.table.now c.below_negations-j.result (omega (arith, c.requires.parts_in_bounds.0, c.requires.some_tabled.1, c.below_negations-j.ensures.low)) in record {
+      both_ways = (tabled-ways b, omega (arith, size, b.size, b.few), c.requires.parts_in_bounds.1);
+      p_len = (
+        ap length c.row_of-p.ensures ∙ row-length part_words c.args.table.now c.left_of-left.result (omega (arith, c.requires.parts_in_bounds.0, c.requires.some_tabled.1, c.below_negations-j.ensures.low, lower, c.left_of-left.ensures)),
+        ap length c.row_of-q.ensures ∙ row-length part_words c.args.table.now (c.below_negations-j.result - 1) (omega (arith, c.requires.parts_in_bounds.0, c.requires.some_tabled.1, c.below_negations-j.ensures.low)),
+        size,
+      );
+      s_lt_n = (
+        c.requires.some_tabled.2,
+        sym c.contains.ensures ∙ differ-not _ _ (beq-differ _ _ c.if-contains-all.false),
+        rw (c.row_of-row.ensures, c.row_of-p.ensures, c.row_of-q.ensures, c.left_of-left.ensures, ← b.size) (at-labelled z.P z.u z.c _ _ _ _ (tabled-own b) _ _ c.below_negations-j.ensures c.requires.some_tabled.1 _ l _ _ _ f c.if-code-eq0.false),
+      );
+    }
 
 pub overflow_cast-result : goal.overflow_cast-result
 overflow_cast-result c = omega (arith, (witness_small (omega (arith, c.requires.some_tabled.0.tabled.size, c.requires.some_tabled.0.tabled.few)) c.path_for-trail.ensures).0)

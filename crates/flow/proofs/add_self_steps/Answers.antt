@@ -27,12 +27,11 @@ loop-s-preserved-then-edges-s-eq0 c =
     )
 
 pub loop-s-preserved : goal.loop-s-preserved
-loop-s-preserved c =
-    (
-      omega arith,
-      c.loop-s.invariant.1,
-      self-skip _ (step_of c.args.n (edges_at c.args.edges.now)) c.loop-s.edges _ _ c.loop-s-test.true c.requires.space.few c.loop-s.invariant.1 c.loop-s.invariant.2 c.if-edges-s-eq0.false,
-    )
+loop-s-preserved c = (
+  omega arith,
+  c.loop-s.invariant.1,
+  self-skip _ (step_of c.args.n (edges_at c.args.edges.now)) c.loop-s.edges _ _ c.loop-s-test.true c.requires.space.few c.loop-s.invariant.1 c.loop-s.invariant.2 c.if-edges-s-eq0.false,
+)
 
 pub shape_of-edges : goal.shape_of-edges
 shape_of-edges c = c.loop-s.invariant.1 ∙ sym c.requires.space.size

@@ -13,15 +13,6 @@ slice_bounds-clear-end c = let few = c.requires.space.few in omega (arith, c.req
 pub slice_bounds-clear-end-2 : goal.slice_bounds-clear-end-2
 slice_bounds-clear-end-2 c = sym (length-take-le _ _ ((let few = c.requires.space.few in omega (arith, c.requires.space.size))))
 
-pub loop-k-init : goal.loop-k-init
-loop-k-init c =
-    (
-      omega arith,
-      length_front c.args.edges.now c.clear.new.head.0 c.args.n c.clear.auto.head.0 ∙ c.requires.space.size,
-      connected-none c.args.first.now c.args.second.now c.args.turned _ _
-          (rw (cleared-heads c.args.n c.clear.new.head.0 c.args.edges.now c.requires.space.few (c.clear.auto.head.0 ∙ sym ((sym (length-take-le _ _ ((let few = c.requires.space.few in omega (arith, c.requires.space.size)))))))) c.clear.ensures),
-    )
-
 pub bounds-first-k : goal.bounds-first-k
 bounds-first-k c = omega (arith, c.requires.inside.first_room)
 
@@ -78,3 +69,11 @@ shape_of-edges c = c.loop-k.invariant.1 ∙ sym c.requires.space.size
 pub returns : goal.returns
 returns c =
     connected-all c.args.first.now c.args.second.now c.args.turned _ c.loop-k.edges _ c.loop-k.k _ (omega arith) c.loop-k.invariant.2
+
+pub loop-k-init : goal.loop-k-init
+loop-k-init c = (
+  omega arith,
+  length_front c.args.edges.now c.clear.new.head c.args.n c.clear.auto.head ∙ c.requires.space.size,
+  connected-none c.args.first.now c.args.second.now c.args.turned _ _
+      (rw (cleared-heads c.args.n c.clear.new.head c.args.edges.now c.requires.space.few (c.clear.auto.head ∙ sym ((sym (length-take-le _ _ ((let few = c.requires.space.few in omega (arith, c.requires.space.size)))))))) c.clear.ensures),
+)

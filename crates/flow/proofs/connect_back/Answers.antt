@@ -11,7 +11,7 @@ connect-count-requires c = record { inside = inside-fewer _ _ _ _ (omega arith) 
 pub add_self_steps-requires : goal.add_self_steps-requires
 add_self_steps-requires c =
     let s = c.requires.space in
-    record { lists_at = (c.connect-count.ensures.lists, omega (arith, c.connect-count.ensures.few)); space = record { few = s.few; size = c.connect-count.auto.edges.0 ∙ s.size } }
+    record { lists_at = (c.connect-count.ensures.lists, omega (arith, c.connect-count.ensures.few)); space = record { few = s.few; size = c.connect-count.auto.edges ∙ s.size } }
 
 pub returns : goal.returns
 returns c = self-same _ _ _ c.connect-count.ensures.steps _ _ c.add_self_steps.ensures

@@ -14,5 +14,5 @@ connect-requires c = record { inside = c.requires.inside; space = record { few =
 
 pub returns : goal.returns
 returns c =
-    both-drawn _ c.args.first.now c.args.second.now c.args.flow.now c.connect.new.edges.0 c.connect_back.new.edges.0 c.requires.n_nonzero.1 c.requires.n_nonzero.2
-    (c.connect.auto.edges.0 ∙ sym ((sym (length-take-le _ c.args.flow.now (omega (arith, c.requires.n_nonzero.2)))))) c.connect_back.auto.edges.0 _ _ _ _ c.connect.ensures c.connect_back.ensures
+    both-drawn _ c.args.first.now c.args.second.now c.args.flow.now c.connect.new.edges c.connect_back.new.edges c.requires.n_nonzero.1 c.requires.n_nonzero.2
+    (c.connect.auto.edges ∙ sym ((sym (length-take-le _ c.args.flow.now (omega (arith, c.requires.n_nonzero.2)))))) c.connect_back.auto.edges _ _ _ _ c.connect.ensures c.connect_back.ensures

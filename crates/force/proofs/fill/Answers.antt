@@ -54,14 +54,18 @@ of-requires c =
     let few = p.1.few in
     let goal = ap length c.row_of-goal.ensures ∙ row-length _ _ _ ((let h = (condition-held (goal.at.of-requires c).In-Taken).held in
     omega (arith, held-some h, held-few h, c.if-table-lt-TABLE_WORDS.false, c.fill-summary.auto.table)) c.row_of-goal.lifetimes) in
-    record { held = p.1; well_formed = p.0.program; lent = record {
-          size = c.fill-summary.auto.flow ∙ c.blank-flow.ensures.size;
-          flows = c.fill-summary.ensures.flows;
-          named_room = omega (arith, c.blank-named.ensures.size, c.read.auto.named);
-          goal_room = omega (arith, goal, few);
-          numbers_room = omega (arith, c.requires.0, few);
-          arms_room = omega (arith, c.requires.1, few);
-        } }
+    record {
+      held = p.1;
+      well_formed = p.0.program;
+      lent = record {
+        size = c.fill-summary.auto.flow ∙ c.blank-flow.ensures.size;
+        flows = c.fill-summary.ensures.flows;
+        named_room = omega (arith, c.blank-named.ensures.size, c.read.auto.named);
+        goal_room = omega (arith, goal, few);
+        numbers_room = omega (arith, c.requires.0, few);
+        arms_room = omega (arith, c.requires.1, few);
+      };
+    }
 
 pub returns-in-Refused-told : goal.returns-in-Refused-told
 returns-in-Refused-told c =

@@ -32,12 +32,6 @@ slice_bounds-rank-end-6 c = sym (length-take-le _ _ c.requires.n_in_bounds.2)
 pub slice_bounds-rank-end-7 : goal.slice_bounds-rank-end-7
 slice_bounds-rank-end-7 c = sym (length-take-le _ _ (omega (arith, c.requires.directions_at.directions.few, c.blank-queue.ensures.size)))
 
-pub rank-requires : goal.rank-requires
-rank-requires c =
-    let d = c.requires.directions_at.directions in
-    let few = d.few in
-    let copied = take_at c.copy.new.to (drop c.args.n c.blank-rest.result) c.args.n (c.copy.auto.to ∙ sym ((sym (length-take-le _ _ (omega (arith, c.requires.directions_at.directions.few, c.blank-rest.ensures.size)))))) in record { turned = rw d.head_size d; space = rw d.head_size (record { mine_room = c.requires.n_in_bounds.0; set_room = omega (arith, c.blank-set.ensures); numbers_size = sym ((sym (length-take-le _ _ c.requires.n_in_bounds.2))); queue_room = omega (arith, (sym (length-take-le _ _ (omega (arith, c.requires.directions_at.directions.few, c.blank-queue.ensures.size))))); small = omega arith }); head_in_bounds = rw d.head_size c.requires.n_in_bounds.1; rest_value = copied ∙ c.copy.ensures }
-
 pub returns : goal.returns
 returns c =
     let d = c.requires.directions_at.directions in

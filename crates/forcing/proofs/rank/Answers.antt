@@ -26,13 +26,17 @@ insert-requires c = omega (arith, c.wide.ensures, c.requires.space.set_room, c.l
 
 pub visit-hi-requires : goal.visit-hi-requires
 visit-hi-requires c =
-    let z = c.requires.space in record { turned = c.requires.turned; space = record {
-          mine_room = z.mine_room;
-          set_room = omega (arith, z.set_room, c.loop-at.invariant.0, c.insert.auto.row, c.clear.auto.row);
-          numbers_size = c.loop-at.invariant.2 ∙ c.start-hi.auto.numbers ∙ z.numbers_size;
-          queue_room = omega (arith, z.queue_room, c.loop-at.invariant.3, c.start-hi.auto.queue);
-          small = z.small;
-        }; visit = going-take _ _ _ _ _ _ _ _ _ _ _ c.loop-at.invariant.4 c.loop-at-test.true _ (λ j. c.insert.ensures j ∙ ap (λ (i : ℕ). member c.loop-at.set j || eqb i j) c.wide.ensures) _ c.requires.turned.opposite }
+    let z = c.requires.space in record {
+      turned = c.requires.turned;
+      space = record {
+        mine_room = z.mine_room;
+        set_room = omega (arith, z.set_room, c.loop-at.invariant.0, c.insert.auto.row, c.clear.auto.row);
+        numbers_size = c.loop-at.invariant.2 ∙ c.start-hi.auto.numbers ∙ z.numbers_size;
+        queue_room = omega (arith, z.queue_room, c.loop-at.invariant.3, c.start-hi.auto.queue);
+        small = z.small;
+      };
+      visit = going-take _ _ _ _ _ _ _ _ _ _ _ c.loop-at.invariant.4 c.loop-at-test.true _ (λ j. c.insert.ensures j ∙ ap (λ (i : ℕ). member c.loop-at.set j || eqb i j) c.wide.ensures) _ c.requires.turned.opposite;
+    }
 
 pub overflow_add-at : goal.overflow_add-at
 overflow_add-at c = omega (arith, c.requires.space.small, (going-low _ _ _ _ _ _ _ _ _ _ _ c.loop-at.invariant.4 c.loop-at-test.true).0)
@@ -41,14 +45,13 @@ pub loop-at-smaller : goal.loop-at-smaller
 loop-at-smaller c = omega (arith, (going-low _ _ _ _ _ _ _ _ _ _ _ c.loop-at.invariant.4 c.loop-at-test.true).0)
 
 pub loop-at-preserved : goal.loop-at-preserved
-loop-at-preserved c =
-    (
-      c.insert.auto.row ∙ c.loop-at.invariant.0,
-      c.visit-hi.auto.rest ∙ c.loop-at.invariant.1,
-      c.visit-hi.auto.numbers ∙ c.loop-at.invariant.2,
-      c.visit-hi.auto.queue ∙ c.loop-at.invariant.3,
-      going_next _ _ _ _ _ _ _ _ _ _ _ c.loop-at.invariant.4 _ _ _ _ _ _ c.visit-hi.ensures,
-    )
+loop-at-preserved c = (
+  c.insert.auto.row ∙ c.loop-at.invariant.0,
+  c.visit-hi.auto.rest ∙ c.loop-at.invariant.1,
+  c.visit-hi.auto.numbers ∙ c.loop-at.invariant.2,
+  c.visit-hi.auto.queue ∙ c.loop-at.invariant.3,
+  going_next _ _ _ _ _ _ _ _ _ _ _ c.loop-at.invariant.4 _ _ _ _ _ _ c.visit-hi.ensures,
+)
 
 pub shape_of-set : goal.shape_of-set
 shape_of-set c = c.loop-at.invariant.0 ∙ c.clear.auto.row

@@ -1,9 +1,9 @@
 -- `forcing::visit` meets its contract. The invariant is the contract at position k of the list of predecessors: those that are left are
 -- due. Assumes nothing.
 use mathlib.Core.Path.{◌≡◌, refl, ap, ◌∙◌}
-use Prim.Native.Nat.{ℕ, ◌+◌}
+use Prim.Native.Nat.{ℕ, ◌+◌, ◌<◌}
 use native.Mathlib.Omega.{arith}
-use lib.ListN.{length-set, get_or}
+use lib.ListN.{length, length-set, get_or}
 use Rattle.base.proofs.Bools.{clash}
 use Rattle.graph.proofs.Walk.{passed-room, passed-less, passed-next}
 use Rattle.worklist.proofs.Stack.{walk_first, walk-each, walk-low, work-room}
@@ -38,9 +38,6 @@ loop-k-init c =
     let e : c.wide-k.result ≡ get_or c.args.entry.now (get_or c.args.queue.now c.args.at 0) 0 = c.wide-k.ensures ∙ ap (λ (i : ℕ). get_or c.args.entry.now i 0) c.wide-t.ensures in
     (refl, refl, refl, walk_first _ _ _ _ _ _ c.requires.turned.back c.requires.turned.entry_size e, visited-first _ _ _ _ _ _ _ _ _ _ _ _ v.seen (rw e v.search))
 
-pub offset_bounds-from-e : goal.offset_bounds-from-e
-offset_bounds-from-e c = omega (arith, c.well-formed, passed-room _ _ _ _ _ _ _ c.loop-k.invariant.3 c.loop-k-test.true)
-
 pub bounds-from-e : goal.bounds-from-e
 bounds-from-e c = (passed-room _ _ _ _ _ _ _ c.loop-k.invariant.3 c.loop-k-test.true).1
 
@@ -63,17 +60,6 @@ bounds-queue-h c =
     let low = walk-low c.args.entry.now _ _ _ _ _ c.loop-k.invariant.3 c.loop-k-test.true _ c.wide-s.ensures in
     omega (arith, c.requires.space.queue_room, c.loop-k.invariant.2, work-room _ _ _ _ c.loop-k.invariant.4.search.fit low (c.joins.ensures.variant.0 c.if-joins.true).out)
 
-pub offset_bounds-queue-h : goal.offset_bounds-queue-h
-offset_bounds-queue-h c = omega (arith, c.well-formed, c.loop-k.invariant.2, (let low = walk-low c.args.entry.now _ _ _ _ _ c.loop-k.invariant.3 c.loop-k-test.true _ c.wide-s.ensures in
-    omega (arith, c.requires.space.queue_room, c.loop-k.invariant.2, work-room _ _ _ _ c.loop-k.invariant.4.search.fit low (c.joins.ensures.variant.0 c.if-joins.true).out)))
-
-pub overflow_add-h : goal.overflow_add-h
-overflow_add-h c = omega (arith, c.well-formed, c.loop-k.invariant.2, (let low = walk-low c.args.entry.now _ _ _ _ _ c.loop-k.invariant.3 c.loop-k-test.true _ c.wide-s.ensures in
-    omega (arith, c.requires.space.queue_room, c.loop-k.invariant.2, work-room _ _ _ _ c.loop-k.invariant.4.search.fit low (c.joins.ensures.variant.0 c.if-joins.true).out)))
-
-pub offset_bounds-chain-e : goal.offset_bounds-chain-e
-offset_bounds-chain-e c = omega (arith, c.well-formed, passed-room _ _ _ _ _ _ _ c.loop-k.invariant.3 c.loop-k-test.true)
-
 pub bounds-chain-e : goal.bounds-chain-e
 bounds-chain-e c = (passed-room _ _ _ _ _ _ _ c.loop-k.invariant.3 c.loop-k-test.true).0
 
@@ -93,13 +79,10 @@ loop-k-preserved-then-joins c =
       rw c.wide-t.ensures
           (visited-join _ _ _ _ _ _ _ _ _ _ _ _ _ _ _ _ (walk-each c.args.entry.now _ _ _ _ _ c.loop-k.invariant.3 pos _ c.wide-s.ensures _ c.wide-k-then-joins.ensures) c.loop-k.invariant.4 c.joins.ensures.rest_2 low
           ((omega (arith, c.requires.space.numbers_size, c.loop-k.invariant.1, walk-low c.args.entry.now _ _ _ _ _ c.loop-k.invariant.3 c.loop-k-test.true _ c.wide-s.ensures))) ((let low = walk-low c.args.entry.now _ _ _ _ _ c.loop-k.invariant.3 c.loop-k-test.true _ c.wide-s.ensures in
-    omega (arith, c.requires.space.queue_room, c.loop-k.invariant.2, work-room _ _ _ _ c.loop-k.invariant.4.search.fit low (c.joins.ensures.variant.0 c.if-joins.true).out))) (omega (arith, v.2, c.loop-k.invariant.4.search.range)) (omega (arith, v.0, v.2, c.requires.space.small)) (get_or c.args.queue.now c.args.at 0)
+          omega (arith, c.requires.space.queue_room, c.loop-k.invariant.2, work-room _ _ _ _ c.loop-k.invariant.4.search.fit low (c.joins.ensures.variant.0 c.if-joins.true).out))) (omega (arith, v.2, c.loop-k.invariant.4.search.range)) (omega (arith, v.0, v.2, c.requires.space.small)) (get_or c.args.queue.now c.args.at 0)
           (walk_step c.args.entry.now _ _ _ _ _ c.loop-k.invariant.3 pos _ c.wide-s.ensures _ c.requires.turned.opposite v.1 (λ d. clash (ap (numbered c.loop-k.numbers) d ∙ (c.loop-k.invariant.4.search.taken _ c.requires.visit.reached).0) due.out))
           c.requires.visit.reached refl due v.3),
     )
-
-pub offset_bounds-chain-e-else-joins : goal.offset_bounds-chain-e-else-joins
-offset_bounds-chain-e-else-joins c = omega (arith, c.well-formed, passed-room _ _ _ _ _ _ _ c.loop-k.invariant.3 c.loop-k-test.true)
 
 pub bounds-chain-e-else-joins : goal.bounds-chain-e-else-joins
 bounds-chain-e-else-joins c = (passed-room _ _ _ _ _ _ _ c.loop-k.invariant.3 c.loop-k-test.true).0
@@ -109,8 +92,7 @@ loop-k-smaller c = rw c.wide-k-else-joins.ensures (passed-less _ _ _ _ _ _ _ c.l
 
 pub loop-k-preserved : goal.loop-k-preserved
 loop-k-preserved c =
-    let pos = c.loop-k-test.true in
-    (
+    let pos = c.loop-k-test.true in (
       c.joins.auto.rest ∙ c.loop-k.invariant.0,
       c.loop-k.invariant.1,
       c.loop-k.invariant.2,
@@ -130,3 +112,15 @@ shape_of-queue c = c.loop-k.invariant.2
 
 pub returns : goal.returns
 returns c = visited-last _ _ _ _ _ _ _ _ _ _ _ _ _ _ _ c.loop-k-test.false c.loop-k.invariant.4
+
+pub offset_bounds-queue-h : goal.offset_bounds-queue-h
+offset_bounds-queue-h c =
+    let low = walk-low c.args.entry.now _ _ _ _ _ c.loop-k.invariant.3 c.loop-k-test.true _ c.wide-s.ensures in
+    let room : c.loop-k.h < length c.args.queue.now = omega (arith, c.requires.space.queue_room, c.loop-k.invariant.2, work-room _ _ _ _ c.loop-k.invariant.4.search.fit low (c.joins.ensures.variant.0 c.if-joins.true).out) in
+    omega (arith, c.well_formed, c.loop-k.invariant.2)
+
+pub overflow_add-h : goal.overflow_add-h
+overflow_add-h c =
+    let low = walk-low c.args.entry.now _ _ _ _ _ c.loop-k.invariant.3 c.loop-k-test.true _ c.wide-s.ensures in
+    let room : c.loop-k.h < length c.args.queue.now = omega (arith, c.requires.space.queue_room, c.loop-k.invariant.2, work-room _ _ _ _ c.loop-k.invariant.4.search.fit low (c.joins.ensures.variant.0 c.if-joins.true).out) in
+    omega (arith, c.well_formed, c.loop-k.invariant.2)

@@ -13,13 +13,12 @@ pub loop-k-smaller : goal.loop-k-smaller
 loop-k-smaller c = omega (arith, c.loop-k.invariant.1)
 
 pub loop-k-preserved : goal.loop-k-preserved
-loop-k-preserved c =
-    (
-      simp length-set (omega arith),
-      length-set c.loop-k.head c.loop-k.k 0 ∙ c.loop-k.invariant.1,
-      below_more (λ a. get_or (set c.loop-k.head c.loop-k.k 0) a 0 ≡ 0) c.loop-k.k
-          (λ a l. get_or-set_other c.loop-k.head c.loop-k.k a 0 0 (omega arith) ∙ c.loop-k.invariant.2 a l) (get_or-set_same c.loop-k.head c.loop-k.k 0 0 (omega arith)),
-    )
+loop-k-preserved c = (
+  simp length-set (omega arith),
+  length-set c.loop-k.head c.loop-k.k 0 ∙ c.loop-k.invariant.1,
+  below_more (λ a. get_or (set c.loop-k.head c.loop-k.k 0) a 0 ≡ 0) c.loop-k.k
+      (λ a l. get_or-set_other c.loop-k.head c.loop-k.k a 0 0 (omega arith) ∙ c.loop-k.invariant.2 a l) (get_or-set_same c.loop-k.head c.loop-k.k 0 0 (omega arith)),
+)
 
 pub returns : goal.returns
 returns c = record { blank = λ a. go a (dec_lt a c.loop-k.k) }

@@ -4,13 +4,13 @@ use mathlib.Core.List.{List}
 use Prim.Native.Nat.{ℕ, ◌+◌, ◌-◌, ◌≤◌}
 use native.Mathlib.Omega.{arith}
 use lib.ListN.{length}
-use Rattle.program.specs.Program.{most}
-use Rattle.program.specs.Reading.{statements}
+use Rattle.program.specs.Program.{most, WellFormed}
+use Rattle.program.specs.Reading.{statements, Held}
 use Rattle.program.specs.declared.Program.{Program}
 use Rattle.joining.specs.Joining.{joined}
 use Rattle.joining.proofs.Written.{Written, written_none, written-length, written-more, written_all, line_room, Behind, behind-none, behind_more, held-size, size, creeper-targets, road-line, seam-line, creeper-lines}
 use Rattle.joining.proofs.write.Goals as goal
-use Rattle.joining.proofs.write.Goals.{After-loop-s, After-slice_known-2-1, Start}
+use Rattle.joining.proofs.write.Goals.{After-loop-s, After-line-at-2}
 
 -- both programs have two statements or more and fit together, and both arrays are whole
 record Sizes (road creeper : Program) : Type 0 where
@@ -19,112 +19,101 @@ record Sizes (road creeper : Program) : Type 0 where
   together : road.count + creeper.count ≤ most + 1
   whole : length (joined (statements road) (statements creeper)) ≡ road.count - 1 + creeper.count
 
-sizes : (c : Start → Sizes c.args.road c.args.creeper
-sizes c =
+sizes : {road creeper : Program} → Held road × WellFormed (statements road) → Held creeper × WellFormed (statements creeper) → road.count + creeper.count ≤ most + 1 → Sizes road creeper
+sizes h k m =
     record {
-      first = omega (arith, c.requires.held.1.counted.0, held-size c.requires.held.0);
-      second = omega (arith, c.requires.held_2.1.counted.0, held-size c.requires.held_2.0);
-      together = c.requires.count_bound;
-      whole = size c.requires.held.0 c.requires.held.1 c.requires.held_2.0 c.requires.held_2.1;
+      first = omega (arith, h.1.counted.0, held-size h.0);
+      second = omega (arith, k.1.counted.0, held-size k.0);
+      together = m;
+      whole = size h.0 h.1 k.0 k.1;
     }
 
 -- ---- the road's lines
 pub overflow_sub-last : goal.overflow_sub-last
-overflow_sub-last c = let s = sizes (goal.at.overflow_sub-last c).Start in omega arith
+overflow_sub-last c = let s = sizes c.requires.held c.requires.held_2 c.requires.count_bound in omega arith
 
 pub loop-s-init : goal.loop-s-init
 loop-s-init c = (omega arith, written_none c.requires.creeper_in_bounds)
 
 pub offset_bounds-road-s : goal.offset_bounds-road-s
-offset_bounds-road-s c = let s = sizes (goal.at.offset_bounds-road-s c).Start in omega arith
+offset_bounds-road-s c = let s = sizes c.requires.held c.requires.held_2 c.requires.count_bound in omega arith
 
 pub bounds-road-s : goal.bounds-road-s
-bounds-road-s c = let s = sizes (goal.at.bounds-road-s c).Start in omega arith
+bounds-road-s c = let s = sizes c.requires.held c.requires.held_2 c.requires.count_bound in omega arith
 
 pub line-at-requires : goal.line-at-requires
 line-at-requires c =
-    let s = sizes (goal.at.line-at-requires c).Start in
+    let s = sizes c.requires.held c.requires.held_2 c.requires.count_bound in
     let l = c.loop-s-test.true in
     line_room c.loop-s.invariant.1 (omega arith) _ (c.statement_of-i.ensures ∙ road-line c.requires.held.0 c.requires.held.1 c.requires.held_2.0 c.requires.held_2.1 c.loop-s.s l)
 
 pub overflow_add-s : goal.overflow_add-s
-overflow_add-s c = let s = sizes (goal.at.overflow_add-s c).Start in omega arith
+overflow_add-s c = let s = sizes c.requires.held c.requires.held_2 c.requires.count_bound in omega arith
 
 pub loop-s-smaller : goal.loop-s-smaller
 loop-s-smaller c = omega arith
 
 pub loop-s-preserved : goal.loop-s-preserved
 loop-s-preserved c =
-    let s = sizes (goal.at.loop-s-preserved c).Start in
+    let s = sizes c.requires.held c.requires.held_2 c.requires.count_bound in
     let l = c.loop-s-test.true in
     (omega arith, written-more c.loop-s.invariant.1 (omega arith) _ (c.statement_of-i.ensures ∙ road-line c.requires.held.0 c.requires.held.1 c.requires.held_2.0 c.requires.held_2.1 c.loop-s.s l) c.line-at.ensures)
 
 -- ---- the seam
 pub offset_bounds-road-last : goal.offset_bounds-road-last
-offset_bounds-road-last c = let s = sizes (goal.at.offset_bounds-road-last c).Start in omega arith
+offset_bounds-road-last c = let s = sizes c.requires.held c.requires.held_2 c.requires.count_bound in omega arith
 
 pub bounds-road-last : goal.bounds-road-last
-bounds-road-last c = let s = sizes (goal.at.bounds-road-last c).Start in omega arith
+bounds-road-last c = let s = sizes c.requires.held c.requires.held_2 c.requires.count_bound in omega arith
 
 -- all lines of the road but the last are written
-before-seam : (c : After-loop-s → 
-    Written (joined (statements b.args.road) (statements b.args.creeper)) b.args.out.now c.loop-s.out c.loop-s.at (b.args.road.count - 1)
+before-seam : (c : After-loop-s) → Written (joined (statements c.args.road) (statements c.args.creeper)) c.args.out.now c.loop-s.out c.loop-s.at (c.args.road.count - 1)
 before-seam c = let e : c.loop-s.s ≡ c.args.road.count - 1 = omega (arith, c.loop-s.invariant.0) in rw e at c.loop-s.invariant.1
 
 pub line-at-requires-2 : goal.line-at-requires-2
 line-at-requires-2 c =
-    let s = sizes (goal.at.line-at-requires-2 c).Start in
+    let s = sizes c.requires.held c.requires.held_2 c.requires.count_bound in
     line_room (before-seam (goal.at.line-at-requires-2 c).After-loop-s) (omega arith) _
     (seam-line c.requires.held.0 c.requires.held.1 c.requires.held_2.0 c.requires.held_2.1 refl _ _ (rw c.statement_of-written.ensures at c.writes-x.ensures) (rw c.statement_of-begun.ensures at c.reads-y.ensures))
 
 pub overflow_cast-d : goal.overflow_cast-d
-overflow_cast-d c = let s = sizes (goal.at.overflow_cast-d c).Start in omega arith
+overflow_cast-d c = let s = sizes c.requires.held c.requires.held_2 c.requires.count_bound in omega arith
 
-after-seam : (c : After-slice_known-2-1 → 
-    Written (joined (statements b.args.road) (statements b.args.creeper)) b.args.out.now c.line-at-2.new.out c.line-at-2.result
-    (b.args.road.count - 1 + 1)
+after-seam : (c : After-line-at-2) → Written (joined (statements c.args.road) (statements c.args.creeper)) c.args.out.now c.line-at-2.new.out c.line-at-2.result (c.args.road.count - 1 + 1)
 after-seam c =
-    let s = sizes (c.Start) in
-    written-more (before-seam (c.After-loop-s)) (omega arith) _
+    let s = sizes c.requires.held c.requires.held_2 c.requires.count_bound in
+    let e : c.loop-s.s ≡ c.args.road.count - 1 = omega (arith, c.loop-s.invariant.0) in
+    written-more (rw e at c.loop-s.invariant.1) (omega arith) _
     (seam-line c.requires.held.0 c.requires.held.1 c.requires.held_2.0 c.requires.held_2.1 refl _ _ (rw c.statement_of-written.ensures at c.writes-x.ensures) (rw c.statement_of-begun.ensures at c.reads-y.ensures))
     c.line-at-2.ensures
 
 -- ---- the creeper's lines
 pub loop-k-init : goal.loop-k-init
-loop-k-init c = let s = sizes (goal.at.loop-k-init c).Start in behind-none (omega arith)
-
-abbrev start : After-slice_known-2-1 → Start
-start c = c
+loop-k-init c = let s = sizes c.requires.held c.requires.held_2 c.requires.count_bound in behind-none (omega arith)
 
 pub offset_bounds-creeper-k : goal.offset_bounds-creeper-k
-offset_bounds-creeper-k c = let s = sizes (start (goal.at.offset_bounds-creeper-k c).After-slice_known-2-1) in omega arith
+offset_bounds-creeper-k c = let s = sizes c.requires.held c.requires.held_2 c.requires.count_bound in omega arith
 
 pub bounds-creeper-k : goal.bounds-creeper-k
-bounds-creeper-k c = let s = sizes (start (goal.at.bounds-creeper-k c).After-slice_known-2-1) in omega arith
+bounds-creeper-k c = let s = sizes c.requires.held c.requires.held_2 c.requires.count_bound in omega arith
 
 pub moved-j-requires : goal.moved-j-requires
 moved-j-requires c =
-    let b = start (goal.at.moved-j-requires c).After-slice_known-2-1 in
-    let s = sizes b in
-    let p = b.pre in
-    (rw c.statement_of-i-in-loop-k.ensures (creeper-targets p.0.0 p.0.1 p.1.0.0 p.1.0.1 c.loop-k.k c.loop-k-test.true), omega arith)
+    let s = sizes c.requires.held c.requires.held_2 c.requires.count_bound in
+    (rw c.statement_of-i-in-loop-k.ensures (creeper-targets c.requires.held.0 c.requires.held.1 c.requires.held_2.0 c.requires.held_2.1 c.loop-k.k c.loop-k-test.true), omega arith)
 
 -- what is written before the line at place k
-module _ (c : tie.After-slice-known3 invariant-loop decreases-loop invariant-loop2 decreases-loop2) {q : List ℕ} {k j : ℕ}
-    (i : Behind (start c).args.creeper.entries (start c).args.creeper.count ((start c).args.road.count - 1) c.before.before.line2.new.0 c.before.before.line2.result q k j) where
-  lines : Written (joined (statements (start c).args.road) (statements (start c).args.creeper)) (start c).args.out.now q k ((start c).args.road.count - 1 + j)
-  lines =
-      let p = (start c).requires in
-      i.further _ _ (creeper-lines p.0.0 p.0.1 p.1.0.0 p.1.0.1 refl) (after-seam c)
+lines : (c : After-line-at-2) {q : List ℕ} {k j : ℕ} → Behind c.args.creeper.entries c.args.creeper.count (c.args.road.count - 1) c.line-at-2.new.out c.line-at-2.result q k j
+    → Written (joined (statements c.args.road) (statements c.args.creeper)) c.args.out.now q k (c.args.road.count - 1 + j)
+lines c i = i.further _ _ (creeper-lines c.requires.held.0 c.requires.held.1 c.requires.held_2.0 c.requires.held_2.1 refl) (after-seam c)
 
 pub line-at-requires-in-loop-k : goal.line-at-requires-in-loop-k
 line-at-requires-in-loop-k c =
-    let p = (start (goal.at.line-at-requires-in-loop-k c).After-slice_known-2-1).requires in
-    let l = creeper-lines p.0.0 p.0.1 p.1.0.0 p.1.0.1 refl c.loop-k.k c.loop-k.invariant.begun c.loop-k-test.true in
-    line_room (lines c c.loop-k.invariant) l.1 _ ((rw c.statement_of-i-in-loop-k.ensures at c.moved-j.ensures) ∙ l.0)
+    let l = creeper-lines c.requires.held.0 c.requires.held.1 c.requires.held_2.0 c.requires.held_2.1 refl c.loop-k.k c.loop-k.invariant.begun c.loop-k-test.true in
+    line_room (lines (goal.at.line-at-requires-in-loop-k c).After-line-at-2 c.loop-k.invariant) l.1 _ ((rw c.statement_of-i-in-loop-k.ensures at c.moved-j.ensures) ∙ l.0)
 
 pub overflow_add-k : goal.overflow_add-k
-overflow_add-k c = let s = sizes (start (goal.at.overflow_add-k c).After-slice_known-2-1) in omega arith
+overflow_add-k c = let s = sizes c.requires.held c.requires.held_2 c.requires.count_bound in omega arith
 
 pub loop-k-smaller : goal.loop-k-smaller
 loop-k-smaller c = omega arith
@@ -135,9 +124,9 @@ loop-k-preserved c =
     (rw c.statement_of-i-in-loop-k.ensures at c.moved-j.ensures) c.line-at-in-loop-k.ensures
 
 pub shape_of-out : goal.shape_of-out
-shape_of-out c = written-length (lines c c.loop-k.invariant)
+shape_of-out c = written-length (lines (goal.at.shape_of-out c).After-line-at-2 c.loop-k.invariant)
 
 pub returns : goal.returns
 returns c =
-    let s = sizes (start (goal.at.returns c).After-slice_known-2-1) in
-    written_all (lines c c.loop-k.invariant) (omega (arith, c.loop-k.invariant.within))
+    let s = sizes c.requires.held c.requires.held_2 c.requires.count_bound in
+    written_all (lines (goal.at.returns c).After-line-at-2 c.loop-k.invariant) (omega (arith, c.loop-k.invariant.within))

@@ -1,7 +1,7 @@
 use Prim.Native.Nat.{◌-◌, ◌≤◌}
 use Rattle.program.specs.Reading.{statements}
 use Rattle.joining.specs.Joining.{joined}
-use Rattle.joining.proofs.Written.{Written, Behind, size}
+use Rattle.joining.proofs.Written.{Written, Behind}
 use Rattle.joining.proofs.write.Given as goal
 
 abbrev pub invariant-loop-s : goal.invariant-loop-s

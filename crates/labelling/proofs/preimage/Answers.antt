@@ -15,12 +15,11 @@ insert-requires c =
     omega (arith, c.requires.head_in_bounds.1, c.clear.auto.row, c.loop-s.invariant.1)
 
 pub loop-s-preserved-then-onto : goal.loop-s-preserved-then-onto
-loop-s-preserved-then-onto c =
-    (
-      omega arith,
-      c.insert.auto.row ∙ c.loop-s.invariant.1,
-      label-join _ _ _ c.loop-s.invariant.2 (c.onto.ensures.0 c.if-onto.true) _ c.insert.ensures,
-    )
+loop-s-preserved-then-onto c = (
+  omega arith,
+  c.insert.auto.row ∙ c.loop-s.invariant.1,
+  label-join _ _ _ c.loop-s.invariant.2 (c.onto.ensures.0 c.if-onto.true) _ c.insert.ensures,
+)
 
 pub loop-s-preserved : goal.loop-s-preserved
 loop-s-preserved c =

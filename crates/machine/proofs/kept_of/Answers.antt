@@ -10,6 +10,7 @@ use Rattle.machine.proofs.kept_of.Goals as goal
 
 pub loop-k-init : goal.loop-k-init
 loop-k-init c = (omega arith, c.no_kept-kept.ensures, refl)
+
 pub loop-k-preserved : goal.loop-k-preserved
 loop-k-preserved c =
     let values = c.args.values in (
@@ -18,10 +19,8 @@ loop-k-preserved c =
       copy-more-from values c.loop-k.kept first_kept c.loop-k.k c.loop-k.invariant.2 (omega arith) (omega arith),
     )
 
-
 pub returns : goal.returns
 returns c =
     let e : c.loop-k.k ≡ kept_count = omega arith in
     let i = rw e at c.loop-k.invariant.2 in
     rw (take_all kept_count c.loop-k.kept (omega arith)) at i
-

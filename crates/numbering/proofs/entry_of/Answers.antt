@@ -6,16 +6,6 @@ use native.Mathlib.Omega.{arith}
 use lib.ListN.{get_or}
 use Rattle.numbering.proofs.entry_of.Goals as goal
 
--- the numbers of both operands are small
-small-numbers :
-    (c : tie.After-left-of)
-    → let a = c.before.before.before.args in
-    (get_or a.numbers.now c.left-of.result 0 < 65536) × (get_or a.numbers.now (a.k - 1) 0 < 65536)
-small-numbers c =
-    let s = c.before.before.before.requires in
-    let l = s.later c.before.if1.false in
-    (s.small c.left-of.result (omega (arith, c.left-of.ensures)), s.small (c.before.before.before.args.k - 1) (omega arith))
-
 pub returns-then-code-eq0 : goal.returns-then-code-eq0
 returns-then-code-eq0 c = rw (eq-eqb (code_in c.args.w) 0 c.if-code-eq0.true) (omega arith)
 
@@ -42,18 +32,6 @@ bounds-numbers-right c = omega (arith, c.requires.later c.if-code-eq0.false)
 
 pub overflow_cast-b : goal.overflow_cast-b
 overflow_cast-b c = omega (arith, (c.shared_slice_known-3-1.given (c.args.k - 1)).fits)
-
-pub overflow_mul-result-2 : goal.overflow_mul-result-2
-overflow_mul-result-2 c = omega (arith, small-numbers c)
-
-pub overflow_add-result-2 : goal.overflow_add-result-2
-overflow_add-result-2 c = omega (arith, small-numbers c)
-
-pub overflow_mul-result-3 : goal.overflow_mul-result-3
-overflow_mul-result-3 c = omega (arith, small-numbers c)
-
-pub overflow_add-result-3 : goal.overflow_add-result-3
-overflow_add-result-3 c = omega (arith, small-numbers c)
 
 pub returns : goal.returns
 returns c = rw (ne_eqb (code_in c.args.w) 0 c.if-code-eq0.false, ← c.left_of-left.ensures) (omega arith)

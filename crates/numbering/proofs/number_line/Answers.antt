@@ -13,16 +13,13 @@ use Rattle.numbering.proofs.number_line.Goals as goal
 use Rattle.numbering.proofs.number_line.Goals.{At-loop-k}
 
 -- what is numbered at the loop's head, of the line that is known to be there
-so_far :
-    (c : tie.At-loop invariant-loop decreases-loop)
-    → let s = c.before.before.before.before.before.before.before in
-    SoFar s.args.text.now s.requires.ps s.requires.c c.loop.numbers c.loop.entries c.loop.links c.loop.heads c.loop.n c.loop.k
-so_far c = let s = c.before.before.before.before.before.before.before.requires in c.loop.invariant s.ps s.c s.line s.sharing
+so_far : (c : At-loop-k) → SoFar c.args.text.now c.requires.ps c.requires.c c.loop-k.numbers c.loop-k.entries c.loop-k.links c.loop-k.heads c.loop-k.n c.loop-k.k
+so_far c = c.loop-k.invariant c.requires.ps c.requires.c c.requires.line c.requires.sharing
 
-first_store : (c : At-loop-k → Store c.args.text.now c.args.entries.now c.args.links.now c.args.heads.now c.args.count
+first_store : (c : At-loop-k) → Store c.args.text.now c.args.entries.now c.args.links.now c.args.heads.now c.args.count
 first_store c = c.requires.sharing.store c.if-count-gt-MOST_TABLES.false
 
-few : (c : At-loop-k → c.args.parts ≤ most_parts
+few : (c : At-loop-k) → c.args.parts ≤ most_parts
 few c = held-few c.requires.line.held
 
 pub returns-then-count-gt-MOST_TABLES : goal.returns-then-count-gt-MOST_TABLES
@@ -38,17 +35,17 @@ pub bounds-words-k : goal.bounds-words-k
 bounds-words-k c = omega (arith, few (goal.at.bounds-words-k c).At-loop-k)
 
 pub slice_bounds-entry_of-end : goal.slice_bounds-entry_of-end
-slice_bounds-entry_of-end c = omega (arith, (so_far c).room)
+slice_bounds-entry_of-end c = omega (arith, (so_far (goal.at.slice_bounds-entry_of-end c).At-loop-k).room)
 
 pub entry_of-e-requires : goal.entry_of-e-requires
-entry_of-e-requires c = step-usable c.requires.line (so_far c) c.loop-k-test.true
+entry_of-e-requires c = step-usable c.requires.line (so_far (goal.at.entry_of-e-requires c).At-loop-k) c.loop-k-test.true
 
 pub find-i-requires : goal.find-i-requires
 find-i-requires c =
-    ((step-told c.requires.line (so_far c) c.loop-k-test.true _ c.entry_of-e.ensures).1, (so_far c).store)
+    ((step-told c.requires.line (so_far (goal.at.find-i-requires c).At-loop-k) c.loop-k-test.true _ c.entry_of-e.ensures).1, (so_far (goal.at.find-i-requires c).At-loop-k).store)
 
 pub overflow_cast-numbers : goal.overflow_cast-numbers
-overflow_cast-numbers c = omega (arith, (so_far c).store.few)
+overflow_cast-numbers c = omega (arith, (so_far (goal.at.overflow_cast-numbers c).At-loop-k).store.few)
 
 pub offset_bounds-numbers-k : goal.offset_bounds-numbers-k
 offset_bounds-numbers-k c = omega (arith, few (goal.at.offset_bounds-numbers-k c).At-loop-k)
@@ -64,16 +61,16 @@ loop-k-preserved-then-i-n c =
     part-found x f (inside x f l) _ (step-told x f l _ c.entry_of-e.ensures).0 _ c.find-i.ensures c.if-i-n.true
 
 pub overflow_add-result : goal.overflow_add-result
-overflow_add-result c = omega (arith, (so_far c).store.few)
+overflow_add-result c = omega (arith, (so_far (goal.at.overflow_add-result c).At-loop-k).store.few)
 
 pub shape_of-entries-then-n-ge-MOST_TABLES : goal.shape_of-entries-then-n-ge-MOST_TABLES
-shape_of-entries-then-n-ge-MOST_TABLES c = omega (arith, (so_far c).store.many, (first_store (goal.at.shape_of-entries-then-n-ge-MOST_TABLES c).At-loop-k).many)
+shape_of-entries-then-n-ge-MOST_TABLES c = omega (arith, (so_far (goal.at.shape_of-entries-then-n-ge-MOST_TABLES c).At-loop-k).store.many, (first_store (goal.at.shape_of-entries-then-n-ge-MOST_TABLES c).At-loop-k).many)
 
 pub shape_of-links-then-n-ge-MOST_TABLES : goal.shape_of-links-then-n-ge-MOST_TABLES
-shape_of-links-then-n-ge-MOST_TABLES c = omega (arith, (so_far c).store.many_links, (first_store (goal.at.shape_of-links-then-n-ge-MOST_TABLES c).At-loop-k).many_links)
+shape_of-links-then-n-ge-MOST_TABLES c = omega (arith, (so_far (goal.at.shape_of-links-then-n-ge-MOST_TABLES c).At-loop-k).store.many_links, (first_store (goal.at.shape_of-links-then-n-ge-MOST_TABLES c).At-loop-k).many_links)
 
 pub shape_of-heads-then-n-ge-MOST_TABLES : goal.shape_of-heads-then-n-ge-MOST_TABLES
-shape_of-heads-then-n-ge-MOST_TABLES c = omega (arith, (so_far c).store.many_heads, (first_store (goal.at.shape_of-heads-then-n-ge-MOST_TABLES c).At-loop-k).many_heads)
+shape_of-heads-then-n-ge-MOST_TABLES c = omega (arith, (so_far (goal.at.shape_of-heads-then-n-ge-MOST_TABLES c).At-loop-k).store.many_heads, (first_store (goal.at.shape_of-heads-then-n-ge-MOST_TABLES c).At-loop-k).many_heads)
 
 pub returns-then-n-ge-MOST_TABLES : goal.returns-then-n-ge-MOST_TABLES
 returns-then-n-ge-MOST_TABLES c =
@@ -85,10 +82,10 @@ returns-then-n-ge-MOST_TABLES c =
 
 pub add-requires : goal.add-requires
 add-requires c =
-    record { formed = ((step-told c.requires.line (so_far c) e.before.before.loop-test.true _ c.entry_of-e.ensures).1, (so_far c).store); count_lt_most_tables = omega arith }
+    record { formed = ((step-told c.requires.line (so_far (goal.at.add-requires c).At-loop-k) c.loop-k-test.true _ c.entry_of-e.ensures).1, (so_far (goal.at.add-requires c).At-loop-k).store); count_lt_most_tables = omega arith }
 
 pub overflow_cast-numbers-else-i-n : goal.overflow_cast-numbers-else-i-n
-overflow_cast-numbers-else-i-n c = omega (arith, (so_far c).store.few)
+overflow_cast-numbers-else-i-n c = omega (arith, (so_far (goal.at.overflow_cast-numbers-else-i-n c).At-loop-k).store.few)
 
 pub offset_bounds-numbers-k-else-i-n : goal.offset_bounds-numbers-k-else-i-n
 offset_bounds-numbers-k-else-i-n c = omega (arith, few (goal.at.offset_bounds-numbers-k-else-i-n c).At-loop-k)
@@ -97,13 +94,13 @@ pub bounds-numbers-k-else-i-n : goal.bounds-numbers-k-else-i-n
 bounds-numbers-k-else-i-n c = omega (arith, few (goal.at.bounds-numbers-k-else-i-n c).At-loop-k)
 
 pub overflow_add-n : goal.overflow_add-n
-overflow_add-n c = omega (arith, (so_far c).store.few)
+overflow_add-n c = omega (arith, (so_far (goal.at.overflow_add-n c).At-loop-k).store.few)
 
 pub loop-k-preserved : goal.loop-k-preserved
 loop-k-preserved c =
     λ ps d x s.
     let f = c.loop-k.invariant ps d x s in
-    let l = e.before.before.loop-test.true in
+    let l = c.loop-k-test.true in
     let key = (step-told x f l _ c.entry_of-e.ensures).0 in
     part-new x f (inside x f l) _ key _ c.find-i.ensures c.if-i-n.false (omega arith) c.add.ensures.entries_after c.add.ensures.store
 
@@ -117,13 +114,13 @@ pub bounds-numbers-last : goal.bounds-numbers-last
 bounds-numbers-last c = omega (arith, few (goal.at.bounds-numbers-last c).At-loop-k, held-some c.requires.line.held)
 
 pub shape_of-entries : goal.shape_of-entries
-shape_of-entries c = omega (arith, (so_far c).store.many, (first_store (goal.at.shape_of-entries c).At-loop-k).many)
+shape_of-entries c = omega (arith, (so_far (goal.at.shape_of-entries c).At-loop-k).store.many, (first_store (goal.at.shape_of-entries c).At-loop-k).many)
 
 pub shape_of-links : goal.shape_of-links
-shape_of-links c = omega (arith, (so_far c).store.many_links, (first_store (goal.at.shape_of-links c).At-loop-k).many_links)
+shape_of-links c = omega (arith, (so_far (goal.at.shape_of-links c).At-loop-k).store.many_links, (first_store (goal.at.shape_of-links c).At-loop-k).many_links)
 
 pub shape_of-heads : goal.shape_of-heads
-shape_of-heads c = omega (arith, (so_far c).store.many_heads, (first_store (goal.at.shape_of-heads c).At-loop-k).many_heads)
+shape_of-heads c = omega (arith, (so_far (goal.at.shape_of-heads c).At-loop-k).store.many_heads, (first_store (goal.at.shape_of-heads c).At-loop-k).many_heads)
 
 pub returns : goal.returns
 returns c =

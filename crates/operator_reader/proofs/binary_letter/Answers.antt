@@ -32,6 +32,9 @@ returns-in-66 c = record { result_value = λ k e. rw (at_byte _ _ c.if-s-at.fals
 
 pub returns-in_default : goal.returns-in_default
 unfolding parse_letter by_letter
-returns-in_default c = record { result_value = λ k e.
+returns-in_default c = record {
+  result_value = λ k e.
       let n = c.in_default.in_default-own.rest in
-      rw (at_byte _ _ c.if-s-at.false, ne_eqb _ (byte "U") n.0.0.0.1, ne_eqb _ (byte "W") n.0.0.1, ne_eqb _ (byte "S") n.0.1, ne_eqb _ (byte "B") n.1); result_in_bounds = omega arith }
+      rw (at_byte _ _ c.if-s-at.false, ne_eqb _ (byte "U") n.0.0.0.1, ne_eqb _ (byte "W") n.0.0.1, ne_eqb _ (byte "S") n.0.1, ne_eqb _ (byte "B") n.1);
+  result_in_bounds = omega arith;
+}

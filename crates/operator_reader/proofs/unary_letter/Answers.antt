@@ -40,7 +40,8 @@ returns-in-77 c = record { result_value = λ k e. rw (at_byte _ _ c.if-s-at.fals
 
 pub returns-in_default : goal.returns-in_default
 unfolding parse_letter by_letter
-returns-in_default c = record { result_value = λ k e.
+returns-in_default c = record {
+  result_value = λ k e.
       let n = c.in_default.in_default-own.rest in
       rw (
         at_byte _ _ c.if-s-at.false,
@@ -50,4 +51,6 @@ returns-in_default c = record { result_value = λ k e.
         ne_eqb _ (byte "Y") n.0.0.1,
         ne_eqb _ (byte "R") n.0.1,
         ne_eqb _ (byte "M") n.1,
-      ); result_in_bounds = omega arith }
+      );
+  result_in_bounds = omega arith;
+}

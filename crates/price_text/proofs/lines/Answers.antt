@@ -3,27 +3,21 @@ use Prim.Native.Nat.{◌+◌, ◌-◌}
 use native.Mathlib.Omega.{arith}
 use lib.ListN.{get_or}
 use Rattle.statement_writer.proofs.Puts.{put-length}
-use Rattle.statement_writer.proofs.Series.{Parts, parts-most, none_written, part_room, one_written, all-written}
-use Rattle.price_text.specs.PriceText.{price_line, price_lines, price_room}
+use Rattle.statement_writer.proofs.Series.{parts-most, none_written, part_room, one_written, all-written}
 use Rattle.price_text.proofs.Printed.{line-most, line-parts}
 use Rattle.price_text.proofs.lines.Goals as goal
-use Rattle.price_text.proofs.lines.Goals.{Start}
-
-parts : (c : Start
-    → Parts (λ k. price_lines k c.args.before.now c.args.after.now) (λ k. price_line (k + 1) (get_or c.args.before.now k 0) (get_or c.args.after.now k 0)) c.args.n price_room
-parts c = line-parts c.args.n c.args.before.now c.args.after.now c.requires.0 c.requires.2 c.requires.3
 
 pub loop-s-init : goal.loop-s-init
-loop-s-init c = none_written (parts (goal.at.loop-s-init c).Start) c.requires.1
+loop-s-init c = none_written (line-parts c.args.n c.args.before.now c.args.after.now c.requires.0 c.requires.2 c.requires.3) c.requires.1
 
 pub line-to-requires : goal.line-to-requires
 line-to-requires c =
     let more = c.loop-s-test.true in
     let few = c.requires.0 in
-    omega (arith, part_room (parts (goal.at.line-to-requires c).Start) c.loop-s.invariant more, line-most (c.loop-s.s + 1) (get_or c.args.before.now c.loop-s.s 0) (get_or c.args.after.now c.loop-s.s 0) (omega (arith, more, few)) (c.requires.2 c.loop-s.s) (c.requires.3 c.loop-s.s))
+    omega (arith, part_room (line-parts c.args.n c.args.before.now c.args.after.now c.requires.0 c.requires.2 c.requires.3) c.loop-s.invariant more, line-most (c.loop-s.s + 1) (get_or c.args.before.now c.loop-s.s 0) (get_or c.args.after.now c.loop-s.s 0) (omega (arith, more, few)) (c.requires.2 c.loop-s.s) (c.requires.3 c.loop-s.s))
 
 pub loop-s-preserved : goal.loop-s-preserved
-loop-s-preserved c = one_written (parts (goal.at.loop-s-preserved c).Start) c.loop-s.invariant c.loop-s-test.true c.line-to.ensures
+loop-s-preserved c = one_written (line-parts c.args.n c.args.before.now c.args.after.now c.requires.0 c.requires.2 c.requires.3) c.loop-s.invariant c.loop-s-test.true c.line-to.ensures
 
 pub shape_of-out : goal.shape_of-out
 shape_of-out c = put-length c.loop-s.invariant.put
@@ -31,7 +25,7 @@ shape_of-out c = put-length c.loop-s.invariant.put
 pub returns : goal.returns
 returns c =
     let all = all-written c.loop-s.invariant c.loop-s-test.false in
-    (all, omega (arith, all.after, parts-most (parts (goal.at.returns c).Start) c.args.n (omega arith)))
+    (all, omega (arith, all.after, parts-most (line-parts c.args.n c.args.before.now c.args.after.now c.requires.0 c.requires.2 c.requires.3) c.args.n (omega arith)))
 
 pub bounds-before-i : goal.bounds-before-i
 bounds-before-i c = omega (arith, c.loop-s-test.true, c.requires.0)

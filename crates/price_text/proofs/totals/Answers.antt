@@ -30,8 +30,7 @@ byte-requires c =
 
 pub returns : goal.returns
 unfolding total_lines
-returns c =
-    (
-      put_then c.number-k1.ensures (put_then c.byte-k2.ensures (put_then c.number-k3.ensures (put_then c.byte-k4.ensures (put_then (rw (to_z-of_z {w = w32} c.ranges.s) at (c.signed-k5.ensures)) c.byte.ensures)))),
-      omega (arith, c.number-k1.ensures.after, c.byte-k2.ensures.after, c.number-k3.ensures.after, c.byte-k4.ensures.after, c.signed-k5.ensures.after, c.byte.ensures.after, number-most c.args.g c.ranges.g.fits, number-most c.args.r c.ranges.r.fits, constant-most (of_z w32 c.args.s)),
-    )
+returns c = (
+  put_then c.number-k1.ensures (put_then c.byte-k2.ensures (put_then c.number-k3.ensures (put_then c.byte-k4.ensures (put_then (rw (to_z-of_z {w = w32} c.ranges.s) at (c.signed-k5.ensures)) c.byte.ensures)))),
+  omega (arith, c.number-k1.ensures.after, c.byte-k2.ensures.after, c.number-k3.ensures.after, c.byte-k4.ensures.after, c.signed-k5.ensures.after, c.byte.ensures.after, number-most c.args.g c.ranges.g.fits, number-most c.args.r c.ranges.r.fits, constant-most (of_z w32 c.args.s)),
+)

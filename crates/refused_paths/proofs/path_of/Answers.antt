@@ -32,11 +32,10 @@ culprit_for-requires c =
     (r.valid, refused-room r, c.requires.1, omega (arith, end_word r w f, end-inside r w f))
 
 pub returns : goal.returns
-returns c =
-    (
-      λ P ms r.
-          let w = c.rows_for.ensures P (refused-facts r) in
-          let f = rw (c.goes_back.ensures, c.requires.0.here) at c.search-length.ensures.0 in
-          path-found r w f _ _ (omega (arith, end_word r w f)) (c.culprit_for.ensures P (refused-facts r) r.uses),
-      c.search-length.ensures.1,
-    )
+returns c = (
+  λ P ms r.
+      let w = c.rows_for.ensures P (refused-facts r) in
+      let f = rw (c.goes_back.ensures, c.requires.0.here) at c.search-length.ensures.0 in
+      path-found r w f _ _ (omega (arith, end_word r w f)) (c.culprit_for.ensures P (refused-facts r) r.uses),
+  c.search-length.ensures.1,
+)

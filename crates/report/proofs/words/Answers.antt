@@ -23,8 +23,8 @@ write_words-requires c =
 pub returns-in-Refused : goal.returns-in-Refused
 returns-in-Refused c =
     record {
-      c.answer-1.given = c.in-Refused.n;
-      c.line_of_number-line = c.line_of_number-line.result;
+      n = c.in-Refused.n;
+      line = c.line_of_number-line.result;
       refuses = answer-refused c.args.given.now c.args.marks.now (lent (goal.at.returns-in-Refused c).After-text-1) (left (goal.at.returns-in-Refused c).After-judge-answer) c.judge-answer.ensures c.in-Refused.is (omega arith, omega arith);
       blamed = blamed c.line_of_number-line.ensures;
       fits = words-most c.in-Refused.n c.line_of_number-line.result _ (search rules) (search rules) c.if-out-lt-REFUSAL_ROOM.false;

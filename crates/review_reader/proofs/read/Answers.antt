@@ -9,17 +9,17 @@ use Rattle.review_reader.proofs.read.Goals as goal
 use Rattle.review_reader.proofs.read.Goals.{At-loop-at, In-loop-at}
 
 -- what is lent keeps its length
-entries-same : (c : At-loop-at → length c.loop-at.entries ≡ length c.args.entries.now
+entries-same : (c : At-loop-at) → length c.loop-at.entries ≡ length c.args.entries.now
 entries-same c = omega (arith, c.loop-at.invariant.many, c.requires.0.size)
 
-numbers-same : (c : At-loop-at → length c.loop-at.numbers ≡ length c.args.numbers.now
+numbers-same : (c : At-loop-at) → length c.loop-at.numbers ≡ length c.args.numbers.now
 numbers-same c = omega (arith, c.loop-at.invariant.lines_of.room, c.requires.1.size)
 
-counts_same : (c : At-loop-at → length c.loop-at.counts ≡ length c.args.counts.now
+counts_same : (c : At-loop-at) → length c.loop-at.counts ≡ length c.args.counts.now
 counts_same c = omega (arith, c.loop-at.invariant.lines_of.room_counts, c.requires.2.size)
 
 -- a line is left for the number of those that were read
-few-lines : (c : In-loop-at → c.loop-at.j < most_lines
+few-lines : (c : In-loop-at) → c.loop-at.j < most_lines
 few-lines c = walk-few c.loop-at.invariant c.line_count-n.ensures (omega arith) (omega arith) c.loop-at-test.true
 
 pub returns-then-n-lt1 : goal.returns-then-n-lt1
@@ -120,8 +120,8 @@ shape_of-counts-then-count-gt-MOST_TABLES c = counts_same (goal.at.shape_of-coun
 pub returns-then-count-gt-MOST_TABLES : goal.returns-then-count-gt-MOST_TABLES
 returns-then-count-gt-MOST_TABLES c = walk-over c.loop-at.invariant c.line_count-n.ensures (omega arith) (omega arith) c.loop-at-test.false c.if-count-gt-MOST_TABLES.true
 
-pub overflow_cast-result : goal.overflow_cast-result
-overflow_cast-result c = omega (arith, walk-lines c.loop-at.invariant c.line_count-n.ensures (omega arith) (omega arith) c.loop-at-test.false)
+pub overflow_cast-result-2 : goal.overflow_cast-result-2
+overflow_cast-result-2 c = omega (arith, walk-lines c.loop-at.invariant c.line_count-n.ensures (omega arith) (omega arith) c.loop-at-test.false)
 
 pub shape_of-entries : goal.shape_of-entries
 shape_of-entries c = entries-same (goal.at.shape_of-entries c).At-loop-at

@@ -11,7 +11,7 @@ use Rattle.stages.proofs.Looking.{name-found, name-not}
 use Rattle.stages.proofs.find.Goals as goal
 use Rattle.stages.proofs.find.Goals.{After-fill-key}
 
-key-length : (c : After-fill-key → length c.fill-key.result ≡ name_bytes
+key-length : (c : After-fill-key) → length c.fill-key.result ≡ name_bytes
 key-length c = ap length c.fill-key.ensures ∙ filled-length c.args.name.now c.requires.1.few
 
 pub returns-then-stands : goal.returns-then-stands

@@ -10,7 +10,7 @@ use Rattle.stages.proofs.Looking.{known-empty, empty-not, full-more}
 use Rattle.stages.proofs.first_empty.Goals as goal
 use Rattle.stages.proofs.first_empty.Goals.{After-fill-key}
 
-key-length : (c : After-fill-key → length c.fill-key.result ≡ name_bytes
+key-length : (c : After-fill-key) → length c.fill-key.result ≡ name_bytes
 key-length c = ap length c.fill-key.ensures ∙ filled-length c.args.name.now c.requires.1.few
 
 -- the place has the name, under which no stage stands right

@@ -11,7 +11,7 @@ use Rattle.stages.proofs.repeated.Goals as goal
 use Rattle.stages.proofs.repeated.Goals.{After-name_of-name}
 
 -- the name of place k
-name-is : (c : After-name_of-name → c.name_of-name.result.now ≡ take name_bytes (place c.args.stages.now c.args.k)
+name-is : (c : After-name_of-name) → c.name_of-name.result.now ≡ take name_bytes (place c.args.stages.now c.args.k)
 name-is c = c.name_of-name.ensures.0 ∙ ap (take name_bytes) c.part.ensures.0
 
 pub returns-then-begins : goal.returns-then-begins

@@ -82,3 +82,9 @@ returns-then-n-lt-FEWEST c =
 
 pub returns : goal.returns
 returns c = taken c.loop-at.invariant c.loop-at-test.false _ c.if-n-lt-FEWEST.false c.values_of.ensures
+
+pub overflow_add-n : goal.overflow_add-n
+overflow_add-n c = omega (arith, bounds c.loop-at.invariant)
+
+pub overflow_cast-n : goal.overflow_cast-n
+overflow_cast-n c = omega (arith, bounds c.loop-at.invariant)

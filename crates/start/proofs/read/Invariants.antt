@@ -4,7 +4,7 @@ use Rattle.start.proofs.Lines.{SoFar}
 use Rattle.start.proofs.read.Given as goal
 
 abbrev pub invariant-loop-at : goal.invariant-loop-at
-invariant-loop-at l = SoFar l.s l.at l.k l.n n
+invariant-loop-at l = SoFar l.s l.numbers l.at l.k l.n
 
 abbrev pub decreases-loop-at : goal.decreases-loop-at
-decreases-loop-at l = length l.s - l.k
+decreases-loop-at l = length l.s - l.at

@@ -12,25 +12,34 @@ returns-in_default c = record { result_value = rw (sym c.variable.ensures.result
 pub returns-in_default-word : goal.returns-in_default-word
 unfolding parse_assign
 returns-in_default-word c =
-    record { result_value = rw (
+    record {
+      result_value = rw (
         sym c.variable.ensures.result_value ∙ ap (parsed_variable _) c.in-Found.is,
         sym c.word.ensures.result_value ∙ ap (parsed_word _) c.in_default-word.is,
-      ); result_in_bounds = omega arith }
+      );
+      result_in_bounds = omega arith;
+    }
 
 pub returns-in_default-expression : goal.returns-in_default-expression
 unfolding parse_assign
 returns-in_default-expression c =
-    record { result_value = rw (
+    record {
+      result_value = rw (
         sym c.variable.ensures.result_value ∙ ap (parsed_variable _) c.in-Found.is,
         sym c.word.ensures.result_value ∙ ap (parsed_word _) c.in-Found-word.is,
         sym c.expression.ensures.result_value ∙ ap (parsed_expression _) c.in_default-expression.is,
-      ); result_in_bounds = omega arith }
+      );
+      result_in_bounds = omega arith;
+    }
 
 pub returns : goal.returns
 unfolding parse_assign
 returns c =
-    record { result_value = rw (
+    record {
+      result_value = rw (
         sym c.variable.ensures.result_value ∙ ap (parsed_variable _) c.in-Found.is,
         sym c.word.ensures.result_value ∙ ap (parsed_word _) c.in-Found-word.is,
         sym c.expression.ensures.result_value ∙ ap (parsed_expression _) c.in-Found-expression.is,
-      ); result_in_bounds = omega (arith, c.expression.ensures.result_in_bounds, ap expression_end c.in-Found-expression.is) }
+      );
+      result_in_bounds = omega (arith, c.expression.ensures.result_in_bounds, ap expression_end c.in-Found-expression.is);
+    }

@@ -12,15 +12,21 @@ returns-in_default c = record { result_value = rw (sym c.statement.ensures.resul
 pub returns-in_default-word : goal.returns-in_default-word
 unfolding parse_line
 returns-in_default-word c =
-    record { result_value = rw (
+    record {
+      result_value = rw (
         sym c.statement.ensures.result_value ∙ ap (parsed_statement _) c.in-Found.is,
         sym c.word.ensures.result_value ∙ ap (parsed_word _) c.in_default-word.is,
-      ); result_in_bounds = omega arith }
+      );
+      result_in_bounds = omega arith;
+    }
 
 pub returns : goal.returns
 unfolding parse_line
 returns c =
-    record { result_value = rw (
+    record {
+      result_value = rw (
         sym c.statement.ensures.result_value ∙ ap (parsed_statement _) c.in-Found.is,
         sym c.word.ensures.result_value ∙ ap (parsed_word _) c.in-Found-word.is,
-      ); result_in_bounds = omega (arith, c.word.ensures.result_in_bounds (omega arith), ap word_end c.in-Found-word.is) }
+      );
+      result_in_bounds = omega (arith, c.word.ensures.result_in_bounds (omega arith), ap word_end c.in-Found-word.is);
+    }

@@ -35,7 +35,8 @@ returns-in-47 c = record { result_value = rw (at_byte _ _ c.if-s-at.false, c.in-
 pub returns-in_default : goal.returns-in_default
 unfolding parse_operator
 returns-in_default c =
-    let n = c.in_default.in_default-own.rest in record { result_value = rw (
+    let n = c.in_default.in_default-own.rest in record {
+      result_value = rw (
         at_byte _ _ c.if-s-at.false,
         ne_eqb _ 43 n.0.0.0.0.0.1,
         ne_eqb _ 45 n.0.0.0.0.1,
@@ -43,4 +44,6 @@ returns-in_default c =
         ne_eqb _ 60 n.0.0.1,
         ne_eqb _ 61 n.0.1,
         ne_eqb _ 47 n.1,
-      ); result_in_bounds = omega arith }
+      );
+      result_in_bounds = omega arith;
+    }

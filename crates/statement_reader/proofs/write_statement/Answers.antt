@@ -12,15 +12,21 @@ returns-in_default c = record { result_value = rw (sym c.word.ensures.result_val
 pub returns-in_default-variable : goal.returns-in_default-variable
 unfolding parse_write
 returns-in_default-variable c =
-    record { result_value = rw (
+    record {
+      result_value = rw (
         sym c.word.ensures.result_value ∙ ap (parsed_word _) c.in-Found.is,
         sym c.variable.ensures.result_value ∙ ap (parsed_variable _) c.in_default-variable.is,
-      ); result_in_bounds = omega arith }
+      );
+      result_in_bounds = omega arith;
+    }
 
 pub returns : goal.returns
 unfolding parse_write
 returns c =
-    record { result_value = rw (
+    record {
+      result_value = rw (
         sym c.word.ensures.result_value ∙ ap (parsed_word _) c.in-Found.is,
         sym c.variable.ensures.result_value ∙ ap (parsed_variable _) c.in-Found-variable.is,
-      ); result_in_bounds = omega (arith, c.variable.ensures.result_in_bounds, ap variable_end c.in-Found-variable.is) }
+      );
+      result_in_bounds = omega (arith, c.variable.ensures.result_in_bounds, ap variable_end c.in-Found-variable.is);
+    }

@@ -15,7 +15,7 @@ of-requires c = record { held = c.requires.held.0; well_formed = c.requires.held
 pub fill-requires : goal.fill-requires
 fill-requires c =
     let few = held-few c.requires.some_held.held in
-    let known = known-program {flow = c.of.new.flow} c.requires.held.1.1 c.requires.held.0 c.find.ensures c.blank_codes-codes.ensures.many c.of.ensures (omega (arith, c.of.auto, c.requires.flow_len.0)) in
+    let known = known-program {flow = c.of.new.flow} c.requires.held.1.1 c.requires.held.0 c.find.ensures c.blank_codes-codes.ensures.many c.of.ensures (omega (arith, c.of.auto.flow, c.requires.flow_len.0)) in
     record { some_known = record { P = _; known = known_in known }; some_held = c.requires.some_held; parts_in_bounds = omega (arith, c.requires.flow_len.1) }
 
 pub overflow_sub-last : goal.overflow_sub-last
@@ -27,7 +27,7 @@ summary_of-requires c =
 
 pub returns : goal.returns
 returns c =
-    let known = known-program {flow = c.of.new.flow} c.requires.held.1.1 c.requires.held.0 c.find.ensures c.blank_codes-codes.ensures.many c.of.ensures (omega (arith, c.of.auto, c.requires.flow_len.0)) in
+    let known = known-program {flow = c.of.new.flow} c.requires.held.1.1 c.requires.held.0 c.find.ensures c.blank_codes-codes.ensures.many c.of.ensures (omega (arith, c.of.auto.flow, c.requires.flow_len.0)) in
     record {
       table = λ d h. table-by known h (c.fill.ensures _ d (known_in known) h);
       flows = c.of.ensures;

@@ -11,25 +11,34 @@ returns-in_default c = record { result_value = rw (sym c.word.ensures.result_val
 pub returns-in_default-number : goal.returns-in_default-number
 unfolding parse_variable
 returns-in_default-number c =
-    record { result_value = rw (
+    record {
+      result_value = rw (
         sym c.word.ensures.result_value ∙ ap (parsed_word _) c.in-Found.is,
         sym c.number.ensures.result_value ∙ ap (parsed_number _) c.in_default-number.is,
-      ); result_in_bounds = omega arith }
+      );
+      result_in_bounds = omega arith;
+    }
 
 pub returns-then-n-lt-VARIABLES : goal.returns-then-n-lt-VARIABLES
 unfolding parse_variable
 returns-then-n-lt-VARIABLES c =
-    record { result_value = rw (
+    record {
+      result_value = rw (
         sym c.word.ensures.result_value ∙ ap (parsed_word _) c.in-Found.is,
         sym c.number.ensures.result_value ∙ ap (parsed_number _) c.in-Found-number.is,
         lt-ltb _ _ c.if-n-lt-VARIABLES.true,
-      ); result_in_bounds = omega (arith, c.number.ensures.result_in_bounds, ap number_end c.in-Found-number.is) }
+      );
+      result_in_bounds = omega (arith, c.number.ensures.result_in_bounds, ap number_end c.in-Found-number.is);
+    }
 
 pub returns-else-n-lt-VARIABLES : goal.returns-else-n-lt-VARIABLES
 unfolding parse_variable
 returns-else-n-lt-VARIABLES c =
-    record { result_value = rw (
+    record {
+      result_value = rw (
         sym c.word.ensures.result_value ∙ ap (parsed_word _) c.in-Found.is,
         sym c.number.ensures.result_value ∙ ap (parsed_number _) c.in-Found-number.is,
         le-ltb _ _ c.if-n-lt-VARIABLES.false,
-      ); result_in_bounds = omega arith }
+      );
+      result_in_bounds = omega arith;
+    }

@@ -36,7 +36,7 @@ line-to-requires c =
 pub loop-k-preserved : goal.loop-k-preserved
 loop-k-preserved c =
     let goes = rw c.in-To.is at c.way_on-way.ensures in
-    going_more c.args.p _ _ _ _ _ (rw c.statement_of-s.ensures at step.step.ensures) c.loop-k.invariant c.loop-k-test.true
+    going_more c.args.p _ _ _ _ _ (rw c.statement_of-s.ensures at c.step-next.ensures) c.loop-k.invariant c.loop-k-test.true
     (omega (arith, c.if-out-to-lt-LINE_ROOM.false, c.loop-k.invariant.fits, c.loop-k.invariant.same)) c.line-to.ensures.1 _ c.requires.well_formed goes (rw c.statement_of-s.ensures at c.line-to.ensures.0)
 
 pub last_line-to-requires : goal.last_line-to-requires

@@ -24,14 +24,11 @@ pub overflow_cast-path : goal.overflow_cast-path
 overflow_cast-path c = omega (arith, c.requires.linked.2, c.loop-seen.invariant.2.low)
 
 -- the places that were passed are fewer than there are
-low : (c : In-loop-seen → c.loop-seen.k < length c.args.head.now
+low : (c : In-loop-seen) → c.loop-seen.k < length c.args.head.now
 low c = circling-low _ _ _ _ c.requires.linked.1 c.requires.some_endless.0.endless.inside _ _ _ _ _ c.loop-seen.invariant.2 c.loop-seen-test.true (omega (arith, c.loop-seen.invariant.1, c.requires.linked.2))
 
 pub bounds-path-k : goal.bounds-path-k
 bounds-path-k c = omega (arith, c.requires.head_in_bounds, c.loop-seen.invariant.0, low (goal.at.bounds-path-k c).In-loop-seen)
-
-pub offset_bounds-path-k : goal.offset_bounds-path-k
-offset_bounds-path-k c = omega (arith, c.well-formed, c.loop-seen.invariant.0, (omega (arith, c.requires.head_in_bounds, c.loop-seen.invariant.0, low (goal.at.offset_bounds-path-k c).In-loop-seen)))
 
 pub overflow_add-k : goal.overflow_add-k
 overflow_add-k c = omega (arith, c.requires.linked.2, low (goal.at.overflow_add-k c).In-loop-seen)
@@ -50,14 +47,6 @@ onward-place-requires c = record { linked = (c.requires.linked.0, c.loop-seen.in
 
 pub loop-seen-smaller : goal.loop-seen-smaller
 loop-seen-smaller c = omega (arith, low (goal.at.loop-seen-smaller c).In-loop-seen)
-
-pub loop-seen-preserved : goal.loop-seen-preserved
-loop-seen-preserved c =
-    (
-      length-set c.loop-seen.path c.loop-seen.k (c.loop-seen.place + 1) ∙ c.loop-seen.invariant.0,
-      length-set c.loop-seen.seen c.loop-seen.place (c.loop-seen.k + 1) ∙ c.loop-seen.invariant.1,
-      circling-more _ _ _ _ c.requires.linked.1 c.requires.some_endless.0.endless.inside _ _ _ _ _ c.loop-seen.invariant.2 c.loop-seen-test.true (omega (arith, c.loop-seen.invariant.1, c.requires.linked.2)) (omega (arith, (omega (arith, c.requires.head_in_bounds, c.loop-seen.invariant.0, low (goal.at.loop-seen-preserved c).In-loop-seen)), c.loop-seen.invariant.0)) _ c.onward-place.ensures.0 c.onward-place.ensures.1,
-    )
 
 pub offset_bounds-seen-place-2 : goal.offset_bounds-seen-place-2
 offset_bounds-seen-place-2 c = omega (arith, c.requires.linked.2, c.loop-seen.invariant.2.low)

@@ -11,7 +11,7 @@ pub overflow_sub-first : goal.overflow_sub-first
 overflow_sub-first c = (edges-of _ _ _ c.args.s c.requires.linked.0 c.requires.linked.1 c.requires.s_in_bounds.0 _ c.wide-first.ensures).1
 
 pub offset_bounds-to-first : goal.offset_bounds-to-first
-offset_bounds-to-first c = omega (arith, c.well-formed, (edges-of _ _ _ c.args.s c.requires.linked.0 c.requires.linked.1 c.requires.s_in_bounds.0 _ c.wide-first.ensures).3)
+offset_bounds-to-first c = omega (arith, c.well_formed, (edges-of _ _ _ c.args.s c.requires.linked.0 c.requires.linked.1 c.requires.s_in_bounds.0 _ c.wide-first.ensures).3)
 
 pub bounds-to-first : goal.bounds-to-first
 bounds-to-first c = (edges-of _ _ _ c.args.s c.requires.linked.0 c.requires.linked.1 c.requires.s_in_bounds.0 _ c.wide-first.ensures).3
@@ -20,7 +20,7 @@ pub overflow_sub-first-2 : goal.overflow_sub-first-2
 overflow_sub-first-2 c = (edges-of _ _ _ c.args.s c.requires.linked.0 c.requires.linked.1 c.requires.s_in_bounds.0 _ c.wide-first.ensures).1
 
 pub offset_bounds-link-first : goal.offset_bounds-link-first
-offset_bounds-link-first c = omega (arith, c.well-formed, (edges-of _ _ _ c.args.s c.requires.linked.0 c.requires.linked.1 c.requires.s_in_bounds.0 _ c.wide-first.ensures).2)
+offset_bounds-link-first c = omega (arith, c.well_formed, (edges-of _ _ _ c.args.s c.requires.linked.0 c.requires.linked.1 c.requires.s_in_bounds.0 _ c.wide-first.ensures).2)
 
 pub bounds-link-first : goal.bounds-link-first
 bounds-link-first c = (edges-of _ _ _ c.args.s c.requires.linked.0 c.requires.linked.1 c.requires.s_in_bounds.0 _ c.wide-first.ensures).2
@@ -32,25 +32,25 @@ loop-k-init c =
     (c.wide-best.ensures ∙ ap (λ (i : ℕ). get_or c.args.to.now (i - 1) 0) c.wide-first.ensures)
 
 pub offset_bounds-to-e : goal.offset_bounds-to-e
-offset_bounds-to-e c = omega (arith, c.well-formed, passed-room _ _ _ _ _ _ _ c.loop-k.invariant.passed c.loop-k-test.true)
+offset_bounds-to-e c = omega (arith, c.well_formed, passed-room _ _ _ _ _ _ _ c.loop-k.invariant.passed c.loop-k-test.true)
 
 pub bounds-to-e : goal.bounds-to-e
 bounds-to-e c = (passed-room _ _ _ _ _ _ _ c.loop-k.invariant.passed c.loop-k-test.true).1
 
 pub offset_bounds-numbers-t : goal.offset_bounds-numbers-t
-offset_bounds-numbers-t c = omega (arith, c.well-formed, c.requires.s_in_bounds.1, c.wide-t.ensures, (passed-room _ _ _ _ _ _ _ c.loop-k.invariant.passed c.loop-k-test.true).2)
+offset_bounds-numbers-t c = omega (arith, c.well_formed, c.requires.s_in_bounds.1, c.wide-t.ensures, (passed-room _ _ _ _ _ _ _ c.loop-k.invariant.passed c.loop-k-test.true).2)
 
 pub bounds-numbers-t : goal.bounds-numbers-t
 bounds-numbers-t c = omega (arith, c.requires.s_in_bounds.1, c.wide-t.ensures, (passed-room _ _ _ _ _ _ _ c.loop-k.invariant.passed c.loop-k-test.true).2)
 
 pub offset_bounds-numbers-best : goal.offset_bounds-numbers-best
-offset_bounds-numbers-best c = omega (arith, c.well-formed, c.requires.s_in_bounds.1, c.loop-k.invariant.low)
+offset_bounds-numbers-best c = omega (arith, c.well_formed, c.requires.s_in_bounds.1, c.loop-k.invariant.low)
 
 pub bounds-numbers-best : goal.bounds-numbers-best
 bounds-numbers-best c = omega (arith, c.requires.s_in_bounds.1, c.loop-k.invariant.low)
 
 pub offset_bounds-link-e : goal.offset_bounds-link-e
-offset_bounds-link-e c = omega (arith, c.well-formed, passed-room _ _ _ _ _ _ _ c.loop-k.invariant.passed c.loop-k-test.true)
+offset_bounds-link-e c = omega (arith, c.well_formed, passed-room _ _ _ _ _ _ _ c.loop-k.invariant.passed c.loop-k-test.true)
 
 pub bounds-link-e : goal.bounds-link-e
 bounds-link-e c = (passed-room _ _ _ _ _ _ _ c.loop-k.invariant.passed c.loop-k-test.true).0
@@ -62,7 +62,7 @@ pub loop-k-preserved-then-numbers-t : goal.loop-k-preserved-then-numbers-t
 loop-k-preserved-then-numbers-t c = nearing-take _ _ _ _ _ _ _ c.loop-k.invariant c.loop-k-test.true _ c.wide-t.ensures _ c.wide-k-then-numbers-t.ensures c.if-numbers-t.true
 
 pub offset_bounds-link-e-else-numbers-t : goal.offset_bounds-link-e-else-numbers-t
-offset_bounds-link-e-else-numbers-t c = omega (arith, c.well-formed, passed-room _ _ _ _ _ _ _ c.loop-k.invariant.passed c.loop-k-test.true)
+offset_bounds-link-e-else-numbers-t c = omega (arith, c.well_formed, passed-room _ _ _ _ _ _ _ c.loop-k.invariant.passed c.loop-k-test.true)
 
 pub bounds-link-e-else-numbers-t : goal.bounds-link-e-else-numbers-t
 bounds-link-e-else-numbers-t c = (passed-room _ _ _ _ _ _ _ c.loop-k.invariant.passed c.loop-k-test.true).0

@@ -18,7 +18,7 @@ overflow_sub-k c =
 pub offset_bounds-to-k : goal.offset_bounds-to-k
 offset_bounds-to-k c =
     let w : Skipped c.args.link.now c.args.to.now (member c.args.avoid.now) (get_or c.args.head.now c.args.s 0) c.skip-k.result = rw c.wide.ensures at c.skip-k.ensures in
-    omega (arith, c.well-formed, (skipped-to _ _ _ _ _ _ (linked-from _ _ _ c.args.s c.requires.linked.0) w c.requires.by_index.0 c.requires.by_index.1 c.requires.by_index.2).1)
+    omega (arith, c.well_formed, (skipped-to _ _ _ _ _ _ (linked-from _ _ _ c.args.s c.requires.linked.0) w c.requires.by_index.0 c.requires.by_index.1 c.requires.by_index.2).1)
 
 pub bounds-to-k : goal.bounds-to-k
 bounds-to-k c =

@@ -40,29 +40,27 @@ placed : (c : After-contains) (P : List Statement) → length P ≤ most → Ins
 placed c P few i = c.place_of-place.ensures.1 (i.0, omega (arith, i.1, few))
 
 pub returns-then-contains : goal.returns-then-contains
-returns-then-contains c =
-    (
-      (λ P k earlier v h e.
-          let o = subst (Open c.args.m) e (is-by-condition (goal.at.returns-then-contains c).Else-not-is_open) in
-          let i = open-came (uses_of P) (used_in c.args.rows.now) P earlier c.args.m v o h in (
-            Accepted,
-            again-accepted (uses_of P) (used_in c.args.rows.now) P earlier c.args.m v o h c.remembered_row-row.result (c.remembered_row-row.ensures.0 P k)
-                (rw (← placed (goal.at.returns-then-contains c).After-contains P k.few i.0) (sym c.contains.ensures ∙ c.if-contains.true)),
-            c.number_of.ensures,
-          )),
-      c.remembered_row-row.ensures.1,
-    )
+returns-then-contains c = (
+  (λ P k earlier v h e.
+      let o = subst (Open c.args.m) e (is-by-condition (goal.at.returns-then-contains c).Else-not-is_open) in
+      let i = open-came (uses_of P) (used_in c.args.rows.now) P earlier c.args.m v o h in (
+        Accepted,
+        again-accepted (uses_of P) (used_in c.args.rows.now) P earlier c.args.m v o h c.remembered_row-row.result (c.remembered_row-row.ensures.0 P k)
+            (rw (← placed (goal.at.returns-then-contains c).After-contains P k.few i.0) (sym c.contains.ensures ∙ c.if-contains.true)),
+        c.number_of.ensures,
+      )),
+  c.remembered_row-row.ensures.1,
+)
 
 pub returns : goal.returns
-returns c =
-    (
-      (λ P k earlier v h e.
-          let o = subst (Open c.args.m) e (is-by-condition (goal.at.returns c).Else-not-is_open) in
-          let i = open-came (uses_of P) (used_in c.args.rows.now) P earlier c.args.m v o h in (
-            Unmet,
-            again-unmet (uses_of P) (used_in c.args.rows.now) P earlier c.args.m v o h c.remembered_row-row.result (c.remembered_row-row.ensures.0 P k)
-                (rw (← placed (goal.at.returns c).After-contains P k.few i.0) (sym c.contains.ensures ∙ c.if-contains.false)),
-            c.number_of-2.ensures,
-          )),
-      c.remembered_row-row.ensures.1,
-    )
+returns c = (
+  (λ P k earlier v h e.
+      let o = subst (Open c.args.m) e (is-by-condition (goal.at.returns c).Else-not-is_open) in
+      let i = open-came (uses_of P) (used_in c.args.rows.now) P earlier c.args.m v o h in (
+        Unmet,
+        again-unmet (uses_of P) (used_in c.args.rows.now) P earlier c.args.m v o h c.remembered_row-row.result (c.remembered_row-row.ensures.0 P k)
+            (rw (← placed (goal.at.returns c).After-contains P k.few i.0) (sym c.contains.ensures ∙ c.if-contains.false)),
+        c.number_of-2.ensures,
+      )),
+  c.remembered_row-row.ensures.1,
+)

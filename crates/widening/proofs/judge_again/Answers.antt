@@ -58,8 +58,7 @@ loop-at-smaller c = line-further _ _ c.in-Found.is c.line.ensures
 
 pub loop-at-preserved : goal.loop-at-preserved
 loop-at-preserved c =
-    let l = c.loop-at in
-    (
+    let l = c.loop-at in (
       length-set l.verdicts l.j c.byte_again.result ∙ l.invariant.0,
       (λ ms t. line-next (l.invariant.1 ms t) c.in-Found.is c.line.ensures),
       (λ P k ms t v.

@@ -43,8 +43,7 @@ loop-at-smaller-in-Use c = line-further _ _ c.in-Found.is c.line.ensures
 pub loop-at-preserved-in-Use : goal.loop-at-preserved-in-Use
 loop-at-preserved-in-Use c =
     let l = c.loop-at in
-    let adds = rw c.in-Use.is at c.added_by-add.ensures in
-    (
+    let adds = rw c.in-Use.is at c.added_by-add.ensures in (
       c.use_also.ensures.same ∙ l.invariant.0,
       (λ ms t. line-next (l.invariant.1 ms t) c.in-Found.is c.line.ensures),
       λ P n codes flow k ms t v.

@@ -16,15 +16,14 @@ pub gather-h-requires : goal.gather-h-requires
 gather-h-requires c = let z = c.requires.space in (z.set_room, z.stack_room, z.small)
 
 pub loop-h-init : goal.loop-h-init
-loop-h-init c =
-    (
-      refl,
-      refl,
-      refl,
-      rest-first _ _ _ _ _ c.requires.rest_value,
-      work-first _ _ _ _ c.requires.turned.graph _ _ _ c.gather-h.ensures,
-      grew_none _ _ _ _ _,
-    )
+loop-h-init c = (
+  refl,
+  refl,
+  refl,
+  rest-first _ _ _ _ _ c.requires.rest_value,
+  work-first _ _ _ _ c.requires.turned.graph _ _ _ c.gather-h.ensures,
+  grew_none _ _ _ _ _,
+)
 
 pub offset_bounds-stack-h : goal.offset_bounds-stack-h
 offset_bounds-stack-h c =
@@ -36,15 +35,14 @@ loop-h-smaller c =
     omega (arith, c.visit-h.ensures.paid, c.loop-h-test.true, count-le (member c.loop-h.set) n, count-le (member c.visit-h.new.set) n)
 
 pub loop-h-preserved : goal.loop-h-preserved
-loop-h-preserved c =
-    (
-      c.visit-h.auto.set ∙ c.loop-h.invariant.0,
-      c.visit-h.auto.rest ∙ c.loop-h.invariant.1,
-      c.visit-h.auto.stack ∙ c.loop-h.invariant.2,
-      c.visit-h.ensures.seen,
-      c.visit-h.ensures.work,
-      grew-more _ _ _ _ c.requires.turned.graph _ _ _ c.loop-h.invariant.5 c.visit-h.ensures.grew,
-    )
+loop-h-preserved c = (
+  c.visit-h.auto.set ∙ c.loop-h.invariant.0,
+  c.visit-h.auto.rest ∙ c.loop-h.invariant.1,
+  c.visit-h.auto.stack ∙ c.loop-h.invariant.2,
+  c.visit-h.ensures.seen,
+  c.visit-h.ensures.work,
+  grew-more _ _ _ _ c.requires.turned.graph _ _ _ c.loop-h.invariant.5 c.visit-h.ensures.grew,
+)
 
 pub shape_of-set : goal.shape_of-set
 shape_of-set c = c.loop-h.invariant.0

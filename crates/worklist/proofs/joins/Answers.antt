@@ -30,8 +30,11 @@ bounds-rest-s-then-all c =
 
 pub returns-then-all : goal.returns-then-all
 returns-then-all c =
-    let w : Skipped c.args.link.now c.args.to.now (member c.args.set.now) (get_or c.args.rest.now c.args.s 0) c.skip-k.result = rw c.wide.ensures at c.skip-k.ensures in record { variant = ready-all c.args.head.now _ _ _ _ _ _ c.args.rest.now _ (sym c.contains.ensures ∙ c.if-contains.false) (sym c.contains-2.ensures ∙ c.if-contains-2.true)
-          c.if-all.true c.requires.linked c.requires.rest w; rest_2 = rest-skip _ _ _ _ _ _ _ ((omega (arith, c.requires.s_in_bounds, c.requires.rest.long))) c.requires.rest w }
+    let w : Skipped c.args.link.now c.args.to.now (member c.args.set.now) (get_or c.args.rest.now c.args.s 0) c.skip-k.result = rw c.wide.ensures at c.skip-k.ensures in record {
+      variant = ready-all c.args.head.now _ _ _ _ _ _ c.args.rest.now _ (sym c.contains.ensures ∙ c.if-contains.false) (sym c.contains-2.ensures ∙ c.if-contains-2.true)
+          c.if-all.true c.requires.linked c.requires.rest w;
+      rest_2 = rest-skip _ _ _ _ _ _ _ ((omega (arith, c.requires.s_in_bounds, c.requires.rest.long))) c.requires.rest w;
+    }
 
 pub returns-then-contains-2 : goal.returns-then-contains-2
 returns-then-contains-2 c =

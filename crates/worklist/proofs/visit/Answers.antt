@@ -10,7 +10,6 @@ use Rattle.worklist.proofs.Rest.{joins-ready}
 use Rattle.worklist.proofs.Stack.{walk_first, walk-each, walk-low, walk-joins, visit-first, visit-skip, visit-join, visit-last, work-room}
 use Rattle.worklist.proofs.visit.Goals as goal
 
-
 pub bounds-entry-t : goal.bounds-entry-t
 bounds-entry-t c =
     omega (arith, c.requires.turned.entry_size, c.requires.visit.low)
@@ -68,15 +67,14 @@ loop-k-preserved-then-joins c =
       passed-next _ _ _ _ _ _ _ c.loop-k.invariant.3 pos _ c.wide-k-then-joins.ensures (λ e. clash refl e),
       visit-join _ _ _ _ _ _ _ _ _ _ (walk-each c.args.entry.now _ _ _ _ _ c.loop-k.invariant.3 pos _ c.wide-s.ensures _ c.wide-k-then-joins.ensures) c.requires.turned.graph _ _ _ _ _ _ c.loop-k.invariant.4
           c.joins.ensures.rest_2 low ((let low = walk-low c.args.entry.now _ _ _ _ _ c.loop-k.invariant.3 c.loop-k-test.true _ c.wide-s.ensures in
-    omega (arith, c.requires.space.stack_room, c.loop-k.invariant.2, work-room _ _ _ _ c.loop-k.invariant.4.work.fit low (c.joins.ensures.variant.0 c.if-joins.true).out)))
+          omega (arith, c.requires.space.stack_room, c.loop-k.invariant.2, work-room _ _ _ _ c.loop-k.invariant.4.work.fit low (c.joins.ensures.variant.0 c.if-joins.true).out)))
           (walk-joins c.args.entry.now _ _ _ _ _ c.loop-k.invariant.3 pos _ c.wide-s.ensures c.args.all _ _ _ c.requires.turned.opposite c.requires.visit.low (c.loop-k.invariant.4.grew.grows _ c.requires.visit.reached) ready)
           c.insert.ensures,
     )
 
 pub loop-k-preserved : goal.loop-k-preserved
 loop-k-preserved c =
-    let pos = c.loop-k-test.true in
-    (
+    let pos = c.loop-k-test.true in (
       c.loop-k.invariant.0,
       c.joins.auto.rest ∙ c.loop-k.invariant.1,
       c.loop-k.invariant.2,

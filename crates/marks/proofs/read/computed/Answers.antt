@@ -13,36 +13,48 @@ returns-in_default c = record { result_value = rw (sym c.front.ensures.result_va
 pub returns-in_default-expression : goal.returns-in_default-expression
 unfolding parse_tail
 returns-in_default-expression c =
-    record { result_value = rw (
+    record {
+      result_value = rw (
         sym c.front.ensures.result_value ∙ ap (parsed_variable _) c.in-Found.is,
         sym c.expression.ensures.result_value ∙ ap (parsed_expression _) c.in_default-expression.is,
-      ); result_in_bounds = omega arith }
+      );
+      result_in_bounds = omega arith;
+    }
 
 pub returns-in_default-ended : goal.returns-in_default-ended
 unfolding parse_tail
 returns-in_default-ended c =
-    record { result_value = rw (
+    record {
+      result_value = rw (
         sym c.front.ensures.result_value ∙ ap (parsed_variable _) c.in-Found.is,
         sym c.expression.ensures.result_value ∙ ap (parsed_expression _) c.in-Found-expression.is,
         sym c.ended.ensures.result_value ∙ ap (parsed_word _) c.in_default-ended.is,
-      ); result_in_bounds = omega arith }
+      );
+      result_in_bounds = omega arith;
+    }
 
 pub returns-then-again : goal.returns-then-again
 unfolding parse_tail
 returns-then-again c =
-    record { result_value = rw (
+    record {
+      result_value = rw (
         sym c.front.ensures.result_value ∙ ap (parsed_variable _) c.in-Found.is,
         sym c.expression.ensures.result_value ∙ ap (parsed_expression _) c.in-Found-expression.is,
         sym c.ended.ensures.result_value ∙ ap (parsed_word _) c.in-Found-ended.is,
         c.if-again.true,
-      ); result_in_bounds = omega (arith, c.ended.ensures.result_in_bounds, ap word_end c.in-Found-ended.is) }
+      );
+      result_in_bounds = omega (arith, c.ended.ensures.result_in_bounds, ap word_end c.in-Found-ended.is);
+    }
 
 pub returns : goal.returns
 unfolding parse_tail
 returns c =
-    record { result_value = rw (
+    record {
+      result_value = rw (
         sym c.front.ensures.result_value ∙ ap (parsed_variable _) c.in-Found.is,
         sym c.expression.ensures.result_value ∙ ap (parsed_expression _) c.in-Found-expression.is,
         sym c.ended.ensures.result_value ∙ ap (parsed_word _) c.in-Found-ended.is,
         c.if-again.false,
-      ); result_in_bounds = omega (arith, c.ended.ensures.result_in_bounds, ap word_end c.in-Found-ended.is) }
+      );
+      result_in_bounds = omega (arith, c.ended.ensures.result_in_bounds, ap word_end c.in-Found-ended.is);
+    }

@@ -12,10 +12,13 @@ returns-in_default c = record { result_value = rw (sym c.statement_number.ensure
 pub returns-in_default-word : goal.returns-in_default-word
 unfolding parse_mark_line
 returns-in_default-word c =
-    record { result_value = rw (
+    record {
+      result_value = rw (
         sym c.statement_number.ensures.result_value ∙ ap (parsed_number _) c.in-Found.is,
         sym c.word.ensures.result_value ∙ ap (parsed_word _) c.in_default-word.is,
-      ); result_in_bounds = omega arith }
+      );
+      result_in_bounds = omega arith;
+    }
 
 pub kind-requires : goal.kind-requires
 kind-requires c =
@@ -24,7 +27,10 @@ kind-requires c =
 pub returns : goal.returns
 unfolding parse_mark_line
 returns c =
-    record { result_value = rw (
+    record {
+      result_value = rw (
         sym c.statement_number.ensures.result_value ∙ ap (parsed_number _) c.in-Found.is,
         sym c.word.ensures.result_value ∙ ap (parsed_word _) c.in-Found-word.is,
-      ) c.kind.ensures.result_value; result_in_bounds = c.kind.ensures.result_in_bounds }
+      ) c.kind.ensures.result_value;
+      result_in_bounds = c.kind.ensures.result_in_bounds;
+    }
