@@ -10,7 +10,7 @@ use Rattle.condition.specs.declared.Atom.TheVariants.{True, False, Entry, Exit, 
 pub data PathUnary : Type 0 where
   next finally globally : PathUnary
 
--- "p U q .. p 𝓛 q .. Backward, in that order: .. S, B"
+-- "p U q .. p W q .. Backward, in that order: .. S, B"
 pub data PathBinary : Type 0 where
   until weak : PathBinary
 
@@ -19,7 +19,7 @@ pub data Unary : Type 0 where
   negation : Unary
   path : Quant → Direction → PathUnary → Unary
 
--- "`(p & q)`, `(p | q)`"; "`E[p U q]`, `A[p U q]`, and the same with `𝓛`, `S`, `B`"
+-- "`(p & q)`, `(p | q)`"; "`E[p U q]`, `A[p U q]`, and the same with `W`, `S`, `B`"
 pub data Binary : Type 0 where
   conjunction disjunction : Binary
   path : Quant → Direction → PathBinary → Binary

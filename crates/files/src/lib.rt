@@ -28,6 +28,8 @@ pub const UNREAD: u8 = 2;
 pub const UNWRITTEN: u8 = 3;
 // The status goes to this descriptor, where the first argument is `--status`.
 const STATUS_FILENO: i32 = 3;
+// Standard output, by the system's name for it.
+const OUTPUT: &str = "/dev/stdout";
 // What the system says of a descriptor that isn't open.
 const NOT_OPEN: i32 = 9;
 
@@ -313,6 +315,20 @@ pub fn print(rt: &HostRuntime, text: &[u8], status: u8) -> u8
     UNWRITTEN
 }
 
+// Waits until the device has what was written, where standard output is a file: an error that comes late is told by that.
+fn synced(rt: &HostRuntime) -> Result<(), Error> {
+    let Ok(about) = std::fs::metadata(rt, OUTPUT) else {
+        return Ok(());
+    };
+    if !about.is_file() {
+        return Ok(());
+    }
+    let Ok(file) = File::options().append(true).open(rt, OUTPUT) else {
+        return Ok(());
+    };
+    file.sync_all()
+}
+
 // The status after standard output is flushed, which tells what was lost late.
 fn settled(rt: &HostRuntime, n: u8) -> u8
     ensures { Settles n result }
@@ -321,7 +337,11 @@ fn settled(rt: &HostRuntime, n: u8) -> u8
         return n;
     }
     let mut out = rt.stdout();
-    match out.flush() {
+    if let Err(e) = out.flush() {
+        fail(rt, b"standard output", e);
+        return UNWRITTEN;
+    }
+    match synced(rt) {
         Ok(()) => n,
         Err(e) => {
             fail(rt, b"standard output", e);

@@ -48,7 +48,7 @@ pub fn fill(
     arms: &mut [u8],
 ) -> ForceAnswer
     requires { (most ≤ length numbers.old) × (most ≤ length arms.old) }
-    ensures { ForceAnswers program.now driver.now condition.now table.old table.new result (record { numbers = numbers.entry.now; arms = arms.old }) (record { numbers = numbers.exit.now; arms = arms.new }) }
+    ensures { ForceAnswers program.now driver.now condition.now table.old table.new result (record { numbers = numbers.old; arms = arms.old }) (record { numbers = numbers.new; arms = arms.new }) }
 {
     if table.len() < TABLE_WORDS {
         return ForceAnswer::Refused(ROOM_NUMBER);

@@ -18,7 +18,7 @@ pub fn force(
     number: &mut [u32; MOST],
     arm: &mut [u8; MOST],
 ) -> u8
-    ensures { ForceExported program.now driver.now condition.now table.old table.new result (record { numbers = number.old; arms = arm.old }) (record { numbers = number.new; arms = arm.new }) (record { parts = parts.entry.now; satisfied = satisfied.old; first = first.old }) (record { parts = parts.exit.now; satisfied = satisfied.new; first = first.new }) }
+    ensures { ForceExported program.now driver.now condition.now table.old table.new result (record { numbers = number.old; arms = arm.old }) (record { numbers = number.new; arms = arm.new }) (record { parts = parts.old; satisfied = satisfied.old; first = first.old }) (record { parts = parts.new; satisfied = satisfied.new; first = first.new }) }
 {
     let answer = force::fill(program, driver, condition, table, number, arm);
     match answer {

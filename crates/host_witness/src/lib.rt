@@ -23,7 +23,7 @@ pub fn export(
     turn: &mut u32,
     truth: &mut u32,
 ) -> u8
-    ensures { WitnessExported program.now condition.now part statement path.old path.new result (record { length = length.entry.now; turn = turn.old; truth = truth.old }) (record { length = length.exit.now; turn = turn.new; truth = truth.new }) }
+    ensures { WitnessExported program.now condition.now part statement path.old path.new result (record { length = length.old; turn = turn.old; truth = truth.old }) (record { length = length.new; turn = turn.new; truth = truth.new }) }
 {
     let answer = explain::witness(program, condition, part, statement, path);
     match answer {

@@ -14,13 +14,16 @@ loop-at-init c = (refl, refl, searched-first _ _ _ _ _ _ _ _ c.start-hi.ensures)
 
 pub visit-hi-requires : goal.visit-hi-requires
 visit-hi-requires c =
-    let z = c.requires.space in record { space = record {
+    let z = c.requires.space in record {
+      space = record {
         linked = z.linked;
         through_room = z.through_room;
         numbers_size = c.loop-at.invariant.0 ∙ c.start-hi.auto.numbers ∙ z.numbers_size;
         queue_room = omega (arith, z.queue_room, c.loop-at.invariant.1, c.start-hi.auto.queue);
         small = z.small;
-      }; at_lt_hi = (c.loop-at-test.true, (member c.args.goal.now, c.loop-at.invariant.2)) }
+      };
+      at_lt_hi = (c.loop-at-test.true, (member c.args.goal.now, c.loop-at.invariant.2));
+    }
 
 pub overflow_add-at : goal.overflow_add-at
 overflow_add-at c = omega (arith, c.requires.space.small, (searched-low _ _ _ _ _ _ _ _ _ c.loop-at.invariant.2 c.loop-at-test.true).0)

@@ -95,8 +95,7 @@ loop-k-smaller c = rw c.wide-k-else-joins.ensures (passed-less _ _ _ _ _ _ _ c.l
 
 pub loop-k-preserved : goal.loop-k-preserved
 loop-k-preserved c =
-    let pos = c.loop-k-test.true in
-    (
+    let pos = c.loop-k-test.true in (
       c.loop-k.invariant.0,
       c.loop-k.invariant.1,
       passed-next _ _ _ _ _ _ _ c.loop-k.invariant.2 pos _ c.wide-k-else-joins.ensures (λ e. clash refl e),
@@ -111,3 +110,13 @@ shape_of-queue c = c.loop-k.invariant.1
 
 pub returns : goal.returns
 returns c = λ goal w. visiting-last _ _ _ _ _ _ _ _ _ _ _ _ (c.loop-k.invariant.3 goal w) (λ s. let d : c.loop-k.k ≡ 0 = omega (arith, c.loop-k-test.false) in ap (λ (i : ℕ). listed c.args.chain.now c.args.from.now i s) d ∙ listed-end c.args.chain.now c.args.from.now s)
+
+pub offset_bounds-queue-h : goal.offset_bounds-queue-h
+offset_bounds-queue-h c = let low = walk-low c.args.entry.now _ _ _ _ _ c.loop-k.invariant.2 c.loop-k-test.true _ c.wide-s.ensures in
+    let v = c.loop-k.invariant.3 c.requires.at_lt_hi.1.0 c.requires.at_lt_hi.1.1 in
+    omega (arith, c.well_formed, c.loop-k.invariant.1, c.requires.space.queue_room, visiting-room _ _ _ _ _ _ _ _ _ _ _ _ v _ _ (walk-each c.args.entry.now _ _ _ _ _ c.loop-k.invariant.2 c.loop-k-test.true _ c.wide-s.ensures _ refl) low (c.loop-k.invariant.0 ∙ c.requires.space.numbers_size) (sym c.joins.ensures ∙ c.if-joins.true))
+
+pub overflow_add-h : goal.overflow_add-h
+overflow_add-h c = let low = walk-low c.args.entry.now _ _ _ _ _ c.loop-k.invariant.2 c.loop-k-test.true _ c.wide-s.ensures in
+    let v = c.loop-k.invariant.3 c.requires.at_lt_hi.1.0 c.requires.at_lt_hi.1.1 in
+    omega (arith, c.well_formed, c.loop-k.invariant.1, c.requires.space.queue_room, visiting-room _ _ _ _ _ _ _ _ _ _ _ _ v _ _ (walk-each c.args.entry.now _ _ _ _ _ c.loop-k.invariant.2 c.loop-k-test.true _ c.wide-s.ensures _ refl) low (c.loop-k.invariant.0 ∙ c.requires.space.numbers_size) (sym c.joins.ensures ∙ c.if-joins.true))

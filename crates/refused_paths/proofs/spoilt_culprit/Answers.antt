@@ -1,6 +1,5 @@
 -- `spoilt_culprit` meets its contract, by the row of the definitions and that of the kept expression. Assumes nothing.
 use Rattle.refused_paths.proofs.Culprits.{by-definition, by-spoiling, by-start}
-use Rattle.base.proofs.Bools.{false_of_not, true_of_not}
 use mathlib.Core.Path.{sym, ◌∙◌}
 use Rattle.refused_paths.proofs.spoilt_culprit.Goals as goal
 
@@ -11,10 +10,4 @@ pub returns-then-not-contains : goal.returns-then-not-contains
 returns-then-not-contains c = λ P f touched.
     let defined = c.row.ensures P f.size f.facts in
     let kept = c.row-2.ensures P f.size f.facts in
-    by-spoiling P _ c.args.e _ _ c.requires.3 touched defined (sym c.contains.ensures ∙ c.if-contains.false) kept (sym c.contains-2.ensures ∙ false_of_not _ c.if-not-contains.true)
-
-pub returns : goal.returns
-returns c = λ P f touched.
-    let defined = c.row.ensures P f.size f.facts in
-    let kept = c.row-2.ensures P f.size f.facts in
-    by-start P _ c.args.e _ _ c.requires.3 touched defined (sym c.contains.ensures ∙ c.if-contains.false) kept (sym c.contains-2.ensures ∙ true_of_not _ c.if-not-contains.false)
+    by-spoiling P _ c.args.e _ _ c.requires.3 touched defined (sym c.contains.ensures ∙ c.if-contains.false) kept (sym c.contains-2.ensures ∙ c.if-not-contains.true)

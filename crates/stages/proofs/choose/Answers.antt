@@ -6,7 +6,7 @@ use Rattle.stages.proofs.choose.Goals as goal
 use Rattle.stages.proofs.choose.Goals.{In-Nowhere}
 
 unknown : (c : In-Nowhere) → Unknown c.args.stages.now c.args.name.now
-unknown c = rw c.in-Nowhere.is at c.find-known.ensures
+unknown c = c.in-Nowhere.ensures
 
 pub returns-in-Nowhere : goal.returns-in-Nowhere
 returns-in-Nowhere c =
@@ -16,4 +16,4 @@ pub first_empty-requires : goal.first_empty-requires
 first_empty-requires c = (c.requires.0, c.requires.1, unknown (goal.at.first_empty-requires c).In-Nowhere)
 
 pub returns-in-At : goal.returns-in-At
-returns-in-At c = inl (rw c.in-At.is at c.find-known.ensures)
+returns-in-At c = inl (c.in-At.ensures)

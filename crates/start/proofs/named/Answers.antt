@@ -24,29 +24,38 @@ returns-then-x-k c =
 
 pub returns-in_default-word : goal.returns-in_default-word
 unfolding parse_named
-returns-in_default-word c = record { result_value = rw (
+returns-in_default-word c = record {
+  result_value = rw (
     le-leb fewest _ c.if-k-lt-FEWEST.false,
     sym c.variable.ensures.result_value ∙ ap (parsed_variable _) c.in-Found.is,
     le-leb _ (2 + c.in-Found.x) c.if-x-k.false,
     sym c.word.ensures.result_value ∙ ap (parsed_word _) c.in_default-word.is,
-  ); result_in_bounds = omega arith }
+  );
+  result_in_bounds = omega arith;
+}
 
 pub returns-in_default-constant : goal.returns-in_default-constant
 unfolding parse_named
-returns-in_default-constant c = record { result_value = rw (
+returns-in_default-constant c = record {
+  result_value = rw (
     le-leb fewest _ c.if-k-lt-FEWEST.false,
     sym c.variable.ensures.result_value ∙ ap (parsed_variable _) c.in-Found.is,
     le-leb _ (2 + c.in-Found.x) c.if-x-k.false,
     sym c.word.ensures.result_value ∙ ap (parsed_word _) c.in-Found-word.is,
     sym c.constant.ensures.result_value ∙ ap (parsed_number _) c.in_default-constant.is,
-  ); result_in_bounds = omega arith }
+  );
+  result_in_bounds = omega arith;
+}
 
 pub returns : goal.returns
 unfolding parse_named
-returns c = record { result_value = rw (
+returns c = record {
+  result_value = rw (
     le-leb fewest _ c.if-k-lt-FEWEST.false,
     sym c.variable.ensures.result_value ∙ ap (parsed_variable _) c.in-Found.is,
     le-leb _ (2 + c.in-Found.x) c.if-x-k.false,
     sym c.word.ensures.result_value ∙ ap (parsed_word _) c.in-Found-word.is,
     sym c.constant.ensures.result_value ∙ ap (parsed_number _) c.in-Found-constant.is,
-  ); result_in_bounds = omega (arith, c.constant.ensures.result_in_bounds, ap number_end c.in-Found-constant.is) }
+  );
+  result_in_bounds = omega (arith, c.constant.ensures.result_in_bounds, ap number_end c.in-Found-constant.is);
+}

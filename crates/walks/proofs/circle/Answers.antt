@@ -59,3 +59,13 @@ shape_of-path c = c.loop-seen.invariant.0
 
 pub returns : goal.returns
 returns c = circling-last _ _ _ _ c.requires.linked.1 c.requires.some_endless.0.endless.inside _ _ _ _ _ c.loop-seen.invariant.2 _ refl c.wide.ensures c.loop-seen-test.false
+
+pub offset_bounds-path-k : goal.offset_bounds-path-k
+offset_bounds-path-k c = omega (arith, c.well_formed, c.loop-seen.invariant.0, c.requires.head_in_bounds, low (goal.at.offset_bounds-path-k c).In-loop-seen)
+
+pub loop-seen-preserved : goal.loop-seen-preserved
+loop-seen-preserved c = (
+  length-set c.loop-seen.path c.loop-seen.k (c.loop-seen.place + 1) ∙ c.loop-seen.invariant.0,
+  length-set c.loop-seen.seen c.loop-seen.place (c.loop-seen.k + 1) ∙ c.loop-seen.invariant.1,
+  circling-more _ _ _ _ c.requires.linked.1 c.requires.some_endless.0.endless.inside _ _ _ _ _ c.loop-seen.invariant.2 c.loop-seen-test.true (omega (arith, c.loop-seen.invariant.1, c.requires.linked.2)) (omega (arith, c.requires.head_in_bounds, c.loop-seen.invariant.0, low (goal.at.loop-seen-preserved c).In-loop-seen)) _ c.onward-place.ensures.0 c.onward-place.ensures.1,
+)

@@ -41,3 +41,10 @@ bounds-path-k-2 c = omega (arith, c.requires.head_in_bounds, c.loop-place.invari
 
 pub shape_of-path : goal.shape_of-path
 shape_of-path c = length-set c.loop-place.path c.loop-place.k (c.loop-place.place + 1) ∙ c.loop-place.invariant.0
+
+pub loop-place-preserved : goal.loop-place-preserved
+loop-place-preserved c =
+    (length-set c.loop-place.path c.loop-place.k (c.loop-place.place + 1) ∙ c.loop-place.invariant.0, walking-more _ _ _ c.requires.linked.1 _ _ _ _ _ _ c.loop-place.invariant.1 c.requires.some_numbered.0 (omega (arith, c.requires.head_in_bounds, c.loop-place.invariant.0, c.loop-place.invariant.1.ends, walking-low _ _ _ c.requires.linked.1 _ _ _ _ _ _ c.loop-place.invariant.1 c.requires.some_numbered.0)) c.loop-place-test.true _ c.nearest-place.ensures)
+
+pub returns : goal.returns
+returns c = walking-last _ _ _ c.requires.linked.1 _ _ _ _ _ _ c.loop-place.invariant.1 c.requires.some_numbered.0 (omega (arith, c.requires.head_in_bounds, c.loop-place.invariant.0, c.loop-place.invariant.1.ends, walking-low _ _ _ c.requires.linked.1 _ _ _ _ _ _ c.loop-place.invariant.1 c.requires.some_numbered.0)) c.loop-place-test.false
