@@ -37,8 +37,8 @@ module _ (n t rest : List ℕ) (few : length n ≤ name_bytes) where
   text-behind : drop head_bytes bytes ≡ t ++ rest
   text-behind = ap (λ (i : ℕ). drop (i + 2) bytes) (sym size) ∙ drop-append-add (filled n) behind 2
 
-  text_in : text_in bytes ≡ t
-  text_in = ap (take (length_in bytes)) text-behind ∙ take_at t rest (length_in bytes) (sym told)
+  text-inside : text_in bytes ≡ t
+  text-inside = ap (take (length_in bytes)) text-behind ∙ take_at t rest (length_in bytes) (sym told)
 
   pub written_stands : {P : List Statement} → ValidName n → Taken t P → length t ≤ text_room → (b : List ℕ) → b ≡ written n t ++ rest → Stands b n t
   written_stands {P} v taken short b is = rw (is ∙ append_assoc (filled n) (length t % 256 ∷ length t / 256 ∷ t) rest) (record {
@@ -46,7 +46,7 @@ module _ (n t rest : List ℕ) (few : length n ≤ name_bytes) where
     valid = v;
     named = take_at (filled n) behind name_bytes size;
     short = omega (arith, told);
-    text = sym text_in;
+    text = sym text-inside;
     taken = taken;
   })
 

@@ -5,3 +5,4 @@ pub mod Room
 pub mod Views
 pub mod Refusals
 pub mod Unique
+pub mod Rows

@@ -46,35 +46,42 @@ returns-then-not-agree c =
 
 pub step-next-requires : goal.step-next-requires
 step-next-requires c =
-    record { valid = (rw c.statement_of-s.ensures (right c.args.p c.loop-k.place c.requires.well_formed c.loop-k.invariant.inside)).0; targets = (rw c.statement_of-s.ensures (right c.args.p c.loop-k.place c.requires.well_formed c.loop-k.invariant.inside)).1.0; at_lt_most = (rw c.statement_of-s.ensures (right c.args.p c.loop-k.place c.requires.well_formed c.loop-k.invariant.inside)).1.1 }
+    let a = right c.args.p c.loop-k.place c.requires.well_formed c.loop-k.invariant.inside in
+    record { valid = rw c.statement_of-s.ensures a.0; targets = rw c.statement_of-s.ensures a.1.0; at_lt_most = a.1.1 }
 
 pub step-requires : goal.step-requires
 step-requires c =
-    record { valid = (rw c.statement_of-t.ensures (right c.args.q c.loop-k.place c.requires.well_formed_2 (omega (arith, c.requires.q_len, c.loop-k.invariant.inside)))).0; targets = (rw c.statement_of-t.ensures (right c.args.q c.loop-k.place c.requires.well_formed_2 (omega (arith, c.requires.q_len, c.loop-k.invariant.inside)))).1.0; at_lt_most = (rw c.statement_of-t.ensures (right c.args.q c.loop-k.place c.requires.well_formed_2 (omega (arith, c.requires.q_len, c.loop-k.invariant.inside)))).1.1 }
+    let b = right c.args.q c.loop-k.place c.requires.well_formed_2 (omega (arith, c.requires.q_len, c.loop-k.invariant.inside)) in
+    record { valid = rw c.statement_of-t.ensures b.0; targets = rw c.statement_of-t.ensures b.1.0; at_lt_most = b.1.1 }
 
 pub line-to-requires : goal.line-to-requires
 line-to-requires c =
-    let k = t.before.before.loop.place in
-    let i = t.before.before.loop.invariant in
-    let a = right c.args.p k c.requires.well_formed i.inside in
-    let b = right c.args.q k c.requires.well_formed_2 (omega (arith, c.requires.q_len, i.inside)) in
-    record { valid = (rw (c.statement_of-s.ensures, c.statement_of-t.ensures) ((a.0, a.1.0), ((b.0, b.1.0), (a.1.1, omega (arith, t.if1.false, i.fits, i.same))))).0; valid_2 = (rw (c.statement_of-s.ensures, c.statement_of-t.ensures) ((a.0, a.1.0), ((b.0, b.1.0), (a.1.1, omega (arith, t.if1.false, i.fits, i.same))))).1.0; place_lt_most = (rw (c.statement_of-s.ensures, c.statement_of-t.ensures) ((a.0, a.1.0), ((b.0, b.1.0), (a.1.1, omega (arith, t.if1.false, i.fits, i.same))))).1.1.0; line_room_in_bounds = (rw (c.statement_of-s.ensures, c.statement_of-t.ensures) ((a.0, a.1.0), ((b.0, b.1.0), (a.1.1, omega (arith, t.if1.false, i.fits, i.same))))).1.1.1 }
+    let a = right c.args.p c.loop-k.place c.requires.well_formed c.loop-k.invariant.inside in
+    let b = right c.args.q c.loop-k.place c.requires.well_formed_2 (omega (arith, c.requires.q_len, c.loop-k.invariant.inside)) in
+    record {
+      valid = rw c.statement_of-s.ensures (a.0, a.1.0);
+      valid_2 = rw c.statement_of-t.ensures (b.0, b.1.0);
+      place_lt_most = a.1.1;
+      line_room_in_bounds = omega (arith, c.if-out-to-lt-LINE_ROOM.false, c.loop-k.invariant.fits, c.loop-k.invariant.same);
+    }
 
 pub loop-k-preserved : goal.loop-k-preserved
 loop-k-preserved c =
-    let i = t.before.before.loop.invariant in
-    let b = y.step2 in
     let goes = rw c.in-To.is at c.way_on-way.ensures in
-    going_more c.args.p c.args.q _ _ _ _ _ c.step-next.new.values b.new.1.1.1.0 c.step-next.result b.result (rw c.statement_of-s.ensures at c.step-next.ensures) (rw c.statement_of-t.ensures at b.ensures)
-    c.requires.well_formed c.requires.well_formed_2 (λ rows m n. decided-true c.agree.result (true_of_not c.agree.result f.if2.false) (c.agree.ensures (statements c.args.p) rows i.inside m n))
-    i t.before.loop-test.true _ goes (omega (arith, t.if1.false, i.fits, i.same)) c.line-to.ensures.1 (rw (c.statement_of-s.ensures, c.statement_of-t.ensures) at c.line-to.ensures.0)
+    going_more c.args.p c.args.q _ _ _ _ _ c.step-next.new.values c.step.new.values c.step-next.result c.step.result (rw c.statement_of-s.ensures at c.step-next.ensures) (rw c.statement_of-t.ensures at c.step.ensures)
+        c.requires.well_formed c.requires.well_formed_2 (λ rows m n. decided-true c.agree.result (true_of_not c.agree.result c.if-not-agree.false) (c.agree.ensures (statements c.args.p) rows c.loop-k.invariant.inside m n))
+        c.loop-k.invariant c.loop-k-test.true _ goes (omega (arith, c.if-out-to-lt-LINE_ROOM.false, c.loop-k.invariant.fits, c.loop-k.invariant.same)) c.line-to.ensures.1 (rw (c.statement_of-s.ensures, c.statement_of-t.ensures) at c.line-to.ensures.0)
 
 pub line-to-requires-in-Ended : goal.line-to-requires-in-Ended
 line-to-requires-in-Ended c =
-    let k = c.loop-k.place in
-    let a = right c.args.p k c.requires.well_formed c.loop-k.invariant.inside in
-    let b = right c.args.q k c.requires.well_formed_2 (omega (arith, c.requires.q_len, c.loop-k.invariant.inside)) in
-    record { valid = (rw (c.statement_of-s.ensures, c.statement_of-t.ensures) ((a.0, a.1.0), ((b.0, b.1.0), (a.1.1, omega (arith, t.if1.false, c.loop-k.invariant.fits, c.loop-k.invariant.same))))).0; valid_2 = (rw (c.statement_of-s.ensures, c.statement_of-t.ensures) ((a.0, a.1.0), ((b.0, b.1.0), (a.1.1, omega (arith, t.if1.false, c.loop-k.invariant.fits, c.loop-k.invariant.same))))).1.0; place_lt_most = (rw (c.statement_of-s.ensures, c.statement_of-t.ensures) ((a.0, a.1.0), ((b.0, b.1.0), (a.1.1, omega (arith, t.if1.false, c.loop-k.invariant.fits, c.loop-k.invariant.same))))).1.1.0; line_room_in_bounds = (rw (c.statement_of-s.ensures, c.statement_of-t.ensures) ((a.0, a.1.0), ((b.0, b.1.0), (a.1.1, omega (arith, t.if1.false, c.loop-k.invariant.fits, c.loop-k.invariant.same))))).1.1.1 }
+    let a = right c.args.p c.loop-k.place c.requires.well_formed c.loop-k.invariant.inside in
+    let b = right c.args.q c.loop-k.place c.requires.well_formed_2 (omega (arith, c.requires.q_len, c.loop-k.invariant.inside)) in
+    record {
+      valid = rw c.statement_of-s.ensures (a.0, a.1.0);
+      valid_2 = rw c.statement_of-t.ensures (b.0, b.1.0);
+      place_lt_most = a.1.1;
+      line_room_in_bounds = omega (arith, c.if-out-to-lt-LINE_ROOM.false, c.loop-k.invariant.fits, c.loop-k.invariant.same);
+    }
 
 pub shape_of-out-in-Ended : goal.shape_of-out-in-Ended
 shape_of-out-in-Ended c =
@@ -83,12 +90,12 @@ shape_of-out-in-Ended c =
 
 pub returns-in-Ended : goal.returns-in-Ended
 returns-in-Ended c =
-    let end : c.line-to-in-Ended.result ≤ length c.args.out.now = omega (arith, c.line-to-in-Ended.ensures.1, t.if1.false, c.loop-k.invariant.fits, c.loop-k.invariant.same) in
+    let end : c.line-to-in-Ended.result ≤ length c.args.out.now = omega (arith, c.line-to-in-Ended.ensures.1, c.if-out-to-lt-LINE_ROOM.false, c.loop-k.invariant.fits, c.loop-k.invariant.same) in
     let us = c.step-next.new.values in
     let over = ((rw c.in-Ended.is at c.way_on-way.ensures) us).1 in
     ended-step c.args.p c.args.q _ _ _ _ _ us c.step.new.values c.step-next.result c.step.result (rw c.statement_of-s.ensures at c.step-next.ensures) (rw c.statement_of-t.ensures at c.step.ensures)
     c.requires.well_formed c.requires.well_formed_2 (λ rows m n. decided-true c.agree.result (true_of_not c.agree.result c.if-not-agree.false) (c.agree.ensures (statements c.args.p) rows c.loop-k.invariant.inside m n))
-    c.loop-k.invariant t.before.loop-test.true _ _ refl refl refl refl refl over end (rw (c.statement_of-s.ensures, c.statement_of-t.ensures) at c.line-to-in-Ended.ensures.0)
+    c.loop-k.invariant c.loop-k-test.true _ _ refl refl refl refl refl over end (rw (c.statement_of-s.ensures, c.statement_of-t.ensures) at c.line-to-in-Ended.ensures.0)
 
 pub shape_of-out : goal.shape_of-out
 shape_of-out c = c.loop-k.invariant.same

@@ -28,11 +28,6 @@ returns-in-Refused c =
 program-taken : (c : In_default) → Taken c.args.program.now (statements c.read-reading.result.program) × Held c.read-reading.result.program
 program-taken c = rw c.in_default.is at c.read-reading.ensures
 
-pub returns-then-not-read : goal.returns-then-not-read
-returns-then-not-read c =
-    let d = rw (false_of_not c.read.result c.if-not-read.true) at c.read.ensures in
-    (inr (inr (c.if-table-lt-TABLE_WORDS.false, statements c.read-reading.result.program, (program-taken (goal.at.returns-then-not-read c).In_default).0, driver, d.0, refl)), refl, refl)
-
 -- and the condition
 condition-held : (c : In-Taken) → SomeHeld c.args.condition.now c.in-Taken.parts c.read-conditions.result.words
 condition-held c = let h = rw c.in-Taken.is at c.read-conditions.ensures in record { c = h.0; held = record { taken = h.1; held = h.2 } }
@@ -48,36 +43,11 @@ row_of-goal-requires c =
     let h = (condition-held (goal.at.row_of-goal-requires c).In-Taken).held in
     omega (arith, held-some h, held-few h, c.if-table-lt-TABLE_WORDS.false, c.fill-summary.auto.table)
 
-pub of-requires : goal.of-requires
-of-requires c =
-    let p = program-taken (goal.at.of-requires c).In_default in
-    let few = p.1.few in
-    let goal = ap length c.row_of-goal.ensures ∙ row-length _ _ _ ((let h = (condition-held (goal.at.of-requires c).In-Taken).held in
-    omega (arith, held-some h, held-few h, c.if-table-lt-TABLE_WORDS.false, c.fill-summary.auto.table)) c.row_of-goal.lifetimes) in
-    record {
-      held = p.1;
-      well_formed = p.0.program;
-      lent = record {
-        size = c.fill-summary.auto.flow ∙ c.blank-flow.ensures.size;
-        flows = c.fill-summary.ensures.flows;
-        named_room = omega (arith, c.blank-named.ensures.size, c.read.auto.named);
-        goal_room = omega (arith, goal, few);
-        numbers_room = omega (arith, c.requires.0, few);
-        arms_room = omega (arith, c.requires.1, few);
-      };
-    }
-
-pub returns-in-Refused-told : goal.returns-in-Refused-told
-returns-in-Refused-told c =
-    let d = rw (true_of_not c.read.result c.if-not-read.false) at c.read.ensures in
-    let f = rw c.in-Refused-told.is at c.read-conditions.ensures in
-    (inr (inr (c.if-table-lt-TABLE_WORDS.false, statements c.read-reading.result.program, (program-taken (goal.at.returns-in-Refused-told c).In_default).0, condition c.in-Refused-told.refusal, ((d.0, d.1), f.0), c.number_of-in-Refused-told.ensures)), refl, refl)
-
 pub returns-in-Taken : goal.returns-in-Taken
 returns-in-Taken c =
     let p = program-taken (goal.at.returns-in-Taken c).In_default in
     let h = condition-held (goal.at.returns-in-Taken c).In-Taken in
-    let d = rw (true_of_not c.read.result c.if-not-read.false) at c.read.ensures in
+    let d = rw c.if-not-read.false at c.read.ensures in
     let forced = rw c.row_of-goal.ensures at (c.of.ensures.by_index (among d.0) d.2) in
     filled h.held p.0 c.if-table-lt-TABLE_WORDS.false (c.fill-summary.ensures.table h.c h.held) c.fill-summary.ensures.counts d.1 forced
     (beyond-kept (statements-size _ p.1) c.of.auto.numbers c.of.auto.arms c.of.ensures.kept)

@@ -1,17 +1,15 @@
 -- `go_back` meets its contract. Assumes nothing.
 use mathlib.Core.Path.{◌≡◌, refl, sym, ap, ◌∙◌}
+use mathlib.Core.List.{List}
 use mathlib.Core.Logic.{inl, inr}
 use Prim.Native.Nat.{ℕ, ◌+◌, ◌-◌, ◌≤◌}
 use native.Mathlib.Omega.{arith}
 use lib.ListN.{length, take, drop}
 use Rattle.base.proofs.Decides.{decided-true, decided-false}
-use Rattle.program.specs.Program.{text_room}
-use Rattle.stage_names.specs.Names.{ValidName}
 use Rattle.stages.specs.Stages.{head_bytes, most_text, length_in, text_in, place}
 use Rattle.stages.specs.Choice.{HasName}
 use Rattle.stages.proofs.Places.{taken-short}
 use Rattle.stages.proofs.Looking.{part-text}
-use Rattle.go_back.specs.Return.{Room}
 use Rattle.go_back.proofs.go_back.Goals as goal
 
 -- ---- the text of the place that was found
@@ -43,18 +41,18 @@ pub part-place-requires : goal.part-place-requires
 part-place-requires c = (c.if-stages-lt-STAGE_BYTES.false, c.in-At.ensures.1.inside)
 
 pub overflow_add-end : goal.overflow_add-end
-overflow_add-end c = omega (arith, within c.in-At.ensures c.length_of.ensures c.part-place.ensures.0)
+overflow_add-end c = omega (arith, within c.in-At.ensures c.length_of-end.ensures c.part-place.ensures.0)
 
 pub slice_bounds-word-end : goal.slice_bounds-word-end
-slice_bounds-word-end c = omega (arith, within c.in-At.ensures c.length_of.ensures c.part-place.ensures.0, c.part-place.ensures.1)
+slice_bounds-word-end c = omega (arith, within c.in-At.ensures c.length_of-end.ensures c.part-place.ensures.0, c.part-place.ensures.1)
 
 pub word-bytes-requires : goal.word-bytes-requires
 word-bytes-requires c =
-    omega (arith, ap length (lent c.part-place.result.now _ c.in-At.ensures c.length_of.ensures c.part-place.ensures.0), taken-short c.in-At.ensures.1.stands.taken, c.if-text-lt-TEXT_BYTES.false)
+    omega (arith, ap length (lent c.part-place.result.now _ c.in-At.ensures c.length_of-end.ensures c.part-place.ensures.0), taken-short c.in-At.ensures.1.stands.taken, c.if-text-lt-TEXT_BYTES.false)
 
 pub overflow_cast-result : goal.overflow_cast-result
 overflow_cast-result c =
-    omega (arith, c.word-bytes.ensures.after, ap length (lent c.part-place.result.now _ c.in-At.ensures c.length_of.ensures c.part-place.ensures.0), taken-short c.in-At.ensures.1.stands.taken)
+    omega (arith, c.word-bytes.ensures.after, ap length (lent c.part-place.result.now _ c.in-At.ensures c.length_of-end.ensures c.part-place.ensures.0), taken-short c.in-At.ensures.1.stands.taken)
 
 pub returns : goal.returns
 returns c =
@@ -65,5 +63,5 @@ returns c =
       valid = decided-true c.valid.result c.if-not-valid.false c.valid.ensures;
       holds = c.in-At.ensures.1;
       fits = omega (arith, taken-short c.in-At.ensures.1.stands.taken, c.if-text-lt-TEXT_BYTES.false);
-      written = rw (lent c.part-place.result.now _ c.in-At.ensures c.length_of.ensures c.part-place.ensures.0) at c.word-bytes.ensures;
+      written = rw (lent c.part-place.result.now _ c.in-At.ensures c.length_of-end.ensures c.part-place.ensures.0) at c.word-bytes.ensures;
     }

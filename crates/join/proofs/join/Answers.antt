@@ -15,35 +15,26 @@ use Rattle.join.proofs.join.Goals as goal
 use Rattle.join.proofs.join.Goals.{In_default, In_default-follows}
 
 -- ---- the road's text is read
-abbrev tested : In_default → Else-text-lt-TEXT_BYTES
-tested c = c
-
-abbrev start : In_default → Start
-start c = c
-
 abbrev roadOf : In_default → Program
 roadOf c = c.read-first.result.program
 
-road-taken : (c : In_default) → Taken (start c).args.road.now (statements (roadOf c)) × Held (roadOf c)
+road-taken : (c : In_default) → Taken c.args.road.now (statements (roadOf c)) × Held (roadOf c)
 road-taken c = rw c.in_default.is at c.read-first.ensures
 
 -- ---- and the creeper's
-abbrev road : In_default-follows → In_default
-road c = c
-
 abbrev creeperOf : In_default-follows → Program
 creeperOf c = c.read-second.result.program
 
-creeper-taken : (c : In_default-follows) → Taken (start (road c)).args.creeper.now (statements (creeperOf c)) × Held (creeperOf c)
+creeper-taken : (c : In_default-follows) → Taken c.args.creeper.now (statements (creeperOf c)) × Held (creeperOf c)
 creeper-taken c = rw c.in_default-follows.is at c.read-second.ensures
 
-module _ (c : tie.After-enum-told2) (few : (roadOf (road c)).count + (creeperOf c).count ≤ most + 1) where
+module _ (c : In_default) (d : In_default-follows) (few : (roadOf c).count + (creeperOf d).count ≤ most + 1) where
   -- both fit together, and their text the room
-  fits : length (statements (roadOf (road c))) + length (statements (creeperOf c)) ≤ most + 1
-  fits = together (road-taken (road c)).1 (creeper-taken c).1 few
+  fits : length (statements (roadOf c)) + length (statements (creeperOf d)) ≤ most + 1
+  fits = together (road-taken c).1 (creeper-taken d).1 few
 
-  short : length (text (joined (statements (roadOf (road c))) (statements (creeperOf c)))) ≤ text_bytes
-  short = text-short (road-taken (road c)).0 (creeper-taken c).0 fits
+  short : length (text (joined (statements (roadOf c)) (statements (creeperOf d)))) ≤ text_bytes
+  short = text-short (road-taken c).0 (creeper-taken d).0 fits
 
 -- ---- what each return owes
 pub returns-then-text-lt-TEXT_BYTES : goal.returns-then-text-lt-TEXT_BYTES
@@ -57,38 +48,38 @@ returns-in-Refused c =
 pub returns-in-Refused-follows : goal.returns-in-Refused-follows
 returns-in-Refused-follows c =
     let read = rw c.in-Refused-follows.is at c.read-second.ensures in
-    (inr (inr ((tested (goal.at.returns-in-Refused-follows c).In_default).if1.false, statements (roadOf (goal.at.returns-in-Refused-follows c).In_default), (road-taken (goal.at.returns-in-Refused-follows c).In_default).0, creeper c.in-Refused-follows.refusal, read.0, c.number_of-number.ensures)), refl)
+    (inr (inr (c.if-text-lt-TEXT_BYTES.false, statements (roadOf (goal.at.returns-in-Refused-follows c).In_default), (road-taken (goal.at.returns-in-Refused-follows c).In_default).0, creeper c.in-Refused-follows.refusal, read.0, c.number_of-number.ensures)), refl)
 
 pub overflow_add-n : goal.overflow_add-n
-overflow_add-n c = omega (arith, (road-taken (road (goal.at.overflow_add-n c).In_default-follows)).1.few, (creeper-taken (goal.at.overflow_add-n c).In_default-follows).1.few)
+overflow_add-n c = omega (arith, (road-taken (goal.at.overflow_add-n c).In_default).1.few, (creeper-taken (goal.at.overflow_add-n c).In_default-follows).1.few)
 
 pub returns-then-n-m : goal.returns-then-n-m
 returns-then-n-m c =
-    let p = road-taken (road (goal.at.returns-then-n-m c).In_default-follows) in
+    let p = road-taken (goal.at.returns-then-n-m c).In_default in
     let q = creeper-taken (goal.at.returns-then-n-m c).In_default-follows in
-    let P = statements (roadOf (road (goal.at.returns-then-n-m c).In_default-follows)) in
+    let P = statements (roadOf (goal.at.returns-then-n-m c).In_default) in
     let Q = statements (creeperOf (goal.at.returns-then-n-m c).In_default-follows) in
     let few : most < length P + length Q - 1 = omega (arith, c.if-n-m.true, held-size p.1, held-size q.1) in
-    (inr (inr ((tested (road (goal.at.returns-then-n-m c).In_default-follows)).if1.false, P, p.0, long, (P, Q, p.0, q.0, few), refl)), refl)
+    (inr (inr (c.if-text-lt-TEXT_BYTES.false, P, p.0, long, (P, Q, p.0, q.0, few), refl)), refl)
 
 pub write-bytes-requires : goal.write-bytes-requires
 write-bytes-requires c =
-    let p = road-taken (road (goal.at.write-bytes-requires c).In_default-follows) in
+    let p = road-taken (goal.at.write-bytes-requires c).In_default in
     let q = creeper-taken (goal.at.write-bytes-requires c).In_default-follows in
     let few = c.if-n-m.false in
-    record { held = (p.1, p.0.program); held_2 = (q.1, q.0.program); count_bound = omega (arith, few); creeper_in_bounds = omega (arith, (tested (road (goal.at.write-bytes-requires c).In_default-follows)).if1.false, short c few) }
+    record { held = (p.1, p.0.program); held_2 = (q.1, q.0.program); count_bound = omega (arith, few); creeper_in_bounds = omega (arith, c.if-text-lt-TEXT_BYTES.false, short (goal.at.write-bytes-requires c).In_default (goal.at.write-bytes-requires c).In_default-follows few) }
 
 pub overflow_sub-statements : goal.overflow_sub-statements
 overflow_sub-statements c =
-    let p = road-taken (road (goal.at.overflow_sub-statements c).In_default-follows) in
+    let p = road-taken (goal.at.overflow_sub-statements c).In_default in
     omega (arith, held-size p.1, p.0.program.counted.0)
 
 pub overflow_cast-length : goal.overflow_cast-length
 overflow_cast-length c =
-    omega (arith, c.write-bytes.ensures.after, short c c.if-n-m.false)
+    omega (arith, c.write-bytes.ensures.after, short (goal.at.overflow_cast-length c).In_default (goal.at.overflow_cast-length c).In_default-follows c.if-n-m.false)
 
 pub returns : goal.returns
 returns c =
-    let p = road-taken (road (goal.at.returns c).In_default-follows) in
+    let p = road-taken (goal.at.returns c).In_default in
     let q = creeper-taken (goal.at.returns c).In_default-follows in
-    finished p.0 q.0 (fits c c.if-n-m.false) (tested (road (goal.at.returns c).In_default-follows)).if1.false (omega (arith, held-size p.1, held-size q.1)) c.write-bytes.ensures
+    finished p.0 q.0 (fits (goal.at.returns c).In_default (goal.at.returns c).In_default-follows c.if-n-m.false) c.if-text-lt-TEXT_BYTES.false (omega (arith, held-size p.1, held-size q.1)) c.write-bytes.ensures

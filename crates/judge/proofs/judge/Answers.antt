@@ -12,7 +12,7 @@ use Rattle.atoms.proofs.Found.{placeless}
 use Rattle.calls.proofs.Known.{known-program}
 use Rattle.judge.proofs.Judges.{some-judged, text-short, finished, none-judged, none_made}
 use Rattle.judge.proofs.judge.Goals as goal
-use Rattle.judge.proofs.judge.Goals.{In-Taken, In_default, Then-count-eq0}
+use Rattle.judge.proofs.judge.Goals.{In-Taken, In_default}
 
 -- the text that was read is taken
 program-taken : (c : In_default) → Taken c.args.program.now (statements c.read-reading.result.program) × Held c.read-reading.result.program
@@ -33,29 +33,25 @@ returns-in-Refused c =
     let read = rw c.in-Refused.is at c.read-reading.ensures in
     (inr (inl ((c.if-verdicts-lt-VERDICT_BYTES.false, c.if-text-lt-TEXT_BYTES.false), c.in-Refused.refusal, read.0, c.number_of.ensures)), refl)
 
--- a list without marks
-no-marks : (c : Then-count-eq0) → length (marks-taken (c.In-Taken)).0 ≡ 0
-no-marks c = sym (marks-taken (c.In-Taken)).2 ∙ c.if-count-eq0.true
-
 pub write-length-requires : goal.write-length-requires
 write-length-requires c =
     let p = program-taken (goal.at.write-length-requires c).In_default in
     let m = marks-taken (goal.at.write-length-requires c).In-Taken in
-    let none = no-marks (goal.at.write-length-requires c).Then-count-eq0 in
+    let none : length m.0 ≡ 0 = sym m.2 ∙ c.if-count-eq0.true in
     record { held = p.1; p_in_bounds = omega (arith, c.if-text-lt-TEXT_BYTES.false, text-short p.0 m.1 (none-judged none _ _ c.args.verdicts.now) (none_made none _ p.1 _)) }
 
 pub overflow_cast-result : goal.overflow_cast-result
 overflow_cast-result c =
     let p = program-taken (goal.at.overflow_cast-result c).In_default in
     let m = marks-taken (goal.at.overflow_cast-result c).In-Taken in
-    let none = no-marks (goal.at.overflow_cast-result c).Then-count-eq0 in
+    let none : length m.0 ≡ 0 = sym m.2 ∙ c.if-count-eq0.true in
     omega (arith, c.write-length.ensures.after, text-short p.0 m.1 (none-judged none _ _ c.args.verdicts.now) (none_made none _ p.1 _))
 
 pub returns-then-count-eq0 : goal.returns-then-count-eq0
 returns-then-count-eq0 c =
     let p = program-taken (goal.at.returns-then-count-eq0 c).In_default in
     let m = marks-taken (goal.at.returns-then-count-eq0 c).In-Taken in
-    let none = no-marks (goal.at.returns-then-count-eq0 c).Then-count-eq0 in
+    let none : length m.0 ≡ 0 = sym m.2 ∙ c.if-count-eq0.true in
     finished p.0 m.1 (none-judged none _ _ _) (none_made none _ p.1 _) (c.if-verdicts-lt-VERDICT_BYTES.false, c.if-text-lt-TEXT_BYTES.false) (sym none) c.write-length.ensures
 
 pub find-requires : goal.find-requires

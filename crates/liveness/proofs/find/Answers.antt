@@ -6,7 +6,6 @@ use lib.ListN.{length, length-replicate}
 use Rattle.program.specs.Program.{Taken}
 use Rattle.program.specs.Reading.{statements, Held}
 use Rattle.program.proofs.Unique.{taken_refused}
-use Rattle.table.specs.Known.{Known}
 use Rattle.table.proofs.By.{known_in}
 use Rattle.atoms.proofs.Found.{placeless}
 use Rattle.calls.proofs.Known.{known-program}
@@ -32,24 +31,15 @@ find-requires c =
 pub of-requires : goal.of-requires
 of-requires c = let p = program-taken (goal.at.of-requires c).In-Taken in record { held = p.1; well_formed = p.0.program; flow_len = c.blank-flow.ensures.size }
 
--- what is known of the program once its facts are found and its graph is drawn
-known :
-    (c : tie.After-flow2)
-    → let read = c.before.before.before.before.before.before.before.before.before.before.before.before.before.before.read in
-    let find = c.before.before.before.before.before.before.find in
-    Known (statements read.result.program) read.result.program.count find.new.1.0 find.new.1.1.0 c.before.of.new.1.0
-known c =
-    let p = program-taken c.before.before.before.before.before.before.before.before.before.before.before.before in
-    let of = c.before.of in
-    known-program {flow = of.new.1.0} p.0 p.1 c.before.before.before.before.before.before.find.ensures c.before.before.before.before.before.before.before.before.before.blank-codes.ensures.many of.ensures (omega (arith, of.auto, c.before.before.before.blank3.ensures.size))
-
 pub fill-requires : goal.fill-requires
 fill-requires c =
-    record { some_known = record { P = _; known = known_in (known c) }; live_len = ap length c.blank-live.ensures ∙ length-replicate {A = ℕ} live_words 0 }
+    let p = program-taken (goal.at.fill-requires c).In-Taken in
+    let k = known-program {flow = c.of.new.flow} p.0 p.1 c.find.ensures c.blank_codes-codes.ensures.many c.of.ensures (omega (arith, c.of.auto.flow, c.blank-flow.ensures.size)) in
+    record { some_known = record { P = _; known = known_in k }; live_len = ap length c.blank-live.ensures ∙ length-replicate {A = ℕ} live_words 0 }
 
 pub returns : goal.returns
 returns c =
-    let k = known c in
     let p = program-taken (goal.at.returns c).In-Taken in
+    let k = known-program {flow = c.of.new.flow} p.0 p.1 c.find.ensures c.blank_codes-codes.ensures.many c.of.ensures (omega (arith, c.of.auto.flow, c.blank-flow.ensures.size)) in
     let size = ap length c.blank-live.ensures ∙ length-replicate {A = ℕ} live_words 0 in
     of-text p.0 (all_live k (c.fill.auto.live ∙ size) (c.fill.ensures _ (known_in k)))

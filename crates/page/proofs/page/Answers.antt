@@ -4,22 +4,15 @@ use Rattle.view.proofs.Views.{as-view, as-refusal, printed-within}
 use Rattle.view.specs.View.{PrintsView, PrintsRefusal, Printed}
 use lib.Seq.{length-take-le}
 use mathlib.Core.Path.{sym}
-use mathlib.Core.List.{List}
-use Prim.Native.Nat.{ℕ}
 use Rattle.page.proofs.page.Goals as goal
-use Rattle.page.proofs.page.Goals.{After-view, In-Refused, In-Written}
+use Rattle.page.proofs.page.Goals.{In-Refused, In-Written}
 
 -- such an output of n bytes, which the viewer left in the plain bytes
-abbrev Left : (List ℕ → List ℕ → List ℕ → Type 0) → After-view → ℕ → Type 0
-Left Says v n =
-    let a = v.before.before.before.before.before.before.before.args in
-    Printed (Says a.program.now a.condition.now) v.before.before.plain-buffer.result v.view.last.1.1.0 n
-
-seen : (c : In-Written) → Left PrintsView c c.in-Written.n
+seen : (c : In-Written) → Printed (PrintsView c.args.program.now c.args.condition.now) c.plain_buffer-plain.result c.view.new.out c.in-Written.n
 seen c =
     as-view c.args.program.now c.args.condition.now c.plain_buffer-plain.result c.view.new.out c.view.ensures c.in-Written.is
 
-refused : (c : In-Refused) → Left PrintsRefusal c c.in-Refused.n
+refused : (c : In-Refused) → Printed (PrintsRefusal c.args.program.now c.args.condition.now) c.plain_buffer-plain.result c.view.new.out c.in-Refused.n
 refused c =
     as-refusal c.args.program.now c.args.condition.now c.plain_buffer-plain.result c.view.new.out c.view.ensures c.in-Refused.is
 

@@ -6,19 +6,17 @@ use Rattle.judge.specs.Judge.{Lent, JudgeFinished}
 use Rattle.pricing.proofs.InForce.{in-force-fair}
 use Rattle.priced.proofs.Reports.{refused-report, new-within, both-taken, report-listed}
 use Rattle.priced.proofs.report.Goals as goal
-use Rattle.priced.proofs.report.Goals.{After-judge-answer, After-text-1, In-Finished}
+use Rattle.priced.proofs.report.Goals.{In-Finished}
 
 -- what was lent to `judge`, and what it left
-abbrev lent : After-text-1 → Lent
+abbrev lent : In-Finished → Lent
 lent c = record { verdicts = c.verdict_buffer-verdicts.result; new = c.text_buffer-text.result }
 
-abbrev left : After-judge-answer → Lent
+abbrev left : In-Finished → Lent
 left c = record { verdicts = c.judge-answer.new.verdicts; new = c.judge-answer.new.text }
 
 -- the answer is a result
-finished : (c : In-Finished)
-    → let n = c.answer-in-Finished-1.given.0 in
-    JudgeFinished c.args.program.now c.args.marks.now (lent (c.After-text-1)) (left (c.After-judge-answer)) n.0 n.1.0 n.1.1.0
+finished : (c : In-Finished) → JudgeFinished c.args.program.now c.args.marks.now (lent c) (left c) c.in-Finished.f0 c.in-Finished.f1 c.in-Finished.bytes
 finished c = rw c.in-Finished.is at c.judge-answer.ensures
 
 pub slice_bounds-text-end : goal.slice_bounds-text-end

@@ -3,32 +3,32 @@ use Rattle.report.proofs.Reports.{answer-refused, answer-finished, refused-room,
 use Rattle.priced.proofs.Reports.{new-within, both-taken}
 use Rattle.pricing.proofs.Fair.{ours-fair}
 use Rattle.report.specs.Report.{Refuses}
-use Rattle.judge.specs.Judge.{Lent, JudgeFinished}
+use Rattle.judge.specs.Judge.{JudgeFinished}
 use lib.Seq.{length-take-le}
 use native.Mathlib.Omega.{arith}
 use mathlib.Core.Path.{sym}
 use Rattle.report.proofs.report.Goals as goal
-use Rattle.report.proofs.report.Goals.{After-judge-answer, After-text-1, In-Finished, In-Refused}
-
--- what was lent to `judge`, and what it left
-abbrev lent : After-text-1 → Lent
-lent c = record { verdicts = c.verdict_buffer-verdicts.result; new = c.text_buffer-text.result }
-
-abbrev left : After-judge-answer → Lent
-left c = record { verdicts = c.judge-answer.new.verdicts; new = c.judge-answer.new.text }
+use Rattle.report.proofs.report.Goals.{In-Finished, In-Refused}
 
 -- the answer is a refusal
-refuses : (c : In-Refused)
-    → Refuses c.args.given.now c.args.marks.now c.in-Refused.n
+refuses : (c : In-Refused) → Refuses c.args.given.now c.args.marks.now c.in-Refused.n
 refuses c =
-    answer-refused c.args.given.now c.args.marks.now (lent (c.After-text-1)) (left (c.After-judge-answer)) c.judge-answer.ensures c.in-Refused.is (omega arith, omega arith)
+    answer-refused c.args.given.now c.args.marks.now
+        (record { verdicts = c.verdict_buffer-verdicts.result; new = c.text_buffer-text.result })
+        (record { verdicts = c.judge-answer.new.verdicts; new = c.judge-answer.new.text })
+        c.judge-answer.ensures c.in-Refused.is (omega arith, omega arith)
 
 -- the answer is a result
 finished : (c : In-Finished)
-    → let n = c.answer-in-Finished-1.given.0 in
-    JudgeFinished c.args.given.now c.args.marks.now (lent (c.After-text-1)) (left (c.After-judge-answer)) n.0 n.1.0 n.1.1.0
+    → JudgeFinished c.args.given.now c.args.marks.now
+        (record { verdicts = c.verdict_buffer-verdicts.result; new = c.text_buffer-text.result })
+        (record { verdicts = c.judge-answer.new.verdicts; new = c.judge-answer.new.text })
+        c.in-Finished.count c.in-Finished.accepted c.in-Finished.bytes
 finished c =
-    answer-finished c.args.given.now c.args.marks.now (lent (c.After-text-1)) (left (c.After-judge-answer)) c.judge-answer.ensures c.in-Finished.is
+    answer-finished c.args.given.now c.args.marks.now
+        (record { verdicts = c.verdict_buffer-verdicts.result; new = c.text_buffer-text.result })
+        (record { verdicts = c.judge-answer.new.verdicts; new = c.judge-answer.new.text })
+        c.judge-answer.ensures c.in-Finished.is
 
 pub write_refused-requires : goal.write_refused-requires
 write_refused-requires c = omega (arith, refused-room (refuses (goal.at.write_refused-requires c).In-Refused))

@@ -3,18 +3,9 @@ use mathlib.Core.Path.{refl}
 use Rattle.report.proofs.Refusals.{words-most}
 use Rattle.report.proofs.Reports.{answer-refused, answer-finished}
 use Rattle.refusal_line.proofs.Blames.{blamed}
-use Rattle.judge.specs.Judge.{Lent}
 use native.Mathlib.Omega.{arith}
 use borrow.Author.Rules.{rules}
 use Rattle.report.proofs.words.Goals as goal
-use Rattle.report.proofs.words.Goals.{After-judge-answer, After-text-1}
-
--- what was lent to `judge`, and what it left
-abbrev lent : After-text-1 → Lent
-lent c = record { verdicts = c.verdict_buffer-verdicts.result; new = c.text_buffer-text.result }
-
-abbrev left : After-judge-answer → Lent
-left c = record { verdicts = c.judge-answer.new.verdicts; new = c.judge-answer.new.text }
 
 pub write_words-requires : goal.write_words-requires
 write_words-requires c =
@@ -25,7 +16,10 @@ returns-in-Refused c =
     record {
       n = c.in-Refused.n;
       line = c.line_of_number-line.result;
-      refuses = answer-refused c.args.given.now c.args.marks.now (lent (goal.at.returns-in-Refused c).After-text-1) (left (goal.at.returns-in-Refused c).After-judge-answer) c.judge-answer.ensures c.in-Refused.is (omega arith, omega arith);
+      refuses = answer-refused c.args.given.now c.args.marks.now 
+        (record { verdicts = c.verdict_buffer-verdicts.result; new = c.text_buffer-text.result })
+        (record { verdicts = c.judge-answer.new.verdicts; new = c.judge-answer.new.text })
+         c.judge-answer.ensures c.in-Refused.is (omega arith, omega arith);
       blamed = blamed c.line_of_number-line.ensures;
       fits = words-most c.in-Refused.n c.line_of_number-line.result _ (search rules) (search rules) c.if-out-lt-REFUSAL_ROOM.false;
       written = c.write_words.ensures;
@@ -33,5 +27,8 @@ returns-in-Refused c =
 
 pub returns-in-Finished : goal.returns-in-Finished
 returns-in-Finished c =
-    let f = answer-finished c.args.given.now c.args.marks.now (lent (goal.at.returns-in-Finished c).After-text-1) (left (goal.at.returns-in-Finished c).After-judge-answer) c.judge-answer.ensures c.in-Finished.is in
+    let f = answer-finished c.args.given.now c.args.marks.now 
+        (record { verdicts = c.verdict_buffer-verdicts.result; new = c.text_buffer-text.result })
+        (record { verdicts = c.judge-answer.new.verdicts; new = c.judge-answer.new.text })
+         c.judge-answer.ensures c.in-Finished.is in
     (f.P, f.program, f.ms, f.marks, refl)

@@ -38,17 +38,10 @@ of-requires c =
     record { held = p.1; well_formed = p.0.program; flow_len = c.blank-flow.ensures.size }
 
 -- what is known of the program once its facts are found and its graph is drawn
-known :
-    (c : tie.After-flow2)
-    → let e = c.before.before.before.before.before.before.before.before.before.before.before.before.before.before.before.before.before.before.before.before.before.before.before.before.before in
-    let read = e.before.before.read in
-    let find = c.before.before.before.before.before.before.find in
-    Known (statements read.result.program) read.result.program.count find.new.1.0 find.new.1.1.0 c.before.of.new.1.0
-known c =
-    let e = c.before.before.before.before.before.before.before.before.before.before.before.before.before.before.before.before.before.before.before.before.before.before.before.before.before in
-    let p = program-taken e in
-    let of = c.before.of in
-    known-program {flow = of.new.1.0} p.0 p.1 c.before.before.before.before.before.before.find.ensures c.before.before.before.before.before.before.before.before.before.blank-codes.ensures.many of.ensures (omega (arith, of.auto, c.before.before.before.blank4.ensures.size))
+known : (d : In_default) (c : After-flow-2-1) → Known (statements c.read-reading.result.program) c.read-reading.result.program.count c.find.new.rows c.find.new.codes c.of.new.flow
+known d c =
+    let p = program-taken d in
+    known-program {flow = c.of.new.flow} p.0 p.1 c.find.ensures c.blank_codes-codes.ensures.many c.of.ensures (omega (arith, c.of.auto, c.blank-flow.ensures.size))
 
 pub fill-requires : goal.fill-requires
 fill-requires c =

@@ -23,13 +23,11 @@ write-n-requires c =
 
 pub returns-in-Refused : goal.returns-in-Refused
 returns-in-Refused c = λ u start.
-    let h = c.requires.1 in
     let f = rw c.in-Refused.is at c.judge-answer.ensures in
-    never-refused _ _ u _ h.0 start _ c.stay-in-Refused.ensures
-    (omega (arith, c.verdict_buffer-verdicts.ensures), h.1.1) f.0 f.1
+    never-refused _ _ u _ c.requires.stage_value start _ c.stay-in-Refused.ensures
+    (omega (arith, c.verdict_buffer-verdicts.ensures), c.requires.text_bytes_in_bounds) f.0 f.1
 
 pub returns-in-Finished : goal.returns-in-Finished
 returns-in-Finished c = λ u start.
     let f = rw c.in-Finished.is at c.judge-answer.ensures in
-    let h = c.requires.1 in
-    closes _ _ u _ h.0 start c.told.ensures f c.write-n.ensures
+    closes _ _ u _ c.requires.stage_value start c.told.ensures f c.write-n.ensures

@@ -10,7 +10,7 @@ pub slice_bounds-steps-end : goal.slice_bounds-steps-end
 slice_bounds-steps-end c = search rules
 
 pub steps-r-requires : goal.steps-r-requires
-steps-r-requires c = record { well_formed = c.requires.well_formed; well_formed_2 = c.requires.well_formed_2; q_len = c.requires.q_len; at_in_bounds = c.requires.at_in_bounds; live_len = sym ((search rules)) }
+steps-r-requires c = record { well_formed = c.requires.well_formed; well_formed_2 = c.requires.well_formed_2; q_len = c.requires.q_len; at_in_bounds = c.requires.at_in_bounds; live_len = sym (search rules) }
 
 pub returns-then-not-r : goal.returns-then-not-r
 returns-then-not-r c = λ t m u w values start one two.
@@ -26,5 +26,4 @@ returns-then-budget-r c = λ t m u w values start one two.
 
 pub returns : goal.returns
 returns c = λ t m u w values start one two.
-    let h = c.requires.1.1.1.1 in
-    more-steps t m u _ w h.1 start one two c.steps-r.ensures refl c.if-r.false c.if-budget-r.false h.0
+    more-steps t m u _ w c.requires.stage_value start one two c.steps-r.ensures refl c.if-r.false c.if-budget-r.false c.requires.side_by_side_room_in_bounds

@@ -29,10 +29,14 @@ pub fill_operator-requires : goal.fill_operator-requires
 fill_operator-requires c =
     let r = c.requires.ready in
     let size = r.known.size in
-    record { both_ways = (both_ways r.known, omega (arith, r.known.few)); left_lt_k = (rw (← c.left_of-left.ensures) at (inside (goal.at.fill_operator-requires c).Else-code-eq0), omega (arith, inside (goal.at.fill_operator-requires c).Else-code-eq0), r.room); by_index = (
-          (λ s h. ap (λ (j : ℕ). member (row c.args.table.now j) s) c.left_of-left.ensures ∙ left-clear r c.if-code-eq0.false s (omega arith)),
-          (λ s h. before-clear r c.if-code-eq0.false s (omega arith)),
-        ) }
+    record {
+      both_ways = (both_ways r.known, omega (arith, r.known.few));
+      left_lt_k = (rw (← c.left_of-left.ensures) at (inside (goal.at.fill_operator-requires c).Else-code-eq0), omega (arith, inside (goal.at.fill_operator-requires c).Else-code-eq0), r.room);
+      by_index = (
+        (λ s h. ap (λ (j : ℕ). member (row c.args.table.now j) s) c.left_of-left.ensures ∙ left-clear r c.if-code-eq0.false s (omega arith)),
+        (λ s h. before-clear r c.if-code-eq0.false s (omega arith)),
+      );
+    }
 
 pub returns-then-code-eq0 : goal.returns-then-code-eq0
 returns-then-code-eq0 c = λ P d r. atom-written r _ c.if-code-eq0.true c.fill_atom.ensures

@@ -44,10 +44,14 @@ narrow_row-requires c =
     sym (length-take-le _ _ (omega (arith, r.room, r.of_p)))) in
     let lq = (let r = c.requires.rows in
     sym (length-take-le _ _ (omega (arith, r.room, r.of_q)))) in
-    let lo = (sym (length-take-le _ _ ((search rules)))) in record { both_ways = c.requires.both_ways; rows = record { room = omega (arith, lo); short = omega (arith, lo, r.room, r.short); of_p = sym lp ∙ lo; of_q = sym lq ∙ lo }; by_index = (
-          λ s h. ap (λ (f : ℕ → Bool). f s) (narrowed c.args.n c.args.p.now none.0) ∙ none.0 s h,
-          λ s h. ap (λ (f : ℕ → Bool). f s) (narrowed c.args.n c.args.q.now none.1) ∙ none.1 s h,
-        ) }
+    let lo = (sym (length-take-le _ _ ((search rules)))) in record {
+      both_ways = c.requires.both_ways;
+      rows = record { room = omega (arith, lo); short = omega (arith, lo, r.room, r.short); of_p = sym lp ∙ lo; of_q = sym lq ∙ lo };
+      by_index = (
+        λ s h. ap (λ (f : ℕ → Bool). f s) (narrowed c.args.n c.args.p.now none.0) ∙ none.0 s h,
+        λ s h. ap (λ (f : ℕ → Bool). f s) (narrowed c.args.n c.args.q.now none.1) ∙ none.1 s h,
+      );
+    }
 
 pub shape_of-out : goal.shape_of-out
 shape_of-out c =

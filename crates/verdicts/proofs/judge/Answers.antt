@@ -15,13 +15,12 @@ use Rattle.verdicts.proofs.judge.Goals as goal
 use Rattle.verdicts.proofs.judge.Goals.{In-Found}
 
 pub loop-at-init : goal.loop-at-init
-loop-at-init c =
-    (
-      refl,
-      omega (arith, c.clear.auto.row, c.blank_row-named.ensures.size),
-      (λ ms t. judged-none _ t.spells c.clear.ensures),
-      λ P k. remembers-none c.blank_keys-keys.ensures c.blank_memory-memory.ensures,
-    )
+loop-at-init c = (
+  refl,
+  omega (arith, c.clear.auto.row, c.blank_row-named.ensures.size),
+  (λ ms t. judged-none _ t.spells c.clear.ensures),
+  λ P k. remembers-none c.blank_keys-keys.ensures c.blank_memory-memory.ensures,
+)
 
 pub returns-in_default : goal.returns-in_default
 returns-in_default c =

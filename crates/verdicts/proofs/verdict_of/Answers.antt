@@ -43,11 +43,10 @@ pub is_inside-missing-requires : goal.is_inside-missing-requires
 is_inside-missing-requires c = let k = c.requires.some_known.known in omega (arith, k.size, k.few)
 
 pub returns-then-missing : goal.returns-then-missing
-returns-then-missing c =
-    (
-      λ P k. judged-lacking P c.args.m c.args.i _ (λ i. decided-false c.is_inside-missing.result c.if-missing.true c.is_inside-missing.ensures (rw k.size at i)),
-      c.requires.remembering,
-    )
+returns-then-missing c = (
+  λ P k. judged-lacking P c.args.m c.args.i _ (λ i. decided-false c.is_inside-missing.result c.if-missing.true c.is_inside-missing.ensures (rw k.size at i)),
+  c.requires.remembering,
+)
 
 pub returns-then-repeated : goal.returns-then-repeated
 returns-then-repeated c =

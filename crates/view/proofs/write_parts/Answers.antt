@@ -1,7 +1,7 @@
 -- `write_parts` meets its contract. The invariant: the lines of the parts before k are written. Assumes nothing.
 use Prim.Native.Nat.{◌-◌}
 use native.Mathlib.Omega.{arith}
-use Rattle.condition.proofs.Words.{stands-order}
+use Rattle.condition.proofs.Words.{stands-order, stands-within}
 use Rattle.view.proofs.Parts.{none-shown, shown-length, room-few, cut, part_room, shown-more, all_shown}
 use Rattle.view.proofs.write_parts.Goals as goal
 
@@ -16,6 +16,12 @@ bounds-words-k c = room-few c.loop-k.invariant c.loop-k-test.true
 
 pub slice_bounds-write_part-count : goal.slice_bounds-write_part-count
 slice_bounds-write_part-count c = stands-order (cut c.loop-k.invariant c.loop-k-test.true)
+
+pub slice_bounds-write_part-start : goal.slice_bounds-write_part-start
+slice_bounds-write_part-start c = stands-order (cut c.loop-k.invariant c.loop-k-test.true)
+
+pub slice_bounds-write_part-end : goal.slice_bounds-write_part-end
+slice_bounds-write_part-end c = stands-within (cut c.loop-k.invariant c.loop-k-test.true)
 
 pub write_part-to-requires : goal.write_part-to-requires
 write_part-to-requires c =

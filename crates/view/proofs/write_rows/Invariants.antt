@@ -1,5 +1,5 @@
 use Prim.Native.Nat.{◌-◌}
-use Rattle.program.specs.Program.{at}
+use Rattle.view.proofs.Rows.{Inv}
 use Rattle.view.proofs.write_rows.Given as goal
 
 abbrev pub invariant-loop-s : goal.invariant-loop-s
