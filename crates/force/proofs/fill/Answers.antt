@@ -51,3 +51,9 @@ returns-in-Taken c =
     let forced = rw c.row_of-goal.ensures at (c.of.ensures.by_index (among d.0) d.2) in
     filled h.held p.0 c.if-table-lt-TABLE_WORDS.false (c.fill-summary.ensures.table h.c h.held) c.fill-summary.ensures.counts d.1 forced
     (beyond-kept (statements-size _ p.1) c.of.auto.numbers c.of.auto.arms c.of.ensures.kept)
+
+pub returns-in-Refused-told : goal.returns-in-Refused-told
+returns-in-Refused-told c =
+    let d = rw c.if-not-read.false at c.read.ensures in
+    let f = rw c.in-Refused-told.is at c.read-conditions.ensures in
+    (inr (inr (c.if-table-lt-TABLE_WORDS.false, statements c.read-reading.result.program, (program-taken (goal.at.returns-in-Refused-told c).In_default).0, condition c.in-Refused-told.refusal, ((d.0, d.1), f.0), c.number_of-in-Refused-told.ensures)), refl, refl)

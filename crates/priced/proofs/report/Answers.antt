@@ -16,7 +16,7 @@ abbrev left : In-Finished → Lent
 left c = record { verdicts = c.judge-answer.new.verdicts; new = c.judge-answer.new.text }
 
 -- the answer is a result
-finished : (c : In-Finished) → JudgeFinished c.args.program.now c.args.marks.now (lent c) (left c) c.in-Finished.f0 c.in-Finished.f1 c.in-Finished.bytes
+finished : (c : In-Finished) → JudgeFinished c.args.program.now c.args.marks.now (lent c) (left c) c.in-Finished.field-0 c.in-Finished.field-1 c.in-Finished.bytes
 finished c = rw c.in-Finished.is at c.judge-answer.ensures
 
 pub slice_bounds-text-end : goal.slice_bounds-text-end
