@@ -1,17 +1,14 @@
 -- `fill` meets its contract. Assumes nothing.
-use mathlib.Core.Path.{refl, ap, ◌∙◌}
+use mathlib.Core.Path.{refl}
 use mathlib.Core.Logic.{inl, inr}
 use native.Mathlib.Omega.{arith}
-use lib.ListN.{length}
-use Rattle.base.proofs.Bools.{true_of_not, false_of_not}
 use Rattle.program.specs.Program.{Taken}
 use Rattle.program.specs.Reading.{statements, Held}
-use Rattle.bits.proofs.Tables.{row-length}
 use Rattle.flow.proofs.Successors.{statements-size}
 use Rattle.table.specs.Fill.{SomeHeld}
 use Rattle.table.proofs.Whole.{held-some, held-few}
 use Rattle.driver_reader.specs.Names.{among}
-use Rattle.force.specs.Force.{driver, condition}
+use Rattle.force.specs.Force.{condition}
 use Rattle.force.proofs.Forces.{beyond-kept, filled}
 use Rattle.force.proofs.fill.Goals as goal
 use Rattle.force.proofs.fill.Goals.{In-Taken, In_default}

@@ -12,7 +12,7 @@ use native.Mathlib.Omega.{arith}
 use mathlib.Core.Logic.{inl, inr}
 use mathlib.Core.Path.{refl}
 use Rattle.review.proofs.review.Goals as goal
-use Rattle.review.proofs.review.Goals.{In_default}
+use Rattle.review.proofs.review.Goals.{After-of, In_default}
 
 pub returns-then-table-lt-REVIEW_WORDS : goal.returns-then-table-lt-REVIEW_WORDS
 returns-then-table-lt-REVIEW_WORDS c = rw c.refused.ensures.0 (inl (c.if-table-lt-REVIEW_WORDS.true, refl), refl, c.refused.ensures.1)
@@ -38,16 +38,16 @@ of-requires c =
     record { held = p.1; well_formed = p.0.program; flow_len = c.blank-flow.ensures.size }
 
 -- what is known of the program once its facts are found and its graph is drawn
-known : (d : In_default) (c : After-flow-2-1) → Known (statements c.read-reading.result.program) c.read-reading.result.program.count c.find.new.rows c.find.new.codes c.of.new.flow
-known d c =
-    let p = program-taken d in
+known : (c : After-of) → Known (statements c.read-reading.result.program) c.read-reading.result.program.count c.find.new.rows c.find.new.codes c.of.new.flow
+known c =
+    let p = rw c.in_default.is at c.read-reading.ensures in
     known-program {flow = c.of.new.flow} p.0 p.1 c.find.ensures c.blank_codes-codes.ensures.many c.of.ensures (omega (arith, c.of.auto, c.blank-flow.ensures.size))
 
 pub fill-requires : goal.fill-requires
 fill-requires c =
     let h = rw c.in-Taken.is at c.read-told.ensures in
     let s = h.1.shares in
-    let b = c.blank_entries-entries.ensures.size in record { some_known = record { P = _; known = known_in (known c) }; some_shares = record { ps = parts_of h.0; shares = s; many = omega (arith, s.counted, h.1.taken.few, c.read-told.auto, b) }; count_in_bounds = omega (arith, few-tables {cs = h.0} h.1, c.if-table-lt-REVIEW_WORDS.false) }
+    let b = c.blank_entries-entries.ensures.size in record { some_known = record { P = _; known = known_in (known (goal.at.fill-requires c).After-of) }; some_shares = record { ps = parts_of h.0; shares = s; many = omega (arith, s.counted, h.1.taken.few, c.read-told.auto, b) }; count_in_bounds = omega (arith, few-tables {cs = h.0} h.1, c.if-table-lt-REVIEW_WORDS.false) }
 
 pub overflow_cast-size : goal.overflow_cast-size
 overflow_cast-size c =
@@ -62,7 +62,7 @@ slice_bounds-count_lines-end c =
 pub count_lines-requires : goal.count_lines-requires
 count_lines-requires c =
     let h = rw c.in-Taken.is at c.read-told.ensures in
-    let f = c.fill.ensures _ (parts_of h.0) (known_in (known c)) h.1.shares in
+    let f = c.fill.ensures _ (parts_of h.0) (known_in (known (goal.at.count_lines-requires c).After-of)) h.1.shares in
     record { rowed = lines-rowed {cs = h.0} h.1 _ (omega (arith, f.same, c.if-table-lt-REVIEW_WORDS.false)); zeros = (c.blank-satisfied.ensures, c.blank-first.ensures) }
 
 pub returns-in-Refused-told : goal.returns-in-Refused-told
@@ -74,5 +74,5 @@ returns-in-Refused-told c =
 pub returns-in-Taken : goal.returns-in-Taken
 returns-in-Taken c =
     let h = rw c.in-Taken.is at c.read-told.ensures in
-    let f = c.fill.ensures _ (parts_of h.0) (known_in (known c)) h.1.shares in
-    reviewed {cs = h.0} h.1 (tables-by {ps = parts_of h.0} (known c) h.1.shares f) (program-taken (goal.at.returns-in-Taken c).In_default).0 c.if-table-lt-REVIEW_WORDS.false c.count_lines.ensures
+    let f = c.fill.ensures _ (parts_of h.0) (known_in (known (goal.at.returns-in-Taken c).After-of)) h.1.shares in
+    reviewed {cs = h.0} h.1 (tables-by {ps = parts_of h.0} (known (goal.at.returns-in-Taken c).After-of) h.1.shares f) (program-taken (goal.at.returns-in-Taken c).In_default).0 c.if-table-lt-REVIEW_WORDS.false c.count_lines.ensures
