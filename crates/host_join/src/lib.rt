@@ -12,7 +12,7 @@ pub fn export(
     statements: &mut u32,
     bytes: &mut u32,
 ) -> u8
-    ensures { JoinExported road.now creeper.now text.old text.new result (record { statements = statements.entry.now; bytes = bytes.old }) (record { statements = statements.exit.now; bytes = bytes.new }) }
+    ensures { JoinExported road.now creeper.now text.old text.new result (record { statements = statements.old; bytes = bytes.old }) (record { statements = statements.new; bytes = bytes.new }) }
 {
     let answer = join::join(road, creeper, text);
     match answer {

@@ -14,7 +14,7 @@ pub fn export(
     accepted: &mut u32,
     bytes: &mut u32,
 ) -> u8
-    ensures { JudgeExported program.now marks.entry.now (record { verdicts = verdicts.entry.now; new = text.old }) (record { verdicts = verdicts.exit.now; new = text.new }) result (record { marks = count.old; accepted = accepted.old; bytes = bytes.old }) (record { marks = count.new; accepted = accepted.new; bytes = bytes.new }) }
+    ensures { JudgeExported program.now marks.now (record { verdicts = verdicts.old; new = text.old }) (record { verdicts = verdicts.new; new = text.new }) result (record { marks = count.old; accepted = accepted.old; bytes = bytes.old }) (record { marks = count.new; accepted = accepted.new; bytes = bytes.new }) }
 {
     let answer = judge::judge(program, marks, verdicts, text);
     match answer {

@@ -7,7 +7,7 @@ use listing::{COUNTS, ListAnswer, Listing};
 
 // Returns the answer's number, and sets the places to the counts where there are any.
 fn tell(listed: Listing, defined: &mut [u32; COUNTS], used: &mut [u32; COUNTS]) -> u8
-    ensures { ListReturned listed.answer (record { defined = listed.defined; used = listed.used }) result (record { defined = defined.entry.now; used = used.old }) (record { defined = defined.exit.now; used = used.new }) }
+    ensures { ListReturned listed.answer (record { defined = listed.defined; used = listed.used }) result (record { defined = defined.old; used = used.old }) (record { defined = defined.new; used = used.new }) }
 {
     let writers = listed.defined;
     let readers = listed.used;
@@ -28,7 +28,7 @@ pub fn list(
     defined: &mut [u32; COUNTS],
     used: &mut [u32; COUNTS],
 ) -> u8
-    ensures { ListExported program.now list.old list.new result (record { defined = defined.entry.now; used = used.old }) (record { defined = defined.exit.now; used = used.new }) }
+    ensures { ListExported program.now list.old list.new result (record { defined = defined.old; used = used.old }) (record { defined = defined.new; used = used.new }) }
 {
     let listed = list::list(program, list);
     tell(listed, defined, used)
@@ -41,7 +41,7 @@ pub fn relist(
     defined: &mut [u32; COUNTS],
     used: &mut [u32; COUNTS],
 ) -> u8
-    ensures { RelistExported program.now marks.now list.old list.new result (record { defined = defined.entry.now; used = used.old }) (record { defined = defined.exit.now; used = used.new }) }
+    ensures { RelistExported program.now marks.now list.old list.new result (record { defined = defined.old; used = used.old }) (record { defined = defined.new; used = used.new }) }
 {
     let relisted = relist::relist(program, marks, list);
     tell(relisted, defined, used)

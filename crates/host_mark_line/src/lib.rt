@@ -6,7 +6,7 @@ ghost use Rattle.host_mark_line.specs.Places.{MarkLineExported};
 use mark_line::MarkLineAnswer;
 
 pub fn export(marks: &[u8], line: u32, begin: &mut usize, end: &mut usize) -> u8
-    ensures { MarkLineExported marks.now line result (record { begin = begin.entry.now; end = end.old }) (record { begin = begin.exit.now; end = end.new }) }
+    ensures { MarkLineExported marks.now line result (record { begin = begin.old; end = end.old }) (record { begin = begin.new; end = end.new }) }
 {
     let answer = mark_line::mark_line(marks, line);
     match answer {

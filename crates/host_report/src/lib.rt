@@ -32,7 +32,7 @@ pub fn export(
     rewritten: &mut u32,
     saved: &mut i32,
 ) -> u8
-    ensures { ReportExported prices.now program.now marks.now result (record { before = before.entry.now; after = after.old; statements = statements.old; given = given.old; rewritten = rewritten.old; saved = saved.old }) (record { before = before.exit.now; after = after.new; statements = statements.new; given = given.new; rewritten = rewritten.new; saved = saved.new }) }
+    ensures { ReportExported prices.now program.now marks.now result (record { before = before.old; after = after.old; statements = statements.old; given = given.old; rewritten = rewritten.old; saved = saved.old }) (record { before = before.new; after = after.new; statements = statements.new; given = given.new; rewritten = rewritten.new; saved = saved.new }) }
 {
     let table = *prices;
     let priced = priced::report(program, marks, table);

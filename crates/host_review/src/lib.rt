@@ -31,7 +31,7 @@ pub fn export(
     satisfied: &mut [u32; MOST_LINES],
     first: &mut [u32; MOST_LINES],
 ) -> u8
-    ensures { ReviewExported program.now conditions.now table.old table.new result (record { tables = tables.entry.now; lines = lines.old; told = record { tables = numbers.old; parts = parts.old; satisfied = satisfied.old; first = first.old } }) (record { tables = tables.exit.now; lines = lines.new; told = record { tables = numbers.new; parts = parts.new; satisfied = satisfied.new; first = first.new } }) }
+    ensures { ReviewExported program.now conditions.now table.old table.new result (record { tables = tables.old; lines = lines.old; told = record { tables = numbers.old; parts = parts.old; satisfied = satisfied.old; first = first.old } }) (record { tables = tables.new; lines = lines.new; told = record { tables = numbers.new; parts = parts.new; satisfied = satisfied.new; first = first.new } }) }
 {
     let reviewed = review::review(program, conditions, table);
     let answer = reviewed.answer;

@@ -22,7 +22,7 @@ pub fn export(
     kept: &mut [u32; KEPT],
     ticks: &mut u64,
 ) -> u8
-    ensures { RunExported prices.now program.now values.now input budget result (record { ended = ended.entry.now; value = value.old; steps = steps.old; statement = statement.old; left = left.old; kept = kept.old; ticks = ticks.old }) (record { ended = ended.exit.now; value = value.new; steps = steps.new; statement = statement.new; left = left.new; kept = kept.new; ticks = ticks.new }) }
+    ensures { RunExported prices.now program.now values.now input budget result (record { ended = ended.old; value = value.old; steps = steps.old; statement = statement.old; left = left.old; kept = kept.old; ticks = ticks.old }) (record { ended = ended.new; value = value.new; steps = steps.new; statement = statement.new; left = left.new; kept = kept.new; ticks = ticks.new }) }
 {
     let start = *values;
     let table = *prices;

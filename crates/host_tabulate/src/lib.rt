@@ -13,7 +13,7 @@ pub fn export(
     satisfied: &mut u32,
     first: &mut u32,
 ) -> u8
-    ensures { TabulateExported program.now condition.now table.old table.new result (record { parts = parts.entry.now; satisfied = satisfied.old; first = first.old }) (record { parts = parts.exit.now; satisfied = satisfied.new; first = first.new }) }
+    ensures { TabulateExported program.now condition.now table.old table.new result (record { parts = parts.old; satisfied = satisfied.old; first = first.old }) (record { parts = parts.new; satisfied = satisfied.new; first = first.new }) }
 {
     let answer = tabulate::tabulate(program, condition, table);
     match answer {

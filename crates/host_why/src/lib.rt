@@ -14,7 +14,7 @@ pub fn export(
     length: &mut u32,
     culprit: &mut u32,
 ) -> u8
-    ensures { WhyExported program.now marks.now line path.old path.new result (record { verdict = verdict.entry.now; length = length.old; culprit = culprit.old }) (record { verdict = verdict.exit.now; length = length.new; culprit = culprit.new }) }
+    ensures { WhyExported program.now marks.now line path.old path.new result (record { verdict = verdict.old; length = length.old; culprit = culprit.old }) (record { verdict = verdict.new; length = length.new; culprit = culprit.new }) }
 {
     let answer = why::why(program, marks, line, path);
     match answer {

@@ -34,7 +34,7 @@ pub fn text_buffer() -> [u8; TEXT_BYTES]
 
 // Judges each mark of the list on the program, and puts the program with the accepted ones made at the front of the new text.
 pub fn judge(program: &[u8], marks: &[u8], verdicts: &mut [u8], text: &mut [u8]) -> JudgeAnswer
-    ensures { JudgeAnswers program.now marks.now (record { verdicts = verdicts.entry.now; new = text.old }) (record { verdicts = verdicts.exit.now; new = text.new }) result }
+    ensures { JudgeAnswers program.now marks.now (record { verdicts = verdicts.old; new = text.old }) (record { verdicts = verdicts.new; new = text.new }) result }
 {
     if verdicts.len() < VERDICT_BYTES {
         return JudgeAnswer::Refused(ROOM_NUMBER);

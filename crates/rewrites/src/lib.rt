@@ -43,7 +43,7 @@ pub extern "C" fn rewrites_run(
     kept: &mut [u32; KEPT],
     ticks: &mut u64,
 ) -> u8
-    ensures { RunExported prices.now program.now values.now input budget result (record { ended = ended.entry.now; value = value.old; steps = steps.old; statement = statement.old; left = left.old; kept = kept.old; ticks = ticks.old }) (record { ended = ended.exit.now; value = value.new; steps = steps.new; statement = statement.new; left = left.new; kept = kept.new; ticks = ticks.new }) }
+    ensures { RunExported prices.now program.now values.now input budget result (record { ended = ended.old; value = value.old; steps = steps.old; statement = statement.old; left = left.old; kept = kept.old; ticks = ticks.old }) (record { ended = ended.new; value = value.new; steps = steps.new; statement = statement.new; left = left.new; kept = kept.new; ticks = ticks.new }) }
 {
     host_run::export(
         program, values, input, budget, prices, ended, value, steps, statement, left, kept, ticks,
@@ -59,7 +59,7 @@ pub extern "C" fn rewrites_tabulate(
     satisfied: &mut u32,
     first: &mut u32,
 ) -> u8
-    ensures { TabulateExported program.now condition.now table.old table.new result (record { parts = parts.entry.now; satisfied = satisfied.old; first = first.old }) (record { parts = parts.exit.now; satisfied = satisfied.new; first = first.new }) }
+    ensures { TabulateExported program.now condition.now table.old table.new result (record { parts = parts.old; satisfied = satisfied.old; first = first.old }) (record { parts = parts.new; satisfied = satisfied.new; first = first.new }) }
 {
     host_tabulate::export(program, condition, table, parts, satisfied, first)
 }
@@ -76,7 +76,7 @@ pub extern "C" fn rewrites_force(
     number: &mut [u32; MOST],
     arm: &mut [u8; MOST],
 ) -> u8
-    ensures { ForceExported program.now driver.now condition.now table.old table.new result (record { numbers = number.old; arms = arm.old }) (record { numbers = number.new; arms = arm.new }) (record { parts = parts.entry.now; satisfied = satisfied.old; first = first.old }) (record { parts = parts.exit.now; satisfied = satisfied.new; first = first.new }) }
+    ensures { ForceExported program.now driver.now condition.now table.old table.new result (record { numbers = number.old; arms = arm.old }) (record { numbers = number.new; arms = arm.new }) (record { parts = parts.old; satisfied = satisfied.old; first = first.old }) (record { parts = parts.new; satisfied = satisfied.new; first = first.new }) }
 {
     host_force::force(
         program, driver, condition, table, parts, satisfied, first, number, arm,
@@ -93,7 +93,7 @@ pub extern "C" fn rewrites_judge(
     accepted: &mut u32,
     bytes: &mut u32,
 ) -> u8
-    ensures { JudgeExported program.now marks.entry.now (record { verdicts = verdicts.entry.now; new = text.old }) (record { verdicts = verdicts.exit.now; new = text.new }) result (record { marks = count.old; accepted = accepted.old; bytes = bytes.old }) (record { marks = count.new; accepted = accepted.new; bytes = bytes.new }) }
+    ensures { JudgeExported program.now marks.now (record { verdicts = verdicts.old; new = text.old }) (record { verdicts = verdicts.new; new = text.new }) result (record { marks = count.old; accepted = accepted.old; bytes = bytes.old }) (record { marks = count.new; accepted = accepted.new; bytes = bytes.new }) }
 {
     host_judge::export(program, marks, verdicts, text, count, accepted, bytes)
 }
@@ -110,7 +110,7 @@ pub extern "C" fn rewrites_review(
     satisfied: &mut [u32; MOST_LINES],
     first: &mut [u32; MOST_LINES],
 ) -> u8
-    ensures { ReviewExported program.now conditions.now table.old table.new result (record { tables = tables.entry.now; lines = lines.old; told = record { tables = numbers.old; parts = parts.old; satisfied = satisfied.old; first = first.old } }) (record { tables = tables.exit.now; lines = lines.new; told = record { tables = numbers.new; parts = parts.new; satisfied = satisfied.new; first = first.new } }) }
+    ensures { ReviewExported program.now conditions.now table.old table.new result (record { tables = tables.old; lines = lines.old; told = record { tables = numbers.old; parts = parts.old; satisfied = satisfied.old; first = first.old } }) (record { tables = tables.new; lines = lines.new; told = record { tables = numbers.new; parts = parts.new; satisfied = satisfied.new; first = first.new } }) }
 {
     host_review::export(
         program, conditions, table, tables, lines, numbers, parts, satisfied, first,
@@ -129,7 +129,7 @@ pub extern "C" fn rewrites_report(
     rewritten: &mut u32,
     saved: &mut i32,
 ) -> u8
-    ensures { ReportExported prices.now program.now marks.now result (record { before = before.entry.now; after = after.old; statements = statements.old; given = given.old; rewritten = rewritten.old; saved = saved.old }) (record { before = before.exit.now; after = after.new; statements = statements.new; given = given.new; rewritten = rewritten.new; saved = saved.new }) }
+    ensures { ReportExported prices.now program.now marks.now result (record { before = before.old; after = after.old; statements = statements.old; given = given.old; rewritten = rewritten.old; saved = saved.old }) (record { before = before.new; after = after.new; statements = statements.new; given = given.new; rewritten = rewritten.new; saved = saved.new }) }
 {
     host_report::export(
         program, marks, prices, before, after, statements, given, rewritten, saved,
@@ -157,7 +157,7 @@ pub extern "C" fn rewrites_mark_line(
     begin: &mut usize,
     end: &mut usize,
 ) -> u8
-    ensures { MarkLineExported marks.now line result (record { begin = begin.entry.now; end = end.old }) (record { begin = begin.exit.now; end = end.new }) }
+    ensures { MarkLineExported marks.now line result (record { begin = begin.old; end = end.old }) (record { begin = begin.new; end = end.new }) }
 {
     host_mark_line::export(marks, line, begin, end)
 }
@@ -169,7 +169,7 @@ pub extern "C" fn rewrites_list(
     defined: &mut [u32; COUNTS],
     used: &mut [u32; COUNTS],
 ) -> u8
-    ensures { ListExported program.now list.old list.new result (record { defined = defined.entry.now; used = used.old }) (record { defined = defined.exit.now; used = used.new }) }
+    ensures { ListExported program.now list.old list.new result (record { defined = defined.old; used = used.old }) (record { defined = defined.new; used = used.new }) }
 {
     host_listing::list(program, list, defined, used)
 }
@@ -182,7 +182,7 @@ pub extern "C" fn rewrites_relist(
     defined: &mut [u32; COUNTS],
     used: &mut [u32; COUNTS],
 ) -> u8
-    ensures { RelistExported program.now marks.now list.old list.new result (record { defined = defined.entry.now; used = used.old }) (record { defined = defined.exit.now; used = used.new }) }
+    ensures { RelistExported program.now marks.now list.old list.new result (record { defined = defined.old; used = used.old }) (record { defined = defined.new; used = used.new }) }
 {
     host_listing::relist(program, marks, list, defined, used)
 }
@@ -195,7 +195,7 @@ pub extern "C" fn rewrites_join(
     statements: &mut u32,
     bytes: &mut u32,
 ) -> u8
-    ensures { JoinExported road.now creeper.now text.old text.new result (record { statements = statements.entry.now; bytes = bytes.old }) (record { statements = statements.exit.now; bytes = bytes.new }) }
+    ensures { JoinExported road.now creeper.now text.old text.new result (record { statements = statements.old; bytes = bytes.old }) (record { statements = statements.new; bytes = bytes.new }) }
 {
     host_join::export(road, creeper, text, statements, bytes)
 }
@@ -235,7 +235,7 @@ pub extern "C" fn rewrites_witness(
     turn: &mut u32,
     truth: &mut u32,
 ) -> u8
-    ensures { WitnessExported program.now condition.now part statement path.old path.new result (record { length = length.entry.now; turn = turn.old; truth = truth.old }) (record { length = length.exit.now; turn = turn.new; truth = truth.new }) }
+    ensures { WitnessExported program.now condition.now part statement path.old path.new result (record { length = length.old; turn = turn.old; truth = truth.old }) (record { length = length.new; turn = turn.new; truth = truth.new }) }
 {
     host_witness::export(
         program, condition, part, statement, path, length, turn, truth,
@@ -283,7 +283,7 @@ pub extern "C" fn rewrites_why(
     length: &mut u32,
     culprit: &mut u32,
 ) -> u8
-    ensures { WhyExported program.now marks.now line path.old path.new result (record { verdict = verdict.entry.now; length = length.old; culprit = culprit.old }) (record { verdict = verdict.exit.now; length = length.new; culprit = culprit.new }) }
+    ensures { WhyExported program.now marks.now line path.old path.new result (record { verdict = verdict.old; length = length.old; culprit = culprit.old }) (record { verdict = verdict.new; length = length.new; culprit = culprit.new }) }
 {
     host_why::export(program, marks, line, path, verdict, length, culprit)
 }

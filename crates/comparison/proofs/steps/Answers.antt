@@ -4,7 +4,7 @@ use mathlib.Core.Logic.{inl, inr}
 use Prim.Native.Nat.{ℕ, ◌-◌, ◌≤◌, ◌<◌}
 use native.Mathlib.Omega.{arith}
 use lib.ListN.{length}
-use Rattle.base.proofs.Bools.{clash, false_of_not, true_of_not}
+use Rattle.base.proofs.Bools.{clash}
 use Rattle.base.proofs.Decides.{decided-true, decided-false}
 use Rattle.program.specs.Program.{most, Targets, WellFormed}
 use Rattle.language.specs.Spelling.{Valid}
@@ -39,11 +39,6 @@ agree-requires c =
 pub shape_of-out-then-not-agree : goal.shape_of-out-then-not-agree
 shape_of-out-then-not-agree c = c.loop-k.invariant.same
 
-pub returns-then-not-agree : goal.returns-then-not-agree
-returns-then-not-agree c =
-    stopped c.loop-k.invariant _ refl refl refl refl (λ e. clash e refl)
-    (λ e rows m n. decided-false c.agree.result (false_of_not c.agree.result c.if-not-agree.true) (c.agree.ensures (statements c.args.p) rows c.loop-k.invariant.inside m n))
-
 pub step-next-requires : goal.step-next-requires
 step-next-requires c =
     let a = right c.args.p c.loop-k.place c.requires.well_formed c.loop-k.invariant.inside in
@@ -65,13 +60,6 @@ line-to-requires c =
       line_room_in_bounds = omega (arith, c.if-out-to-lt-LINE_ROOM.false, c.loop-k.invariant.fits, c.loop-k.invariant.same);
     }
 
-pub loop-k-preserved : goal.loop-k-preserved
-loop-k-preserved c =
-    let goes = rw c.in-To.is at c.way_on-way.ensures in
-    going_more c.args.p c.args.q _ _ _ _ _ c.step-next.new.values c.step.new.values c.step-next.result c.step.result (rw c.statement_of-s.ensures at c.step-next.ensures) (rw c.statement_of-t.ensures at c.step.ensures)
-        c.requires.well_formed c.requires.well_formed_2 (λ rows m n. decided-true c.agree.result (true_of_not c.agree.result c.if-not-agree.false) (c.agree.ensures (statements c.args.p) rows c.loop-k.invariant.inside m n))
-        c.loop-k.invariant c.loop-k-test.true _ goes (omega (arith, c.if-out-to-lt-LINE_ROOM.false, c.loop-k.invariant.fits, c.loop-k.invariant.same)) c.line-to.ensures.1 (rw (c.statement_of-s.ensures, c.statement_of-t.ensures) at c.line-to.ensures.0)
-
 pub line-to-requires-in-Ended : goal.line-to-requires-in-Ended
 line-to-requires-in-Ended c =
     let a = right c.args.p c.loop-k.place c.requires.well_formed c.loop-k.invariant.inside in
@@ -88,17 +76,29 @@ shape_of-out-in-Ended c =
     put-length c.line-to-in-Ended.ensures.0
     ∙ c.loop-k.invariant.same
 
+pub shape_of-out : goal.shape_of-out
+shape_of-out c = c.loop-k.invariant.same
+
+pub returns : goal.returns
+returns c = stopped c.loop-k.invariant _ refl refl refl refl (λ e. inl c.loop-k-test.false) (λ e. clash refl e)
+
+pub returns-then-not-agree : goal.returns-then-not-agree
+returns-then-not-agree c =
+    stopped c.loop-k.invariant _ refl refl refl refl (λ e. clash e refl)
+    (λ e rows m n. decided-false c.agree.result c.if-not-agree.true (c.agree.ensures (statements c.args.p) rows c.loop-k.invariant.inside m n))
+
+pub loop-k-preserved : goal.loop-k-preserved
+loop-k-preserved c =
+    let goes = rw c.in-To.is at c.way_on-way.ensures in
+    going_more c.args.p c.args.q _ _ _ _ _ c.step-next.new.values c.step.new.values c.step-next.result c.step.result (rw c.statement_of-s.ensures at c.step-next.ensures) (rw c.statement_of-t.ensures at c.step.ensures)
+    c.requires.well_formed c.requires.well_formed_2 (λ rows m n. decided-true c.agree.result c.if-not-agree.false (c.agree.ensures (statements c.args.p) rows c.loop-k.invariant.inside m n))
+    c.loop-k.invariant c.loop-k-test.true _ goes (omega (arith, c.if-out-to-lt-LINE_ROOM.false, c.loop-k.invariant.fits, c.loop-k.invariant.same)) c.line-to.ensures.1 (rw (c.statement_of-s.ensures, c.statement_of-t.ensures) at c.line-to.ensures.0)
+
 pub returns-in-Ended : goal.returns-in-Ended
 returns-in-Ended c =
     let end : c.line-to-in-Ended.result ≤ length c.args.out.now = omega (arith, c.line-to-in-Ended.ensures.1, c.if-out-to-lt-LINE_ROOM.false, c.loop-k.invariant.fits, c.loop-k.invariant.same) in
     let us = c.step-next.new.values in
     let over = ((rw c.in-Ended.is at c.way_on-way.ensures) us).1 in
     ended-step c.args.p c.args.q _ _ _ _ _ us c.step.new.values c.step-next.result c.step.result (rw c.statement_of-s.ensures at c.step-next.ensures) (rw c.statement_of-t.ensures at c.step.ensures)
-    c.requires.well_formed c.requires.well_formed_2 (λ rows m n. decided-true c.agree.result (true_of_not c.agree.result c.if-not-agree.false) (c.agree.ensures (statements c.args.p) rows c.loop-k.invariant.inside m n))
+    c.requires.well_formed c.requires.well_formed_2 (λ rows m n. decided-true c.agree.result c.if-not-agree.false (c.agree.ensures (statements c.args.p) rows c.loop-k.invariant.inside m n))
     c.loop-k.invariant c.loop-k-test.true _ _ refl refl refl refl refl over end (rw (c.statement_of-s.ensures, c.statement_of-t.ensures) at c.line-to-in-Ended.ensures.0)
-
-pub shape_of-out : goal.shape_of-out
-shape_of-out c = c.loop-k.invariant.same
-
-pub returns : goal.returns
-returns c = stopped c.loop-k.invariant _ refl refl refl refl (λ e. inl c.loop-k-test.false) (λ e. clash refl e)

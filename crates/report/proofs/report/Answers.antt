@@ -14,21 +14,21 @@ use Rattle.report.proofs.report.Goals.{In-Finished, In-Refused}
 refuses : (c : In-Refused) → Refuses c.args.given.now c.args.marks.now c.in-Refused.n
 refuses c =
     answer-refused c.args.given.now c.args.marks.now
-        (record { verdicts = c.verdict_buffer-verdicts.result; new = c.text_buffer-text.result })
-        (record { verdicts = c.judge-answer.new.verdicts; new = c.judge-answer.new.text })
-        c.judge-answer.ensures c.in-Refused.is (omega arith, omega arith)
+    (record { verdicts = c.verdict_buffer-verdicts.result; new = c.text_buffer-text.result })
+    (record { verdicts = c.judge-answer.new.verdicts; new = c.judge-answer.new.text })
+    c.judge-answer.ensures c.in-Refused.is (omega arith, omega arith)
 
 -- the answer is a result
 finished : (c : In-Finished)
     → JudgeFinished c.args.given.now c.args.marks.now
-        (record { verdicts = c.verdict_buffer-verdicts.result; new = c.text_buffer-text.result })
-        (record { verdicts = c.judge-answer.new.verdicts; new = c.judge-answer.new.text })
-        c.in-Finished.count c.in-Finished.accepted c.in-Finished.bytes
+    (record { verdicts = c.verdict_buffer-verdicts.result; new = c.text_buffer-text.result })
+    (record { verdicts = c.judge-answer.new.verdicts; new = c.judge-answer.new.text })
+    c.in-Finished.count c.in-Finished.accepted c.in-Finished.bytes
 finished c =
     answer-finished c.args.given.now c.args.marks.now
-        (record { verdicts = c.verdict_buffer-verdicts.result; new = c.text_buffer-text.result })
-        (record { verdicts = c.judge-answer.new.verdicts; new = c.judge-answer.new.text })
-        c.judge-answer.ensures c.in-Finished.is
+    (record { verdicts = c.verdict_buffer-verdicts.result; new = c.text_buffer-text.result })
+    (record { verdicts = c.judge-answer.new.verdicts; new = c.judge-answer.new.text })
+    c.judge-answer.ensures c.in-Finished.is
 
 pub write_refused-requires : goal.write_refused-requires
 write_refused-requires c = omega (arith, refused-room (refuses (goal.at.write_refused-requires c).In-Refused))

@@ -16,10 +16,10 @@ returns-in-Refused c =
     record {
       n = c.in-Refused.n;
       line = c.line_of_number-line.result;
-      refuses = answer-refused c.args.given.now c.args.marks.now 
-        (record { verdicts = c.verdict_buffer-verdicts.result; new = c.text_buffer-text.result })
-        (record { verdicts = c.judge-answer.new.verdicts; new = c.judge-answer.new.text })
-         c.judge-answer.ensures c.in-Refused.is (omega arith, omega arith);
+      refuses = answer-refused c.args.given.now c.args.marks.now
+          (record { verdicts = c.verdict_buffer-verdicts.result; new = c.text_buffer-text.result })
+          (record { verdicts = c.judge-answer.new.verdicts; new = c.judge-answer.new.text })
+          c.judge-answer.ensures c.in-Refused.is (omega arith, omega arith);
       blamed = blamed c.line_of_number-line.ensures;
       fits = words-most c.in-Refused.n c.line_of_number-line.result _ (search rules) (search rules) c.if-out-lt-REFUSAL_ROOM.false;
       written = c.write_words.ensures;
@@ -27,8 +27,8 @@ returns-in-Refused c =
 
 pub returns-in-Finished : goal.returns-in-Finished
 returns-in-Finished c =
-    let f = answer-finished c.args.given.now c.args.marks.now 
-        (record { verdicts = c.verdict_buffer-verdicts.result; new = c.text_buffer-text.result })
-        (record { verdicts = c.judge-answer.new.verdicts; new = c.judge-answer.new.text })
-         c.judge-answer.ensures c.in-Finished.is in
+    let f = answer-finished c.args.given.now c.args.marks.now
+    (record { verdicts = c.verdict_buffer-verdicts.result; new = c.text_buffer-text.result })
+    (record { verdicts = c.judge-answer.new.verdicts; new = c.judge-answer.new.text })
+    c.judge-answer.ensures c.in-Finished.is in
     (f.P, f.program, f.ms, f.marks, refl)

@@ -8,10 +8,10 @@ use Rattle.program.specs.Reading.{statements}
 use native.Mathlib.Omega.{arith}
 use mathlib.Core.Path.{sym, ◌∙◌}
 use Rattle.why.proofs.at_line.Goals as goal
-use Rattle.why.proofs.at_line.Goals.{After-flow-2-1}
+use Rattle.why.proofs.at_line.Goals.{After-of}
 
 -- what is known of the program before its list is judged
-program-known : (c : After-flow-2-1) → Known (statements c.args.p) c.args.p.count c.find.new.rows c.find.new.codes c.of.new.flow
+program-known : (c : After-of) → Known (statements c.args.p) c.args.p.count c.find.new.rows c.find.new.codes c.of.new.flow
 program-known c =
     known-program {flow = c.of.new.flow} c.requires.1.1 c.requires.0 c.find.ensures c.blank_codes-codes.ensures.many c.of.ensures (omega (arith, c.of.auto, c.blank-flow.ensures.size))
 
@@ -19,10 +19,10 @@ pub find-requires : goal.find-requires
 find-requires c = record { held = c.requires.0; well_formed = c.requires.1.1.program; placeless = placeless c.blank-rows.ensures }
 
 pub row-requires : goal.row-requires
-row-requires c = let k = program-known (goal.at.row-requires c).After-flow-2-1 in record { valid_atom = (rw c.variable_of.ensures (line-variable c.requires.2), record { many = k.found.many; many_codes = k.found.many_codes }); n_le_most = (omega (arith, k.size, k.few), c.blank_row-own.ensures.size) }
+row-requires c = let k = program-known (goal.at.row-requires c).After-of in record { valid_atom = (rw c.variable_of.ensures (line-variable c.requires.2), record { many = k.found.many; many_codes = k.found.many_codes }); n_le_most = (omega (arith, k.size, k.few), c.blank_row-own.ensures.size) }
 
 pub judge-requires : goal.judge-requires
-judge-requires c = let l = c.requires.2 in record { held = (c.requires.0, program-known (goal.at.judge-requires c).After-flow-2-1); some_taken = (record { ms = l.ms; taken = l.taken }, omega (arith, c.verdict_buffer-verdicts.ensures)) }
+judge-requires c = let l = c.requires.2 in record { held = (c.requires.0, program-known (goal.at.judge-requires c).After-of); some_taken = (record { ms = l.ms; taken = l.taken }, omega (arith, c.verdict_buffer-verdicts.ensures)) }
 
 pub bounds-verdicts-line : goal.bounds-verdicts-line
 bounds-verdicts-line c = line-few c.requires.2
@@ -36,7 +36,7 @@ returns-then-byte-number_of c = λ t taken.
 pub path_of-shown-requires : goal.path_of-shown-requires
 path_of-shown-requires c =
     let l = c.requires.2 in
-    let k = program-known (goal.at.path_of-shown-requires c).After-flow-2-1 in
+    let k = program-known (goal.at.path_of-shown-requires c).After-of in
     let j = c.judge.ensures l.ms l.taken in
     let v = j.0.judged c.args.line l.inside in
     let byte = sym v.2 ∙ c.if-byte-number_of.false ∙ c.number_of.ensures in
@@ -44,12 +44,12 @@ path_of-shown-requires c =
     (record { P = statements c.args.p; ms = l.ms; refused = refusal l (statements c.args.p) v.0 v.1 byte j.1 _ own; here = refusal-place l (statements c.args.p) v.0 v.1 byte k.few _ c.place_of-s.ensures.1 }, c.row.auto.out ∙ c.blank_row-own.ensures.size, omega (arith, c.requires.3, k.size, k.few))
 
 pub overflow_cast-result : goal.overflow_cast-result
-overflow_cast-result c = let k = program-known (goal.at.overflow_cast-result c).After-flow-2-1 in omega (arith, c.path_of-shown.ensures.1, k.size, k.few)
+overflow_cast-result c = let k = program-known (goal.at.overflow_cast-result c).After-of in omega (arith, c.path_of-shown.ensures.1, k.size, k.few)
 
 pub returns : goal.returns
 returns c = λ t taken.
     let l = c.requires.2 in
-    let k = program-known (goal.at.returns c).After-flow-2-1 in
+    let k = program-known (goal.at.returns c).After-of in
     let j = c.judge.ensures l.ms l.taken in
     let v = j.0.judged c.args.line l.inside in
     let byte = sym v.2 ∙ c.if-byte-number_of.false ∙ c.number_of.ensures in
