@@ -1,5 +1,4 @@
 -- From what `judge` answers to the two programs whose prices are listed. Assumes nothing.
-use mathlib.Core.Path.{◌≡◌}
 use mathlib.Core.Logic.{inl, inr, ⊎_elim}
 use mathlib.Core.List.{List}
 use Prim.Native.Nat.{ℕ, ◌≤◌}

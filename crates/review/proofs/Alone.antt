@@ -17,7 +17,7 @@ use Rattle.condition_reader.proofs.Unique as condition-unique
 use Rattle.truth.specs.Truth.{Sat}
 use Rattle.table.specs.Table.{part_words, part_at}
 use Rattle.table.proofs.Summaries.{counts-unique}
-use Rattle.sharing.specs.Sharing.{part, number_of, firsts, parts_of}
+use Rattle.sharing.specs.Sharing.{part, firsts, parts_of}
 use Rattle.sharing.proofs.Lines.{line_known, line-own}
 use Rattle.calls.proofs.Unique.{refuses-not}
 use Rattle.review_reader.proofs.Taken.{taken-valid, taken_at}

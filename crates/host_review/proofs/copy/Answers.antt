@@ -2,7 +2,7 @@
 use Rattle.host_review.proofs.Copies.{begun_more}
 use lib.ListN.{get_or, set}
 use native.Mathlib.Omega.{arith}
-use Prim.Native.Nat.{ℕ, ◌-◌}
+use Prim.Native.Nat.{ℕ}
 use mathlib.Core.List.{List}
 use mathlib.Core.Path.{◌≡◌, refl, ap, ◌∙◌}
 use Rattle.host_review.proofs.copy.Goals as goal
