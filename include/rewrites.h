@@ -1,4 +1,4 @@
-/* Calls of the rewrites library, for C and C++ on x86-64. `rt staticlib rewrites` makes the archive
+/* Calls of the rewrites library, for C and C++ on x86-64. `.ci/library` makes the archive
    to link, target/staticlib/librewrites.a, which needs no library but C's.
 
    Each call takes any bytes. It returns 0 with a result, or the number of the refusal: the first
