@@ -24,11 +24,9 @@ fn spaced(out: &mut [u8], at: usize, kept: &[u32; KEPT]) -> usize
     ensures { Put out.old at (spaced_values kept_count kept.now) out.new result × (result ≤ at + kept_count * spaced_room) }
 {
     let mut to = at;
-    let mut x: usize = 0;
-    while x < KEPT {
+    for value in kept {
         let k = statement_writer::byte(out, to, b' ');
-        to = statement_writer::constant(out, k, kept[x]);
-        x += 1;
+        to = statement_writer::constant(out, k, *value);
     }
     to
 }
@@ -38,12 +36,11 @@ fn long(out: &mut [u8], at: usize, n: u64) -> usize
     requires { at + length (digits n) ≤ length out.old }
     ensures { Put out.old at (digits n) out.new result }
 {
-    if n < 4294967296 {
-        statement_writer::number(out, at, n as u32)
-    } else {
-        let k = long(out, at, n / 10);
-        statement_writer::byte(out, k, b'0' + (n % 10) as u8)
+    if let Ok(short) = u32::try_from(n) {
+        return statement_writer::number(out, at, short);
     }
+    let k = long(out, at, n / 10);
+    statement_writer::byte(out, k, b'0' + (n % 10) as u8)
 }
 
 // ` ticks 36`

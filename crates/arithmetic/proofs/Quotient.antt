@@ -1,8 +1,8 @@
 -- The quotient of two numbers of 32 bits has 32 bits again, but for the least by -1. Assumes nothing.
-use Rattle.std.proofs.Common.{◌≡◌, ℕ, zero, suc, ◌+◌, ◌-◌, ◌*◌, ◌/◌, ◌^◌, ◌<◌, ◌≤◌, Bool, true, false, ◌&&◌, T, eqb, ℤ, pos, negsuc, ◌+ℤ◌, neg_ℤ, nat_abs, sym, refl, ap, ◌∙◌, subst, ap₂, suc-le-suc, zero-le, zero-lt-suc, div-lt_iff_lt-mul, div-le_self, div-one, arith, to_z-of_z, w32, w64, Fits, SFits, to_z, of_z, ltb-true, le-ltb, lt-ltb}
+use Rattle.std.proofs.Common.{◌≡◌, ℕ, zero, suc, ◌/◌, ◌^◌, ◌<◌, ◌≤◌, Bool, true, false, ◌&&◌, eqb, ℤ, pos, negsuc, neg_ℤ, sym, refl, ap, ◌∙◌, zero-le, zero-lt-suc, div-lt_iff_lt-mul, div-le_self, div-one, arith, w32, Fits, SFits, to_z, of_z}
 use native.Mathlib.Decide.{ℕ_discrete}
-use lib.Signed.{mag, non_neg, lt_z, quot_z}
-use mir.Facts.{of_z-to_z, Fits-of_z, sfits_to_z}
+use lib.Signed.{mag, quot_z}
+use mir.Facts.{of_z-to_z, sfits_to_z}
 
 mag-opposite : (r a : ℕ) → r ≤ suc a → mag (neg_ℤ (pos r)) ≤ a
 mag-opposite zero a h = zero-le
@@ -22,28 +22,12 @@ quot_below (negsuc a) (negsuc (suc b)) h n = (div-lt_iff_lt-mul (zero-lt-suc (su
 pub quot_fits : (x y : ℤ) → SFits w32 x → (x ≡ negsuc 2147483647 → y ≡ negsuc 0 → ⊥) → SFits w32 (quot_z x y)
 quot_fits x y f n = record { sfits = quot_below x y f.sfits n }
 
--- a negative number of 32 bits and 2 ^ 32 are its bits
-pub lifted : (v : ℤ) → lt_z v (pos 0) ≡ true → SFits w32 v → v +ℤ pos 4294967296 ≡ pos (of_z w32 v)
-lifted (pos n) e f = absurd (omega (arith, ltb-true n 0 e))
-lifted (negsuc n) e f = let l = f.sfits in simp (le-ltb 4294967296 (suc n) (omega arith))
-
-pub same_bits : (v : ℤ) → lt_z v (pos 0) ≡ false → nat_abs v ≡ of_z w32 v
-same_bits (pos n) e = refl
-same_bits (negsuc n) e = absurd (let z : ◌≡◌ {A = Bool} true false = e in let y : ◌≡◌ {A = ℕ} 0 1 = cc in omega arith)
-
--- the bits of a divisor other than 0, and of the numbers at the end of the range
+-- the bits of the numbers at the end of the range
 pub least-bits : (a : ℕ) → Fits w32 a → to_z w32 a ≡ negsuc 2147483647 → a ≡ 2147483648
 least-bits a f e = sym (of_z-to_z {w = w32} f) ∙ ap (of_z w32) e
 
 pub minus-one-bits : (b : ℕ) → Fits w32 b → to_z w32 b ≡ negsuc 0 → b ≡ 4294967295
 minus-one-bits b f e = sym (of_z-to_z {w = w32} f) ∙ ap (of_z w32) e
-
-pub not_negative : (v : ℤ) → lt_z v (pos 0) ≡ false → T (non_neg v)
-not_negative (pos n) e = tt
-not_negative (negsuc n) e = absurd (let z : ◌≡◌ {A = Bool} true false = e in let y : ◌≡◌ {A = ℕ} 0 1 = cc in omega arith)
-
-pub lifted-fits : (v : ℤ) → SFits w32 v → SFits w64 (pos (of_z w32 v))
-lifted-fits v f = let l = (Fits-of_z {w = w32} f).fits in record { sfits = omega arith }
 
 -- the least number by -1 gives its own bits
 pub end-quotient : of_z w32 (quot_z (to_z w32 2147483648) (to_z w32 4294967295)) ≡ 2147483648

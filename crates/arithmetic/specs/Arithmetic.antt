@@ -1,11 +1,9 @@
 -- What the operators give on values of 32 bits: document 01, "The statement language", and document 02, Wish 5.
-use Rattle.std.specs.Prelude.{ℕ, ◌+◌, ◌-◌, ◌*◌, ◌%◌, ◌^◌, Bool, true, false, ◌==◌, int_div, int_lt}
+use Rattle.std.specs.Prelude.{ℕ, ◌+◌, ◌-◌, ◌*◌, ◌%◌, ◌^◌, Bool, true, false, ◌==◌, int_div, int_lt, Option, None, Some}
 use Rattle.std.specs.Int.{w32}
 use Rattle.std.proofs.Common.{to_z, of_z}
 use Rattle.language.specs.declared.Operator.{Operator}
 use Rattle.language.specs.declared.Operator.TheVariants.{Add, Subtract, Multiply, Less, Equal, Divide}
-use Rattle.arithmetic.specs.declared.Evaluated.{Evaluated}
-use Rattle.arithmetic.specs.declared.Evaluated.TheVariants.{Value, Fault}
 
 abbrev pub bit : Bool → ℕ
 bit true = 1
@@ -30,7 +28,7 @@ faults Less b = false
 faults Equal b = false
 faults Divide b = b == 0
 
--- what an expression gives: a value, or a fault
-abbrev pub given : Bool → ℕ → Evaluated
-given true v = Fault
-given false v = Value v
+-- what an expression gives: a value, or none by a fault
+abbrev pub given : Bool → ℕ → Option ℕ
+given true v = None
+given false v = Some v

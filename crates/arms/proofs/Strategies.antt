@@ -29,15 +29,6 @@ arm-his k a b f h = rw (ne_eqb k 0 f, ne_eqb k none h)
 pub arm-units : (k a b : ℕ) → k ≡ none → arm_of false k a b ≡ side (eqb a none)
 arm-units k a b e = rw (eq-eqb k none e)
 
-pub arm-here : (k a b : ℕ) → k ≡ 0 → arm_of true k a b ≡ 0
-arm-here k a b e = rw e refl
-
-pub arm-lost : (k a b : ℕ) → k ≡ none → arm_of true k a b ≡ 0
-arm-lost k a b e = rw e refl
-
-pub arm-won : (k a b : ℕ) → (k ≡ none → ⊥) → arm_of false k a b ≡ 0
-arm-won k a b f = rw (ne_eqb k none f)
-
 -- ---- where a statement steps to
 
 Nexts : Statement → ℕ → ℕ → Type 0

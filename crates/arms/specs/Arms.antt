@@ -6,6 +6,8 @@ use Rattle.language.specs.declared.Statement.TheVariants.{Read, Write, Assign, B
 use Rattle.program.specs.Program.{at}
 use Rattle.ctl.specs.Paths.{Path}
 use Rattle.forcing.specs.Numbers.{none, number_of}
+use Rattle.arms.specs.declared.Arm.{Arm}
+use Rattle.arms.specs.declared.Arm.TheVariants as arm
 
 -- an `if` on a variable of which `named` is true
 abbrev pub asks : (ℕ → Bool) → Statement → Bool
@@ -19,7 +21,13 @@ asks named Skip = false
 abbrev pub his : List Statement → (ℕ → Bool) → ℕ → Bool
 his P named s = asks named (at P s)
 
--- an arm is told as 0 for none, 1 for `goto`, 2 for `else`: `goto` where the test holds
+-- an arm is told as 0 for none, 1 for `goto`, 2 for `else`
+abbrev pub told : Arm → ℕ
+told arm.None = 0
+told arm.Goto = 1
+told arm.Else = 2
+
+-- `goto` where the test holds, else `else`
 abbrev pub side : Bool → ℕ
 side true = 1
 side false = 2

@@ -1,5 +1,5 @@
 // What two players can do on a program: the driver picks at each `if` on a variable of his, the unit at every other. The numbers of the
-// statements, in how many steps he can force a goal, and the arms that both take: 0 for none, 1 for `goto`, 2 for `else`.
+// statements, in how many steps he can force a goal, and the arms that both take.
 #![tactic(auto)]
 
 ghost use Rattle.std.specs.Prelude.{Bool, ◌≡◌, ℕ, ◌-◌, ◌*◌, ◌≤◌, ◌<◌, length, get_or};
@@ -8,7 +8,7 @@ ghost use Rattle.program.specs.Program.{Targets, WellFormed};
 ghost use Rattle.program.specs.Reading.{statements, Held};
 ghost use Rattle.language.specs.Spelling.{variables, Valid};
 ghost use Rattle.ctl.specs.Paths.{So};
-ghost use Rattle.arms.specs.Arms.{asks, his, arm_of, arm_at, ArmsOf};
+ghost use Rattle.arms.specs.Arms.{told, asks, his, arm_of, arm_at, ArmsOf};
 ghost use Rattle.arms.specs.Forced.{Forced, Kept, Lent};
 
 use forcing::NONE;
@@ -16,18 +16,36 @@ use graph::ENTRIES;
 use language::Statement;
 use program::Program;
 
+// The arm that is to be taken at a statement.
+#[derive(Clone, Copy)]
+enum Arm {
+    None,
+    Goto,
+    Else,
+}
+
+// As it is told in the lent numbers.
+impl From<Arm> for u8 {
+    ghost from_gives = { λ arm n. n ≡ told arm };
+
+    fn from(arm: Arm) -> u8 {
+        match arm {
+            Arm::None => 0,
+            Arm::Goto => 1,
+            Arm::Else => 2,
+        }
+    }
+}
+
 // Whether a statement is an `if` on a variable that is named.
 fn asked(e: Statement, named: &[u64]) -> bool
     requires { Valid e × (variables ≤ length named.now * 64) }
     ensures { result ≡ asks (member named.now) e }
 {
-    match e {
-        Statement::Read(_) => false,
-        Statement::Write(_) => false,
-        Statement::Assign(_, _) => false,
-        Statement::Branch(x, _, _) => bits::contains(named, x as usize),
-        Statement::Skip => false,
+    if let Statement::Branch(x, _, _) = e {
+        return bits::contains(named, x as usize);
     }
+    false
 }
 
 // The places at which the driver picks, by the variables that are his.
@@ -38,43 +56,37 @@ fn own(p: Program, named: &[u64], mine: &mut [u64])
     ensures { (s : ℕ) → s < p.count → member mine.new s ≡ his (statements p) (member named.now) s }
 {
     bits::clear(mine);
-    let n = p.count;
-    let mut s: usize = 0;
-    while s < n {
-        let e = p.entries[s];
-        let t = encoding::statement_of(e);
+    for s in 0..p.count {
+        let t = encoding::statement_of(p.entries[s]);
         if asked(t, named) {
             bits::insert(mine, s);
-            s += 1;
-        } else {
-            s += 1;
         }
     }
 }
 
 // The arm of an `if` with the number k, whose arms lead to places with the numbers a and b: `goto` and `else`.
-fn choose(own: bool, k: u32, a: u32, b: u32) -> u8
-    ensures { result ≡ arm_of own k a b }
+fn choose(own: bool, k: u32, a: u32, b: u32) -> Arm
+    ensures { told result ≡ arm_of own k a b }
 {
     if own {
         if k == 0 {
-            return 0;
+            return Arm::None;
         }
         if k == NONE {
-            return 0;
+            return Arm::None;
         }
         if a <= b {
-            return 1;
+            return Arm::Goto;
         }
-        return 2;
+        return Arm::Else;
     }
     if k != NONE {
-        return 0;
+        return Arm::None;
     }
     if a == NONE {
-        return 1;
+        return Arm::Goto;
     }
-    2
+    Arm::Else
 }
 
 // The place of statement n.
@@ -86,17 +98,14 @@ fn place(n: u32) -> usize
 }
 
 // The arm of the statement at place s, which is the driver's or not.
-fn of_statement(e: Statement, own: bool, numbers: &[u32], s: usize) -> u8
+fn of_statement(e: Statement, own: bool, numbers: &[u32], s: usize) -> Arm
     requires { (s < length numbers.now) × Targets (length numbers.now) e }
-    ensures { result ≡ arm_at e own numbers.now s }
+    ensures { told result ≡ arm_at e own numbers.now s }
 {
-    match e {
-        Statement::Read(_) => 0,
-        Statement::Write(_) => 0,
-        Statement::Assign(_, _) => 0,
-        Statement::Branch(_, n, m) => choose(own, numbers[s], numbers[place(n)], numbers[place(m)]),
-        Statement::Skip => 0,
+    if let Statement::Branch(_, n, m) = e {
+        return choose(own, numbers[s], numbers[place(n)], numbers[place(m)]);
     }
+    Arm::None
 }
 
 // The arms of the program's statements, with the driver's places in `mine`. What stands after them is kept.
@@ -107,14 +116,10 @@ fn fill(p: Program, mine: &[u64], numbers: &[u32], arms: &mut [u8])
     ensures arms_of { ArmsOf (statements p) (member mine.now) numbers.now arms.new }
     ensures by_index { (s : ℕ) → p.count ≤ s → get_or arms.new s 0 ≡ get_or arms.old s 0 }
 {
-    let n = p.count;
-    let mut s: usize = 0;
-    while s < n {
-        let e = p.entries[s];
-        let t = encoding::statement_of(e);
+    for s in 0..p.count {
+        let t = encoding::statement_of(p.entries[s]);
         let own = bits::contains(mine, s);
-        arms[s] = of_statement(t, own, numbers, s);
-        s += 1;
+        arms[s] = u8::from(of_statement(t, own, numbers, s));
     }
 }
 

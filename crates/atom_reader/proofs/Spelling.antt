@@ -4,6 +4,7 @@ use mathlib.Core.List.{List, [], ◌∷◌, ◌++◌, append_assoc}
 use mathlib.Core.Bool.{Bool, true, false}
 use Prim.Native.Nat.{ℕ, ◌<◌}
 use native.Mathlib.Omega.{arith}
+use borrow.Author.Tests.{ne_eqb}
 use lib.Dec.{eqb}
 use lib.ListN.{length, drop, get_or}
 use Rattle.base.specs.Bytes.{bytes, byte}
@@ -93,3 +94,7 @@ atom-complete (Trans e) u v = ap parse_atom (enclosed-text (bytes "trans(") (spe
 pub atom-first : (s : List ℕ) (at : ℕ) → at < length s → parse_atom (drop at s) ≡ by_first (get_or s at 0) (drop at s)
 unfolding parse_atom
 atom-first s at h = rw (at_byte s at h)
+
+-- a byte that begins no atom
+pub atom-other : (c : ℕ) (l : List ℕ) → (c ≡ 116 → ⊥) → (c ≡ 102 → ⊥) → (c ≡ 101 → ⊥) → (c ≡ 110 → ⊥) → (c ≡ 115 → ⊥) → (c ≡ 100 → ⊥) → (c ≡ 117 → ⊥) → misspelled ≡ by_first c l
+atom-other c l a b d e f g h = rw (ne_eqb c 116 a, ne_eqb c 102 b, ne_eqb c 101 d, ne_eqb c 110 e, ne_eqb c 115 f, ne_eqb c 100 g, ne_eqb c 117 h)

@@ -1,14 +1,12 @@
 -- A proof device: what each reader of atoms finds at the front of a text, the readers' common language. It promises nothing by itself:
 -- proofs/Spelling.antt holds it to the spelling, both ways round.
-use Rattle.std.specs.Prelude.{List, [], ◌∷◌, ℕ, eqb, drop}
+use Rattle.std.specs.Prelude.{List, [], ◌∷◌, ℕ, eqb}
 use Rattle.base.specs.Bytes.{bytes, byte}
 use Rattle.tokens.specs.Parsing.{Parsed, found, misspelled, after, after_or, parse_word, parse_statement_number, parse_variable}
 use Rattle.base.specs.Pick.{pick}
 use Rattle.statement_reader.specs.Parsing.{parse_expression, parse_statement}
 use Rattle.condition.specs.declared.Atom.{Atom}
 use Rattle.condition.specs.declared.Atom.TheVariants.{True, False, Entry, Exit, Node, Stmt, Def, Use, Trans}
-use Rattle.atom_reader.specs.declared.AtomRead.{AtomRead}
-use Rattle.atom_reader.specs.declared.AtomRead.TheVariants as atomRead
 
 -- the value a, past the word
 unfoldable pub parse_ended : {A : Type 0} → List ℕ → A → List ℕ → Parsed A
@@ -50,13 +48,3 @@ by_first c l =
 unfoldable pub parse_atom : List ℕ → Parsed Atom
 parse_atom [] = misspelled
 parse_atom (c ∷ l) = by_first c (c ∷ l)
-
--- in each `parsed..`: what the reader's answer says of the text
-abbrev pub parsed_atom : List ℕ → AtomRead → Parsed Atom
-parsed_atom s (atomRead.Found a k) = found a (drop k s)
-parsed_atom s atomRead.Misspelled = misspelled
-
--- in each `..End`: the position after what was found
-abbrev pub atom_end : AtomRead → ℕ
-atom_end (atomRead.Found a k) = k
-atom_end atomRead.Misspelled = 0

@@ -25,11 +25,11 @@ use Rattle.language.specs.declared.Statement.TheVariants.{Read, Write, Assign, B
 use Rattle.program.specs.Program.{at, most, row_words, WellFormed}
 use Rattle.program.specs.Reading.{statements, Held}
 use Rattle.program.specs.declared.Program.{Program}
-use Rattle.program.proofs.Held.{held, at_held, held-valid, length-held}
+use Rattle.program.proofs.Held.{held, held-valid, length-held}
 use Rattle.bits.specs.Row.{bit, member, row_of, Kept, Zeros}
 use Rattle.bits.proofs.Rows.{word-member, member-beyond, zeros-member}
 use Rattle.bits.proofs.Tables.{row_at, row-length, row_kept, replaced, replaced-row, replaced-kept}
-use Rattle.base.proofs.Bools.{split, clash, and_left, and_right, and_both, or_case, or_left, or_right}
+use Rattle.base.proofs.Bools.{clash, and_left, and_right, and_both, or_case, or_left, or_right}
 use Rattle.labelling.specs.Labels.{Labelled}
 use Rattle.truth.specs.Truth.{InOperand, In, Defines, Uses}
 use Rattle.codes.specs.Codes.{statement_code, code_words}
@@ -81,8 +81,8 @@ or-spread false true true false = refl
 or-spread false true false false = refl
 or-spread false false g e = refl
 
-pub marked-both : {a b c : List ℕ} {f g : ℕ → Bool} {s : ℕ} → Marked a b f s → Marked b c g s → Marked a c (λ r. f r || g r) s
-marked-both {a} {b} {c} {f} {g} {s} m n = record {
+pub marked_both : {a b c : List ℕ} {f g : ℕ → Bool} {s : ℕ} → Marked a b f s → Marked b c g s → Marked a c (λ r. f r || g r) s
+marked_both {a} {b} {c} {f} {g} {s} m n = record {
   same = n.same ∙ m.same;
   bits = λ r j l. n.bits r j l ∙ ap (λ (x : Bool). x || (g r && eqb s j)) (m.bits r j l) ∙ or-spread (placed a r j) (f r) (g r) (eqb s j);
 }
@@ -94,7 +94,7 @@ marked-unkept rows s = marked-none rows s
 
 pub marked-kept : {a b c : List ℕ} {s : ℕ} (k : ℕ) → Marked a b (noted_kept k) s → Marked b c (eqb (used_row (first_kept + k))) s → Marked a c (noted_kept (k + 1)) s
 unfolding noted_kept
-marked-kept k m n = rw add-one (marked-both m n)
+marked-kept k m n = rw add-one (marked_both m n)
 
 -- ---- which rows a statement's place stands in
 
@@ -256,18 +256,6 @@ module _ (P : List Statement) (s : ℕ) (i : Statement) (is : at P s ≡ i) (f g
 
   pub found-uncoded : room ≤ s → FoundBelow P (s + 1) g room codes
   found-uncoded l = record { many = m.same ∙ below.many; many_codes = below.many_codes; bits = noted_more; coded = λ t h k. below.coded t (omega arith) k }
-
-pub found_all : (P : List Statement) (s : ℕ) (rows : List ℕ) (room : ℕ) (codes : List (List ℕ)) → length P ≤ s → FoundBelow P s rows room codes → Found P rows room codes
-found_all P s rows room codes l below = record {
-  many = below.many;
-  many_codes = below.many_codes;
-  bits = λ r j h. below.bits r j h ∙ go r j (dec_lt j s);
-  coded = λ t h k. below.coded t (omega arith) k;
-}
-  where
-    go : (r j : ℕ) → Dec (j < s) → (ltb j s && noted (at P j) r) ≡ noted (at P j) r
-    go r j (yes h) = ap (λ (b : Bool). b && noted (at P j) r) (lt-ltb j s h)
-    go r j (no h) = ap (λ (b : Bool). b && noted (at P j) r) (le-ltb j s (omega arith)) ∙ sym (noted-past P j r (omega arith))
 
 -- where there is room for all codes, these are the facts
 pub found-facts : {P : List Statement} {rows : List ℕ} {room : ℕ} {codes : List (List ℕ)} → Found P rows room codes → room ≡ most → length P ≤ most → FactsOf P rows codes

@@ -13,7 +13,7 @@ ghost use Rattle.labelling.specs.Labels.{Labelled};
 ghost use Rattle.condition.specs.Condition.{ValidAtom};
 ghost use Rattle.truth.specs.Truth.{InOperand, In, Defines, HoldsBy};
 ghost use Rattle.codes.specs.Codes.{code_word_count};
-ghost use Rattle.atoms.specs.Facts.{row_number, used_row, fact_rows, fact_words, Placeless, Found, used_in, FactsIn, Sized, noted_operand, noted_expression, noted_kept, noted, Marked};
+ghost use Rattle.atoms.specs.Facts.{defined_row, used_row, fact_rows, fact_words, Placeless, Found, used_in, FactsIn, Sized, noted_operand, noted_expression, noted_kept, noted, Marked};
 
 use codes::CODE_WORDS;
 use condition::Atom;
@@ -43,15 +43,18 @@ pub fn no_codes() -> [[u64; CODE_WORDS]; 0]
     [[0; CODE_WORDS]; 0]
 }
 
-// The row of the places that define a variable, or of those that use it.
-fn row_number(x: u8, uses: bool) -> usize
-    ensures { result ≡ row_number x uses }
+// The row of the places that define a variable.
+fn defined_row(x: u8) -> usize
+    ensures { result ≡ defined_row x }
 {
-    if uses {
-        2 * (x as usize) + 1
-    } else {
-        2 * (x as usize)
-    }
+    2 * (x as usize)
+}
+
+// The row of the places that use it.
+fn used_row(x: u8) -> usize
+    ensures { result ≡ used_row x }
+{
+    2 * (x as usize) + 1
 }
 
 // The words of row k.
@@ -74,13 +77,29 @@ fn mark(k: usize, s: usize, rows: &mut [u64])
     bits::insert(&mut rows[at..end], s);
 }
 
+// The variable is defined at place s.
+fn define(x: u8, s: usize, rows: &mut [u64])
+    requires { ValidVariable x × (s < most) × (length rows.old ≡ fact_words) }
+    ensures { Marked rows.old rows.new (eqb (defined_row x)) s }
+{
+    mark(defined_row(x), s, rows);
+}
+
+// The variable counts as used at place s.
+pub fn use_also(x: u8, s: usize, rows: &mut [u64])
+    requires { ValidVariable x × (s < most) × (length rows.old ≡ fact_words) }
+    ensures { Marked rows.old rows.new (eqb (used_row x)) s }
+{
+    mark(used_row(x), s, rows);
+}
+
 // The operand's variable is used at place s.
 fn note_operand(a: Operand, s: usize, rows: &mut [u64])
     requires { ValidOperand a × (s < most) × (length rows.old ≡ fact_words) }
     ensures { Marked rows.old rows.new (noted_operand a) s }
 {
     match a {
-        Operand::Variable(x) => mark(row_number(x, true), s, rows),
+        Operand::Variable(x) => use_also(x, s, rows),
         Operand::Constant(_) => {}
     }
 }
@@ -104,11 +123,9 @@ fn note_kept(s: usize, rows: &mut [u64])
     requires { (s < most) × (length rows.old ≡ fact_words) }
     ensures { Marked rows.old rows.new (noted_kept kept_count) s }
 {
-    let mut k: usize = 0;
-    while k < KEPT {
+    for k in 0..KEPT {
         let x = FIRST_KEPT + k;
-        mark(row_number(x as u8, true), s, rows);
-        k += 1;
+        use_also(x as u8, s, rows);
     }
 }
 
@@ -118,16 +135,16 @@ fn note(i: Statement, s: usize, rows: &mut [u64])
     ensures { Marked rows.old rows.new (noted i) s }
 {
     match i {
-        Statement::Read(x) => mark(row_number(x, false), s, rows),
+        Statement::Read(x) => define(x, s, rows),
         Statement::Write(x) => {
-            mark(row_number(x, true), s, rows);
+            use_also(x, s, rows);
             note_kept(s, rows);
         }
         Statement::Assign(x, e) => {
-            mark(row_number(x, false), s, rows);
+            define(x, s, rows);
             note_expression(e, s, rows);
         }
-        Statement::Branch(x, _, _) => mark(row_number(x, true), s, rows),
+        Statement::Branch(x, _, _) => use_also(x, s, rows),
         Statement::Skip => {}
     }
 }
@@ -139,29 +156,13 @@ pub fn find(p: Program, rows: &mut [u64], codes: &mut [[u64; CODE_WORDS]])
     requires placeless { Placeless rows.old }
     ensures { Found (statements p) rows.new (length codes.old) codes.new }
 {
-    let n = p.count;
-    let mut s: usize = 0;
-    while s < n {
-        let e = p.entries[s];
-        let i = encoding::statement_of(e);
+    for s in 0..p.count {
+        let i = encoding::statement_of(p.entries[s]);
         note(i, s, rows);
         if s < codes.len() {
-            let words = codes::words_of(codes::statement_code(i));
-            codes[s] = words;
-            s += 1;
-        } else {
-            s += 1;
+            codes[s] = codes::words_of(codes::statement_code(i));
         }
     }
-}
-
-// The variable counts as used at place s too.
-pub fn use_also(x: u8, s: usize, rows: &mut [u64])
-    requires { ValidVariable x × (s < most) × (length rows.old ≡ fact_words) }
-    ensures { Marked rows.old rows.new (eqb (used_row x)) s }
-{
-    let used = row_number(x, true);
-    mark(used, s, rows);
 }
 
 // Room for a row.
@@ -191,11 +192,7 @@ pub fn copy(from: &[u64], out: &mut [u64])
     requires { length from.now ≡ length out.old }
     ensures { (j : ℕ) → member out.new j ≡ member from.now j }
 {
-    let mut k: usize = 0;
-    while k < out.len() {
-        out[k] = from[k];
-        k += 1;
-    }
+    out.copy_from_slice(from);
 }
 
 // The places below n at which the statement i stands.
@@ -205,13 +202,9 @@ fn statement_row(i: Statement, n: usize, codes: &[[u64; CODE_WORDS]], out: &mut 
 {
     let c = codes::statement_code(i);
     bits::clear(out);
-    let mut s: usize = 0;
-    while s < n {
+    for s in 0..n {
         if codes::same_words(c, &codes[s]) {
             bits::insert(out, s);
-            s += 1;
-        } else {
-            s += 1;
         }
     }
 }
@@ -223,7 +216,7 @@ fn keeping(a: Operand, all: &[u64], rows: &[u64], out: &mut [u64])
     ensures { (P : List StatementOf) (n : ℕ) (codes : List (List ℕ)) → FactsIn P n rows.now codes → ((s : ℕ) → n ≤ s → member all.now s ≡ false) → Labelled n (member out.new) (λ s. So (member all.now) s × ((x : ℕ) → InOperand x a → Defines (at P s) x → ⊥)) }
 {
     match a {
-        Operand::Variable(x) => bits::difference(all, row_at(rows, row_number(x, false)), out),
+        Operand::Variable(x) => bits::difference(all, row_at(rows, defined_row(x)), out),
         Operand::Constant(_) => copy(all, out),
     }
 }
@@ -259,8 +252,8 @@ pub fn row(a: Atom, n: usize, rows: &[u64], codes: &[[u64; CODE_WORDS]], out: &m
         Atom::Exit => numbered(n, n, out),
         Atom::Node(m) => numbered(m as usize, n, out),
         Atom::Stmt(i) => statement_row(i, n, codes, out),
-        Atom::Def(x) => copy(row_at(rows, row_number(x, false)), out),
-        Atom::Use(x) => copy(row_at(rows, row_number(x, true)), out),
+        Atom::Def(x) => copy(row_at(rows, defined_row(x)), out),
+        Atom::Use(x) => copy(row_at(rows, used_row(x)), out),
         Atom::Trans(e) => trans_row(e, n, rows, out),
     }
 }

@@ -13,7 +13,7 @@ use lib.Bits.{bit_or}
 use lib.Seq.{get_or-set_same, get_or-set_other}
 use borrow.Author.Count.{below_more}
 use borrow.Author.Tests.{eq-eqb, ne_eqb}
-use Rattle.bits.specs.Row.{bit, member, Zeros, ZeroRows, Alike}
+use Rattle.bits.specs.Row.{bit, member, Zeros, ZeroRows, Combined}
 use Rattle.bits.proofs.Words.{bit-zero, bit-or, bit-pow}
 
 -- place 64 k + b is bit b of word k
@@ -97,16 +97,15 @@ module _ (f : ℕ → Bool) (row₀ : List ℕ) where
 
 -- ---- two rows, word by word
 
-module _ (op : ℕ → ℕ → ℕ) (g : Bool → Bool → Bool) (law : (x y c : ℕ) → c < 64 → bit (op x y) c ≡ g (bit x c) (bit y c)) (a b out₀ : List ℕ) where
-  -- the set that g makes of the two
-  abbrev Paired : List ℕ → ℕ → Type 0
-  Paired = Filled (λ j. g (member a j) (member b j)) out₀
-
-  pub paired-more : (out : List ℕ) (k : ℕ) → Paired out k → k < length out → Paired (set out k (op (get_or a k 0) (get_or b k 0))) (k + 1)
-  paired-more out k w l = filled_more (λ j. g (member a j) (member b j)) out₀ out k (op (get_or a k 0) (get_or b k 0)) w l
-      (λ c h. law (get_or a k 0) (get_or b k 0) c h ∙ sym (ap₂ g (word-member a k c h) (word-member b k c h)))
-
-  pub paired-member : g false false ≡ false → Alike a b out₀ → (out : List ℕ) (k : ℕ) → Paired out k → length out ≤ k → (j : ℕ) → member out j ≡ g (member a j) (member b j)
-  paired-member z s out k w h =
-      filled-member (λ j. g (member a j) (member b j)) out₀ out k w h
-      (λ j l. ap₂ g (member-beyond a j (omega (arith, s.left))) (member-beyond b j (omega (arith, s.right))) ∙ z)
+-- a row that an operation made, where it says the same of two words as g of two tests
+module _ {made : ℕ → ℕ → ℕ → Type 0} {a old new : List ℕ} (w : Combined made a old new) where
+  pub combined-member : (g : Bool → Bool → Bool) → g false false ≡ false → length a ≡ length old
+      → ((x y r : ℕ) → made x y r → (c : ℕ) → c < 64 → bit r c ≡ g (bit x c) (bit y c)) → (j : ℕ) → member new j ≡ g (member a j) (member old j)
+  unfolding member
+  combined-member g z s law j = go (dec_lt (j / 64) (length old))
+    where
+      go : Dec (j / 64 < length old) → member new j ≡ g (member a j) (member old j)
+      go (yes l) = law (get_or a (j / 64) 0) (get_or old (j / 64) 0) (get_or new (j / 64) 0) (w.each (j / 64) l) (j % 64) (mod-lt j (zero-lt-suc 63))
+      go (no l) =
+          let e = w.same in
+          member-beyond new j (omega arith) ∙ sym (ap₂ g (member-beyond a j (omega arith)) (member-beyond old j (omega arith)) ∙ z)

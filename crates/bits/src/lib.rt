@@ -2,12 +2,13 @@
 #![tactic(auto)]
 
 ghost use Rattle.std.specs.Prelude.{◌≡◌, false, ◌||◌, ◌&&◌, not, ℕ, ◌-◌, ◌*◌, ◌≤◌, ◌<◌, length, eqb, ltb};
-ghost use Rattle.bits.specs.Row.{words, bit, member, count_below, First, Zeros, Alike};
+ghost use Rattle.bits.specs.Row.{words, bit, member, count_below, First, Zeros, Alike, Combined};
 
 // The most words of a row whose members are counted.
 pub const WORDS: usize = 16;
 
 // Room for a row of any length up to WORDS.
+#[tactic(auto, using(crate::proofs::Rows::zeros))]
 pub fn blank() -> [u64; WORDS]
     ensures { Zeros words result }
 {
@@ -27,8 +28,18 @@ pub fn insert(row: &mut [u64], i: usize)
     requires { i < length row.old * 64 }
     ensures { (j : ℕ) → member row.new j ≡ (member row.old j || eqb i j) }
 {
-    let w = i / 64;
-    row[w] = row[w] | (1 << (i % 64));
+    row[i / 64] |= 1 << (i % 64);
+}
+
+// Each word of the row, made by the operation from the word of a and its own.
+fn combine<F: Fn(u64, u64) -> u64>(a: &[u64], row: &mut [u64], operation: F)
+    requires callable { F.IsAlwaysCallable operation }
+    requires alike { length a.now ≡ length row.old }
+    ensures { Combined (F.post operation) a.now row.old row.new }
+{
+    for k in 0..row.len() {
+        row[k] = operation(a[k], row[k]);
+    }
 }
 
 // The places that are in both sets.
@@ -36,11 +47,8 @@ pub fn intersection(a: &[u64], b: &[u64], out: &mut [u64])
     requires { Alike a.now b.now out.old }
     ensures { (j : ℕ) → member out.new j ≡ (member a.now j && member b.now j) }
 {
-    let mut k: usize = 0;
-    while k < out.len() {
-        out[k] = a[k] & b[k];
-        k += 1;
-    }
+    out.copy_from_slice(b);
+    combine(a, out, |x, y| x & y);
 }
 
 // The places that are in one set or the other.
@@ -48,11 +56,8 @@ pub fn union(a: &[u64], b: &[u64], out: &mut [u64])
     requires { Alike a.now b.now out.old }
     ensures { (j : ℕ) → member out.new j ≡ (member a.now j || member b.now j) }
 {
-    let mut k: usize = 0;
-    while k < out.len() {
-        out[k] = a[k] | b[k];
-        k += 1;
-    }
+    out.copy_from_slice(b);
+    combine(a, out, |x, y| x | y);
 }
 
 // The places of a that are not in b.
@@ -60,11 +65,8 @@ pub fn difference(a: &[u64], b: &[u64], out: &mut [u64])
     requires { Alike a.now b.now out.old }
     ensures { (j : ℕ) → member out.new j ≡ (member a.now j && not (member b.now j)) }
 {
-    let mut k: usize = 0;
-    while k < out.len() {
-        out[k] = a[k] & (b[k] ^ u64::MAX);
-        k += 1;
-    }
+    out.copy_from_slice(b);
+    complement(a, out);
 }
 
 // The places of `all` that are not in the row, in its place.
@@ -72,22 +74,14 @@ pub fn complement(all: &[u64], row: &mut [u64])
     requires { length all.now ≡ length row.old }
     ensures { (j : ℕ) → member row.new j ≡ (member all.now j && not (member row.old j)) }
 {
-    let mut k: usize = 0;
-    while k < row.len() {
-        row[k] = all[k] & (row[k] ^ u64::MAX);
-        k += 1;
-    }
+    combine(all, row, |x, y| x & (y ^ u64::MAX));
 }
 
 // No place.
 pub fn clear(row: &mut [u64])
     ensures { (j : ℕ) → member row.new j ≡ false }
 {
-    let mut k: usize = 0;
-    while k < row.len() {
-        row[k] = 0;
-        k += 1;
-    }
+    row.fill(0);
 }
 
 // The word of the bits below c.
@@ -97,24 +91,15 @@ fn mask(c: usize) -> u64
     if c < 64 { (1 << c) - 1 } else { u64::MAX }
 }
 
-// What n places leave for the words after the first.
-fn past_word(n: usize) -> usize
-    ensures { result ≡ n - 64 }
-{
-    if n < 64 { 0 } else { n - 64 }
-}
-
 // The places below n.
 pub fn below(n: usize, row: &mut [u64])
     requires { n ≤ length row.old * 64 }
     ensures { (j : ℕ) → member row.new j ≡ ltb j n }
 {
     let mut left = n;
-    let mut k: usize = 0;
-    while k < row.len() {
-        row[k] = mask(left);
-        left = past_word(left);
-        k += 1;
+    for word in row.iter_mut() {
+        *word = mask(left);
+        left = left.saturating_sub(64);
     }
 }
 
@@ -124,10 +109,8 @@ pub fn count(row: &[u64]) -> u32
     ensures { result ≡ count_below (member row.now) (length row.now * 64) }
 {
     let mut n: u32 = 0;
-    let mut k: usize = 0;
-    while k < row.len() {
-        n += u64::count_ones(row[k]);
-        k += 1;
+    for word in row {
+        n += word.count_ones();
     }
     n
 }
@@ -137,13 +120,10 @@ pub fn first(row: &[u64]) -> usize
     requires { length row.now ≤ words }
     ensures { First (member row.now) (length row.now * 64) result }
 {
-    let mut k: usize = 0;
-    while k < row.len() {
-        let w = row[k];
-        if w != 0 {
-            return k * 64 + (u64::trailing_zeros(w) as usize);
+    for (k, word) in row.iter().enumerate() {
+        if *word != 0 {
+            return k * 64 + (word.trailing_zeros() as usize);
         }
-        k += 1;
     }
     row.len() * 64
 }

@@ -1,6 +1,7 @@
 -- From the line at which the reading stops to the line that a refusal is about. Assumes nothing.
 use mathlib.Core.Path.{◌≡◌, refl, ap, sym, ◌∙◌}
 use mathlib.Core.List.{List, [], ◌∷◌}
+use Rattle.std.specs.Prelude.{Option, Some, None}
 use Prim.Native.Nat.{ℕ, ◌+◌, ◌≤◌, ◌<◌}
 use native.Mathlib.Omega.{arith}
 use lib.ListN.{length, get_or, drop}
@@ -15,23 +16,19 @@ use Rattle.language.specs.Spelling.{spell, Valid}
 use Rattle.statement_reader.specs.Reading.{LineRead}
 use Rattle.language.specs.declared.Statement.{Statement}
 use Rattle.language.specs.declared.Statement.TheVariants.{Skip}
-use Rattle.statement_reader.specs.declared.StatementRead.{StatementRead}
-use Rattle.statement_reader.specs.declared.StatementRead.TheVariants.{Found, Misspelled}
 use Rattle.program.specs.declared.Refusal.{Refusal}
 use Rattle.program.specs.declared.Refusal.TheVariants as refusal
-use Rattle.program.specs.Program.{Spells, at}
-use Rattle.program.specs.declared.Answer as answer
-use Rattle.program.specs.declared.Program.{Program}
-use Rattle.program.specs.Reading.{Refused, number, ProgramRead}
+use Rattle.program.specs.Program.{Spells, at, Taken}
+use Rattle.program.specs.Reading.{Refused, number}
 use Rattle.program.proofs.Texts.{statements-unambiguous}
 use Rattle.program.proofs.Unique.{refused-unique, taken_refused}
 use Rattle.blame.specs.Blame.{Rule, FirstBroken, NoneBroken, Blames, LineTold, misspelled, broken, none, NumberTold, Blamed, TextBlamed}
 
 -- what the reader of a line told
-pub line_of : {t : List ℕ} {at : ℕ} {r : StatementRead} {s : Statement} {k : ℕ} → r ≡ Found s k → LineRead t at r → LineOf spell Valid t at s k
+pub line_of : {t : List ℕ} {at : ℕ} {r : Option (Statement × ℕ)} {s : Statement} {k : ℕ} → r ≡ Some (s, k) → LineRead t at r → LineOf spell Valid t at s k
 line_of is l = rw is at l
 
-pub no_line : (t : List ℕ) (at : ℕ) {r : StatementRead} → r ≡ Misspelled → LineRead t at r → NoLine spell Valid (drop at t)
+pub no_line : (t : List ℕ) (at : ℕ) {r : Option (Statement × ℕ)} → r ≡ None → LineRead t at r → NoLine spell Valid (drop at t)
 no_line t at is l = rw is at l
 
 -- s lines are read up to the position; if the text has n, the statements of these are as the refusal asks
@@ -47,10 +44,10 @@ module _ {t : List ℕ} {r : Refusal} {n s p : ℕ} (g : Good t r n s p) where
   here : {Q : List Statement} → Spells t Q → Begins spell Valid t Q s p
   here q = begins-here g.so statements-unambiguous q
 
-  next-is : {a : StatementRead} {e : Statement} {k : ℕ} → LineRead t p a → a ≡ Found e k → {Q : List Statement} → Spells t Q → e ≡ at Q s
+  next-is : {a : Option (Statement × ℕ)} {e : Statement} {k : ℕ} → LineRead t p a → a ≡ Some (e, k) → {Q : List Statement} → Spells t Q → e ≡ at Q s
   next-is l is q = line-is (here q) (line_of is l) statements-unambiguous Skip
 
-  pub good_more : {a : StatementRead} {e : Statement} {k : ℕ} → LineRead t p a → a ≡ Found e k → Rule r n s e → Good t r n (s + 1) k
+  pub good_more : {a : Option (Statement × ℕ)} {e : Statement} {k : ℕ} → LineRead t p a → a ≡ Some (e, k) → Rule r n s e → Good t r n (s + 1) k
   good_more l is h =
       record {
         so = one_more g.so (line_of is l);
@@ -64,7 +61,7 @@ module _ {t : List ℕ} {r : Refusal} {n s p : ℕ} (g : Good t r n s p) where
     none-broken h = record { P = Q; spells = q; each = λ j l. rw counted at (g.good Q q counted j (omega (arith, text-done (here q) h))) }
 
     -- the statement of the next line isn't
-    pub first-broken : {a : StatementRead} {e : Statement} {k : ℕ} → LineRead t p a → a ≡ Found e k → (Rule r n s e → ⊥) → {m : ℕ} → m ≡ line_at s → FirstBroken (Rule r) t m
+    pub first-broken : {a : Option (Statement × ℕ)} {e : Statement} {k : ℕ} → LineRead t p a → a ≡ Some (e, k) → (Rule r n s e → ⊥) → {m : ℕ} → m ≡ line_at s → FirstBroken (Rule r) t m
     first-broken l is b il =
         record {
           P = Q;
@@ -122,12 +119,10 @@ no_number {t} {n} a b c d = record { told = λ r e. absurd (go r e); other = λ 
     go refusal.Placement e = c e
     go refusal.Target e = d e
 
--- the reading of the text tells which refusal it gets, or that it is taken
-module _ {t : List ℕ} (a : answer.Answer) (p : Program) where
-  pub read_taken : a ≡ answer.TheVariants.Taken → ProgramRead t a p → TextBlamed t 0
-  read_taken is d = let k = (rw is at d).0 in record { about = λ r f. absurd (taken_refused t k r f); taken = λ P _. refl }
+-- the reading of the text tells that it is taken, or which refusal it gets
+pub read_taken : {t : List ℕ} {P : List Statement} → Taken t P → TextBlamed t 0
+read_taken {t} k = record { about = λ r f. absurd (taken_refused t k r f); taken = λ P _. refl }
 
-  pub read-refused : {s : Refusal} → a ≡ answer.TheVariants.Refused s → ProgramRead t a p → {n : ℕ} → LineTold t s n → TextBlamed t n
-  read-refused {s} is d w =
-      let f = (rw is at d).0 in
-      record { about = λ r g. rw (refused-unique t r s g f) (blames w f); taken = λ P k. absurd (taken_refused t k s f) }
+pub read-refused : {t : List ℕ} {s : Refusal} → Refused t s → {n : ℕ} → LineTold t s n → TextBlamed t n
+read-refused {t} {s} f w =
+    record { about = λ r g. rw (refused-unique t r s g f) (blames w f); taken = λ P k. absurd (taken_refused t k s f) }

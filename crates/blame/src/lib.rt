@@ -10,28 +10,22 @@ ghost use Rattle.blame.specs.Counting.{CountTold};
 
 use language::Statement;
 use program::Refusal;
-use statement_reader::StatementRead;
 
-// The number of a text's lines, or of the first that isn't spelled.
-#[derive(Clone, Copy)]
-pub enum Counted {
-    Lines(usize),
-    Misspelled(u32),
-}
-
-fn count_lines(s: &[u8]) -> Counted
+// The number of a text's lines, or that of the first that isn't spelled.
+fn count_lines(s: &[u8]) -> Result<usize, u32>
     ensures { CountTold s.now result }
 {
     let mut n: usize = 0;
     let mut at: usize = 0;
+    // A `while`: each line tells where the next one begins, so no slice or range has the lines that a `for` would go over.
     while at < s.len() {
-        let StatementRead::Found(_, k) = statement_reader::line(s, at) else {
-            return Counted::Misspelled(line_number::line_at(n));
+        let Some((_, k)) = statement_reader::line(s, at) else {
+            return Err(line_number::line_at(n));
         };
         n += 1;
         at = k;
     }
-    Counted::Lines(n)
+    Ok(n)
 }
 
 // Whether the statement at place s of n is as the refusal asks.
@@ -52,8 +46,9 @@ fn first_broken(text: &[u8], r: Refusal, n: usize) -> u32
 {
     let mut s: usize = 0;
     let mut at: usize = 0;
+    // A `while`: each line tells where the next one begins, so no slice or range has the lines that a `for` would go over.
     while at < text.len() {
-        let StatementRead::Found(e, k) = statement_reader::line(text, at) else {
+        let Some((e, k)) = statement_reader::line(text, at) else {
             return line_number::line_at(s);
         };
         if !keeps(r, e, s, n) {
@@ -69,10 +64,9 @@ fn first_broken(text: &[u8], r: Refusal, n: usize) -> u32
 pub fn line_of(text: &[u8], r: Refusal) -> u32
     ensures { LineTold text.now r result }
 {
-    let counted = count_lines(text);
-    match counted {
-        Counted::Misspelled(line) => line,
-        Counted::Lines(n) => first_broken(text, r, n),
+    match count_lines(text) {
+        Ok(n) => first_broken(text, r, n),
+        Err(line) => line,
     }
 }
 
@@ -93,10 +87,8 @@ pub fn line_of_number(text: &[u8], n: u8) -> u32
 pub fn blame(program: &[u8]) -> u32
     ensures { TextBlamed program.now result }
 {
-    let reading = program::read(program);
-    let answer = reading.answer;
-    match answer {
-        program::Answer::Taken => 0,
-        program::Answer::Refused(refusal) => line_of(program, refusal),
+    match program::read(program) {
+        Ok(_) => 0,
+        Err(refusal) => line_of(program, refusal),
     }
 }

@@ -4,7 +4,7 @@
 #![tactic(auto)]
 
 use desk::refusals::REFUSAL_ROOM;
-use files::{FileRead, REFUSAL, RESULT, UNREAD, UNWRITTEN};
+use files::{FileError, REFUSAL, RESULT, UNREAD, UNWRITTEN};
 use report::{REPORT_ROOM, Reported, Worded};
 
 fn print_words(rt: &HostRuntime, given: &[u8], marks: &[u8]) {
@@ -37,9 +37,9 @@ fn print(rt: &HostRuntime, given: &[u8], marks: &[u8], missing: bool) -> u8 {
 fn check_marks(rt: &HostRuntime, given: &[u8], missing: bool) -> u8 {
     let mut marks = files::room();
     match files::read_or_empty(rt, 2, b"marks", &mut marks) {
-        FileRead::Whole(n) => print(rt, given, &marks[..n], missing),
-        FileRead::Missing => print(rt, given, b"", true),
-        FileRead::Unread => UNREAD,
+        Ok(n) => print(rt, given, &marks[..n], missing),
+        Err(FileError::Missing) => print(rt, given, b"", true),
+        Err(FileError::Unread) => UNREAD,
     }
 }
 
@@ -47,9 +47,9 @@ fn check_marks(rt: &HostRuntime, given: &[u8], missing: bool) -> u8 {
 fn check(rt: &HostRuntime) -> u8 {
     let mut given = files::room();
     match files::read_or_empty(rt, 1, b"given", &mut given) {
-        FileRead::Whole(m) => check_marks(rt, &given[..m], false),
-        FileRead::Missing => check_marks(rt, b"", true),
-        FileRead::Unread => UNREAD,
+        Ok(m) => check_marks(rt, &given[..m], false),
+        Err(FileError::Missing) => check_marks(rt, b"", true),
+        Err(FileError::Unread) => UNREAD,
     }
 }
 

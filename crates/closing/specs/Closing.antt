@@ -1,6 +1,6 @@
 -- What is printed after the steps: the outcome of each run, and that statements, outcome and live variables agree. By demand 3 nothing else is
 -- printed.
-use Rattle.std.specs.Prelude.{◌≡◌, List, [], ◌∷◌, ◌++◌, ℕ, ◌+◌, ◌≤◌, length}
+use Rattle.std.specs.Prelude.{◌≡◌, List, [], ◌∷◌, ◌++◌, ℕ, ◌+◌, ◌≤◌, length, Result}
 use Rattle.statement_writer.specs.Writing.{Put}
 use Rattle.language.specs.declared.Statement.{Statement}
 use Rattle.program.specs.Program.{Taken}
@@ -9,7 +9,8 @@ use Rattle.machine.specs.Machine.{after}
 use Rattle.machine.specs.declared.Answer.{Answer}
 use Rattle.lockstep.specs.Lockstep.{Agree, Side, Alike}
 use Rattle.run.specs.Run.{RunFinished, RunAnswers}
-use Rattle.run.specs.declared.RunAnswer.{RunAnswer}
+use Rattle.execution.specs.declared.Outcome.{Outcome}
+use Rattle.run.specs.declared.Refusal.{Refusal}
 use Rattle.demand.specs.Demand.{RunsAlike}
 use Rattle.base.specs.Bytes.{bytes}
 use Rattle.answer_line.specs.AnswerLine.{line_of_answer, answer_room}
@@ -28,8 +29,7 @@ closing_room = 6 + (answer_room + (10 + (answer_room + 45)))
 -- demand 3 for this start and our prices: the two texts' runs answer alike, and keep the same
 abbrev pub RunAlike : List ℕ → List ℕ → List ℕ → ℕ → ℕ → Type 0
 RunAlike t w vs input budget =
-    (a b : RunAnswer) (us ws ks hs : List ℕ)
-    → RunAnswers ours t vs input budget a us ks → RunAnswers ours w vs input budget b ws hs → RunsAlike a b × (ks ≡ hs)
+    (a b : Result Outcome Refusal) → RunAnswers ours t vs input budget a → RunAnswers ours w vs input budget b → RunsAlike a b
 
 -- the same of the steps: before each both runs stand before one statement, and every variable that the given program may still use before
 -- defining it holds the same value in both

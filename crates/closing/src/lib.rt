@@ -5,7 +5,6 @@ ghost use Rattle.std.specs.Prelude.{◌≤◌, length};
 ghost use Rattle.closing.specs.Closing.{closing_room, RunAlike, TraceAlike, Closes};
 
 use machine::VALUES;
-use run::RunAnswer;
 
 // Runs both programs' texts, whose runs are known to be alike, and tells both outcomes and that they agree. Neither run is refused then.
 pub fn write(
@@ -22,21 +21,19 @@ pub fn write(
     ensures { Closes program.now new.now values input budget out.old out.new result }
 {
     let prices = pricing::ours();
-    let one = run::run(program, values, input, budget, prices);
-    let given = one.answer;
+    let given = run::run(program, values, input, budget, prices);
+    let rewritten = run::run(new, values, input, budget, prices);
+    let Ok(one) = given else {
+        return 0;
+    };
+    let Ok(two) = rewritten else {
+        return 0;
+    };
     let kept = one.kept;
-    let two = run::run(new, values, input, budget, prices);
-    let rewritten = two.answer;
     let others = two.kept;
-    let RunAnswer::Finished(a) = given else {
-        return 0;
-    };
-    let RunAnswer::Finished(b) = rewritten else {
-        return 0;
-    };
     let k1 = statement_writer::word(out, 0, b"given ");
-    let k2 = answer_line::write(out, k1, a, &kept);
+    let k2 = answer_line::write(out, k1, one.answer, &kept);
     let k3 = statement_writer::word(out, k2, b"rewritten ");
-    let k4 = answer_line::write(out, k3, b, &others);
+    let k4 = answer_line::write(out, k3, two.answer, &others);
     statement_writer::word(out, k4, b"statements, outcome and live variables agree\n")
 }

@@ -9,7 +9,6 @@ use Rattle.language.specs.declared.Operand.{Operand}
 use Rattle.language.specs.declared.Operand.TheVariants.{Variable, Constant}
 use Rattle.language.specs.declared.Operator.{Operator}
 use Rattle.language.specs.declared.Operator.TheVariants.{Add, Subtract, Multiply, Less, Equal, Divide}
-use Rattle.language.specs.declared.Expression.{Expression}
 use Rattle.language.specs.declared.Expression.TheVariants.{Single, Binary}
 use Rattle.language.specs.declared.Statement.{Statement}
 use Rattle.language.specs.declared.Statement.TheVariants.{Read, Write, Assign, Branch, Skip}
@@ -68,7 +67,3 @@ statement-back Skip = refl
 
 pub code-unique : (s t : Statement) → statement_code s ≡ statement_code t → s ≡ t
 code-unique s t e = sym (statement-back s) ∙ ap statement_of e ∙ statement-back t
-
-pub assign-first : (x : ℕ) (e : Expression) → x ≡ (assign_code x e).first
-assign-first x (Single a) = refl
-assign-first x (Binary a o b) = refl

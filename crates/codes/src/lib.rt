@@ -9,7 +9,7 @@ ghost use Rattle.codes.specs.Codes.{operand_code, operator_code, assign_code, st
 use language::{Expression, Operand, Operator, Statement};
 
 // A statement as numbers.
-#[derive(Clone, Copy)]
+#[derive(Clone, Copy, PartialEq, Eq)]
 pub struct Code {
     pub kind: u64,
     pub first: u64,
@@ -100,36 +100,13 @@ pub fn words_of(c: Code) -> [u64; CODE_WORDS]
     [c.kind, c.first, c.second, c.third]
 }
 
-// Whether the words are those of the code. Most differ in the variable.
+// Whether the words are those of the code.
 pub fn same_words(c: Code, words: &[u64]) -> bool
     requires { length words.now ≡ code_word_count }
     ensures { Decides result (words.now ≡ code_words c) }
 {
-    if words[1] != c.first {
-        return false;
-    }
-    if words[0] != c.kind {
-        return false;
-    }
-    if words[2] != c.second {
-        return false;
-    }
-    words[3] == c.third
-}
-
-fn same_code(a: Code, b: Code) -> bool
-    ensures { Decides result (a ≡ b) }
-{
-    if a.kind != b.kind {
-        return false;
-    }
-    if a.first != b.first {
-        return false;
-    }
-    if a.second != b.second {
-        return false;
-    }
-    a.third == b.third
+    let own = words_of(c);
+    words == own.as_slice()
 }
 
 // The variable that a statement names first, or 0: the first number of its code. Most statements differ there.
@@ -151,7 +128,9 @@ pub fn same_statement(s: Statement, t: Statement) -> bool
     if variable_of(s) != variable_of(t) {
         return false;
     }
-    same_code(statement_code(s), statement_code(t))
+    let a = statement_code(s);
+    let b = statement_code(t);
+    a == b
 }
 
 fn in_operand(x: u8, a: Operand) -> bool
@@ -169,12 +148,7 @@ fn in_expression(x: u8, e: Expression) -> bool
 {
     match e {
         Expression::Single(a) => in_operand(x, a),
-        Expression::Binary(a, _, b) => {
-            if in_operand(x, a) {
-                return true;
-            }
-            in_operand(x, b)
-        }
+        Expression::Binary(a, _, b) => in_operand(x, a) || in_operand(x, b),
     }
 }
 

@@ -15,7 +15,7 @@ use Rattle.side_by_side.specs.declared.Position.{Position}
 use Rattle.side_by_side.specs.declared.Piece.{Piece}
 use Rattle.side_by_side.proofs.Pieces.{kept-within}
 use Rattle.compare_runs.specs.Printing.{end_at, Printed}
-use Rattle.compare_runs.specs.declared.End.TheVariants.{More, All}
+use Rattle.std.proofs.Common.{None, Some}
 
 -- the pieces written before are b, more is to come, and both buffers have room
 pub record Printing (t m u : List ℕ) (p : Position) (w o : List ℕ) : Type 0 where
@@ -44,23 +44,23 @@ module _ {t m u : List ℕ} {p : Position} {w v o q : List ℕ} {r : Piece} (i :
   pub falls : ahead r.next < ahead p
   falls = printed.further i.b i.handed i.going
 
-  more : (s : Stage) (d : ℕ) → end_at s ≡ More → 0 < ahead_at s d
+  more : (s : Stage) (d : ℕ) → end_at s ≡ None → 0 < ahead_at s d
   more Begin d e = omega arith
   more Steps d e = omega arith
   more Closing d e = omega arith
   more Ended d e = let z : ◌≡◌ {A = ℕ} 0 1 = cc in omega arith
   more Refused d e = let z : ◌≡◌ {A = ℕ} 0 1 = cc in omega arith
 
-  pub goes_on : end_at r.next.stage ≡ More → Printing t m u r.next v q
+  pub goes_on : end_at r.next.stage ≡ None → Printing t m u r.next v q
   goes_on e =
       record { b = i.b ++ take r.bytes q; handed = printed.handed i.b i.handed; going = more r.next.stage r.next.done e; new = new-length; out = out-length }
 
-  whole : (s : Stage) {n : ℕ} (b : List ℕ) → end_at s ≡ All n → HandedAt t m u s r.next v b → Printed t m u n
+  whole : (s : Stage) {n : ℕ} (b : List ℕ) → end_at s ≡ Some n → HandedAt t m u s r.next v b → Printed t m u n
   whole Begin b e h = let z : ◌≡◌ {A = ℕ} 0 1 = cc in absurd (omega arith)
   whole Steps b e h = let z : ◌≡◌ {A = ℕ} 0 1 = cc in absurd (omega arith)
   whole Closing b e h = let z : ◌≡◌ {A = ℕ} 0 1 = cc in absurd (omega arith)
   whole Ended b e h = inl (cc, b, h.1)
   whole Refused b e h = inr (inl (cc, b, h.1))
 
-  pub ends : {n : ℕ} → end_at r.next.stage ≡ All n → Printed t m u n
+  pub ends : {n : ℕ} → end_at r.next.stage ≡ Some n → Printed t m u n
   ends e = whole r.next.stage (i.b ++ take r.bytes q) e (printed.handed i.b i.handed)

@@ -5,25 +5,17 @@
 ghost use Rattle.std.specs.Prelude.{◌≡◌};
 ghost use Rattle.compare_runs.specs.Printing.{end_at, Printed};
 
-use files::{FileRead, REFUSAL, RESULT, UNREAD, UNWRITTEN};
+use files::{REFUSAL, RESULT, UNREAD, UNWRITTEN};
 use side_by_side::Stage;
 
-// Whether more is to be printed, or all is told, with this status.
-#[derive(Clone, Copy)]
-enum End {
-    More,
-    All(u8),
-}
-
-fn end_at(stage: Stage) -> End
+// The status, where all is told; none, where more is to be printed.
+fn end_at(stage: Stage) -> Option<u8>
     ensures { result ≡ end_at stage }
 {
     match stage {
-        Stage::Begin => End::More,
-        Stage::Steps => End::More,
-        Stage::Closing => End::More,
-        Stage::Ended => End::All(RESULT),
-        Stage::Refused => End::All(REFUSAL),
+        Stage::Begin | Stage::Steps | Stage::Closing => None,
+        Stage::Ended => Some(RESULT),
+        Stage::Refused => Some(REFUSAL),
     }
 }
 
@@ -42,7 +34,7 @@ fn print(rt: &HostRuntime, program: &[u8], marks: &[u8], start: &[u8]) -> u8
         }
         let next = piece.next;
         let stage = next.stage;
-        if let End::All(status) = end_at(stage) {
+        if let Some(status) = end_at(stage) {
             return status;
         }
         from = next;
@@ -60,15 +52,15 @@ fn compare(rt: &HostRuntime) -> u8 {
         return UNREAD;
     }
     let mut given = files::room();
-    let FileRead::Whole(k) = files::read(rt, 1, b"given", &mut given) else {
+    let Ok(k) = files::read(rt, 1, b"given", &mut given) else {
         return UNREAD;
     };
     let mut marks = files::room();
-    let FileRead::Whole(m) = files::read(rt, 2, b"marks", &mut marks) else {
+    let Ok(m) = files::read(rt, 2, b"marks", &mut marks) else {
         return UNREAD;
     };
     let mut start = files::room();
-    let FileRead::Whole(n) = files::read(rt, 3, b"start", &mut start) else {
+    let Ok(n) = files::read(rt, 3, b"start", &mut start) else {
         return UNREAD;
     };
     print(rt, &given[..k], &marks[..m], &start[..n])

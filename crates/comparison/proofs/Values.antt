@@ -6,8 +6,7 @@ use lib.ListN.{length, length-set}
 use Rattle.language.specs.declared.Statement.{Statement}
 use Rattle.language.specs.declared.Statement.TheVariants.{Read, Write, Assign, Branch, Skip}
 use Rattle.program.specs.Program.{at}
-use Rattle.arithmetic.specs.declared.Evaluated.{Evaluated}
-use Rattle.arithmetic.specs.declared.Evaluated.TheVariants.{Value, Fault}
+use Rattle.std.specs.Prelude.{Option, None, Some}
 use Rattle.machine.proofs.Runs.{Stands}
 use Rattle.machine.specs.Machine.{State, before, ended, stored, value, perform, step_from, after}
 
@@ -16,9 +15,9 @@ abbrev Whole : ℕ → State → Type 0
 Whole n (before s vs) = length vs ≡ n
 Whole n (ended v) = Unit
 
-stored-whole : (n : ℕ) (g : Evaluated) (x s : ℕ) (vs : List ℕ) → length vs ≡ n → Whole n (stored g x s vs)
-stored-whole n (Value v) x s vs l = length-set vs x v ∙ l
-stored-whole n Fault x s vs l = tt
+stored-whole : (n : ℕ) (g : Option ℕ) (x s : ℕ) (vs : List ℕ) → length vs ≡ n → Whole n (stored g x s vs)
+stored-whole n (Some v) x s vs l = length-set vs x v ∙ l
+stored-whole n None x s vs l = tt
 
 perform-whole : (n : ℕ) (i : Statement) (input s : ℕ) (vs : List ℕ) → length vs ≡ n → Whole n (perform i input s vs)
 perform-whole n (Read x) input s vs l = length-set vs x input ∙ l

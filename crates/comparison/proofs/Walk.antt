@@ -2,13 +2,11 @@
 use mathlib.Core.Path.{◌≡◌, refl, ap, sym, ◌∙◌}
 use mathlib.Core.Logic.{◌⊎◌, inl, inr}
 use mathlib.Core.List.{List}
-use mathlib.Core.Bool.{true, false}
 use Prim.Native.Nat.{ℕ, suc, ◌+◌, ◌≤◌, ◌<◌}
 use native.Mathlib.Omega.{arith}
 use native.Mathlib.Numerals.{add-one}
 use borrow.Author.Count.{below_more}
 use lib.ListN.{length, take}
-use Rattle.base.proofs.Bools.{clash}
 use Rattle.language.specs.Spelling.{variables}
 use Rattle.statement_writer.specs.Writing.{Put}
 use Rattle.language.specs.declared.Statement.{Statement}
@@ -27,8 +25,10 @@ use Rattle.lockstep.proofs.Answers.{ended-beside}
 use Rattle.trace.proofs.Walk.{goes-inside}
 use Rattle.liveness.specs.Liveness.{LiveRows}
 use Rattle.comparison.specs.Lines.{pair_line, both_line, both_lines, values_in}
-use Rattle.comparison.specs.Stepping.{line_room, InStep, BothStand, Compared, Stepped}
-use Rattle.comparison.specs.declared.Progress.{Progress}
+use Rattle.comparison.specs.Stepping.{line_room, InStep, BothStand, Left, Compared, Stepped}
+use Rattle.trace.specs.declared.Progress.{Progress}
+use Rattle.comparison.specs.declared.Stop.{Stop}
+use Rattle.comparison.specs.declared.Stop.TheVariants.{Paused, Ended, Apart}
 use Rattle.comparison.proofs.Values.{values-kept}
 
 -- where the second run's step leads, if both are together after it
@@ -138,10 +138,10 @@ module _ (p q : Program) (live : List ℕ) (input s : ℕ) (vs ws us zs : List �
           agreed = agreed-more;
         }
 
-    ends : {budget end : ℕ} {e : List ℕ} (v : Final) (d : Progress) → d.done ≡ j + 1 → d.bytes ≡ end → d.at ≡ s → d.ended ≡ true → d.agree ≡ true → state_of next us ≡ ended v
+    ends : {budget end : ℕ} {e : List ℕ} (v : Final) (d : Progress Stop) → d.done ≡ j + 1 → d.bytes ≡ end → d.at ≡ s → d.stop ≡ Ended → state_of next us ≡ ended v
         → j < budget → Put r to (pair_line (j + 1) s (held p.entries s) (held q.entries s) vs ws) e end
         → Compared (statements p) (statements q) start input budget k o e vs ws d
-    ends v d done bytes at over fine f h w =
+    ends v d done bytes at over f h w =
         let g : state_of new zs ≡ ended v = ended-beside (state_of next us) (state_of new zs) v leads-together f in
         record {
           n = i.n + 1;
@@ -158,8 +158,8 @@ module _ (p q : Program) (live : List ℕ) (input s : ℕ) (vs ws us zs : List �
               });
           agreed = agreed-more;
           within = λ x. omega arith;
-          differs = λ e g. clash fine e;
-          stops = λ e g. clash over e;
+          differs = λ e g. let z : Ended ≡ Apart = sym over ∙ e in cc;
+          stops = λ e. let z : Ended ≡ Paused = sym over ∙ e in cc;
           further = λ x y g. omega (arith, i.counted);
         }
 
@@ -181,19 +181,25 @@ module _ (p q : Program) (live : List ℕ) (input s : ℕ) (vs ws us zs : List �
         later (inl x) = omega (arith, x.0)
         later (inr x) = omega arith
 
-    pub ended-step : {e : List ℕ} {end : ℕ} (v : Final) (d : Progress) → d.done ≡ j + 1 → d.bytes ≡ end → d.at ≡ s → d.ended ≡ true → d.agree ≡ true → state_of next us ≡ ended v
+    pub ended-step : {e : List ℕ} {end : ℕ} (v : Final) (d : Progress Stop) → d.done ≡ j + 1 → d.bytes ≡ end → d.at ≡ s → d.stop ≡ Ended → state_of next us ≡ ended v
         → end ≤ length o → Put r to (pair_line (j + 1) s (held p.entries s) (held q.entries s) vs ws) e end
         → Stepped (statements p) (statements q) live input budget k s₀ vs₀ ws₀ o e vs ws d
-    ended-step v d done bytes at over fine f fits w =
+    ended-step v d done bytes at over f fits w =
         record {
           kept = rw bytes (kept_more i.kept w fits);
-          compared = λ st rows start l x. ends (i.told st rows start l x) st rows l v d done bytes at over fine f h w;
+          compared = λ st rows start l x. ends (i.told st rows start l x) st rows l v d done bytes at over f h w;
         }
+
+-- runs that stop without an end stand before a statement
+stands : {P Q : List Statement} {start vs ws : List ℕ} {input : ℕ} (d : Progress Stop) → (d.stop ≡ Paused) ⊎ (d.stop ≡ Apart)
+    → BothStand P Q start input d.done d.at vs ws → Left P Q start input d.done d.stop d.at vs ws
+stands d (inl e) b = rw e b
+stands d (inr e) b = rw e b
 
 -- they stop where they stand, and where a live variable differs
 module _ {p q : Program} {live : List ℕ} {input budget k s₀ : ℕ} {vs₀ ws₀ o r vs ws : List ℕ} {s j to : ℕ} (i : Going p q live input budget k s₀ vs₀ ws₀ o r vs ws s j to) where
-  pub stopped : (d : Progress) → d.done ≡ j → d.bytes ≡ to → d.at ≡ s → d.ended ≡ false → (d.agree ≡ true → (budget ≤ j) ⊎ (length o < to + line_room))
-      → (d.agree ≡ false → LiveRows (statements p) live → length vs ≡ variables → length ws ≡ variables → Agree (statements p) s vs ws → ⊥)
+  pub stopped : (d : Progress Stop) → d.done ≡ j → d.bytes ≡ to → d.at ≡ s → (d.stop ≡ Paused) ⊎ (d.stop ≡ Apart) → ((d.stop ≡ Apart → ⊥) → (budget ≤ j) ⊎ (length o < to + line_room))
+      → (d.stop ≡ Apart → LiveRows (statements p) live → length vs ≡ variables → length ws ≡ variables → Agree (statements p) s vs ws → ⊥)
       → Stepped (statements p) (statements q) live input budget k s₀ vs₀ ws₀ o r vs ws d
   stopped d done bytes at not why apart = record {
     kept = rw bytes i.kept;
@@ -203,12 +209,12 @@ module _ {p q : Program} {live : List ℕ} {input budget k s₀ : ℕ} {vs₀ ws
           n = f.n;
           counted = done ∙ f.counted;
           put = rw bytes f.put;
-          left = rw (not, done, at) (record { inside = i.inside; given = f.given.state; rewritten = f.rewritten.state });
+          left = stands d not (rw (done, at) (record { inside = i.inside; given = f.given.state; rewritten = f.rewritten.state }));
           agreed = f.agreed;
           within = λ w. rw done (i.within w);
           differs = λ e g.
               apart e rows (values-kept l f.given) (values-kept l f.rewritten) (rw (done, f.given.state, f.rewritten.state) at g).1;
-          stops = λ e g. rw (done, bytes) (why g);
+          stops = λ e. rw (done, bytes) (why (λ g. let z : Paused ≡ Apart = sym e ∙ g in cc));
           further = λ w y g. rw done (go i.further (why y) w g);
         };
   }

@@ -16,7 +16,7 @@ use desk::columns::STATEMENT_COLUMNS;
 use language::{CONSTANT_ROOM, Statement};
 use machine::VALUES;
 use program::Program;
-use trace::{HEAD_ROOM, Onward};
+use trace::{HEAD_ROOM, Progress};
 
 // The columns of a variable that differs, and of a value.
 const DIFFERS_COLUMNS: usize = 7;
@@ -76,10 +76,8 @@ fn differences(out: &mut [u8], at: usize, a: &[u32; VALUES], b: &[u32; VALUES]) 
     ensures { Put out.old at (differencesBytes variables a.now b.now) out.new result }
 {
     let mut to = at;
-    let mut x: usize = 0;
-    while x < VALUES {
+    for x in 0..VALUES {
         to = difference(out, to, x, a, b);
-        x += 1;
     }
     to
 }
@@ -108,15 +106,13 @@ fn line(
     statement_writer::byte(out, k4, 10)
 }
 
-// The bytes written, the place and the steps done, and whether the runs have ended; then the place is that of the statement that ended them.
-// And whether the variables that are live in p agreed before each step; where they don't, the runs stop.
+// Paused: the budget or the room is spent, and `at` is the place of the next statement. Ended: the last step ended both runs, and `at` is the
+// place of its statement. Apart: a variable that is live in p differs before the next statement, whose place is `at`.
 #[derive(Clone, Copy)]
-pub struct Progress {
-    pub bytes: usize,
-    pub at: u32,
-    pub done: u32,
-    pub ended: bool,
-    pub agree: bool,
+pub enum Stop {
+    Paused,
+    Ended,
+    Apart,
 }
 
 // Goes on with the runs of p and q, which stand before the statement at the place `at` after `done` steps. In `live` are the places at which
@@ -132,7 +128,7 @@ pub fn steps(
     values: &mut [u32; VALUES],
     others: &mut [u32; VALUES],
     out: &mut [u8],
-) -> Progress
+) -> Progress<Stop>
     requires well_formed { WellFormed (statements p) }
     requires well_formed_2 { WellFormed (statements q) }
     requires q_len { length (statements q) ≡ length (statements p) }
@@ -141,16 +137,14 @@ pub fn steps(
     ensures { Stepped (statements p) (statements q) live.now input budget done at values.old others.old out.old out.new values.new others.new result }
 {
     let mut place = at;
-    let mut k = done;
     let mut to: usize = 0;
-    while k < budget {
+    for k in done..budget {
         if out.len() - to < LINE_ROOM {
             return Progress {
                 bytes: to,
                 at: place,
                 done: k,
-                ended: false,
-                agree: true,
+                stop: Stop::Paused,
             };
         }
         let i = place as usize;
@@ -159,8 +153,7 @@ pub fn steps(
                 bytes: to,
                 at: place,
                 done: k,
-                ended: false,
-                agree: false,
+                stop: Stop::Apart,
             };
         }
         let e = p.entries[i];
@@ -171,23 +164,21 @@ pub fn steps(
         let other = *others;
         let next = machine::step(s, place, input, values);
         machine::step(t, place, input, others);
-        k += 1;
         let way = trace::way_on(next);
         match way {
-            Onward::To(n) => {
-                to = line(out, to, k, place, s, t, &*values, &*others);
+            Some(n) => {
+                to = line(out, to, k + 1, place, s, t, &*values, &*others);
                 place = n;
             }
-            Onward::Ended => {
-                to = line(out, to, k, place, s, t, &old, &other);
+            None => {
+                to = line(out, to, k + 1, place, s, t, &old, &other);
                 *values = old;
                 *others = other;
                 return Progress {
                     bytes: to,
                     at: place,
-                    done: k,
-                    ended: true,
-                    agree: true,
+                    done: k + 1,
+                    stop: Stop::Ended,
                 };
             }
         }
@@ -195,8 +186,7 @@ pub fn steps(
     Progress {
         bytes: to,
         at: place,
-        done: k,
-        ended: false,
-        agree: true,
+        done: done.max(budget),
+        stop: Stop::Paused,
     }
 }

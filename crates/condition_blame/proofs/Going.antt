@@ -1,6 +1,6 @@
 -- The loop over a text's bytes: what is read so far, and what its end tells. Assumes nothing.
 use mathlib.Core.Path.{◌≡◌, refl, ap, sym, ◌∙◌}
-use mathlib.Core.List.{List, [], ◌∷◌, ◌++◌}
+use mathlib.Core.List.{List, [], ◌∷◌}
 use Prim.Native.Nat.{ℕ, ◌+◌, ◌-◌, ◌*◌, ◌^◌, ◌≤◌, ◌<◌}
 use native.Mathlib.Omega.{arith}
 use native.Mathlib.Numerals.{add-one}
@@ -13,8 +13,7 @@ use Rattle.viable.proofs.Complete.{steps-append}
 use Rattle.viable.proofs.Stops.{reached-spells, stops_at, stops-after}
 use Rattle.condition_blame.specs.Search.{growth, room, reached_in, Near}
 use Rattle.condition_blame.specs.declared.State.{State}
-use Rattle.condition_blame.specs.declared.Step.{Step}
-use Rattle.condition_blame.specs.declared.Step.TheVariants.{Next, Stop}
+use Rattle.std.proofs.Common.{Option, None, Some}
 use Rattle.condition_blame.proofs.Search.{at_byte, put_on}
 
 -- the first k bytes of the text t are read, and the items of q from the top on are expected
@@ -49,10 +48,10 @@ module _ {t q : List ℕ} {s : State} {k : ℕ} (g : Going t q s k) where
     unfolding steps
     read_more e = rw (add-one, take-suc t k 0 h, steps-append start (take k t) (get_or t k 0 ∷ []), g.reached) (sym e)
 
-    pub going_more : (p : List ℕ) (n : State) {r : Step} → r ≡ Next n → reached_in p r ≡ step s.bound s.value (drop s.top q) (get_or t k 0) → Near growth s.top (length q) r → length p ≡ length q
+    pub going_more : (p : List ℕ) (n : State) {r : Option State} → r ≡ Some n → reached_in p r ≡ step s.bound s.value (drop s.top q) (get_or t k 0) → Near growth s.top (length q) r → length p ≡ length q
         → Going t p n (k + 1)
     going_more p n {r} is e near l =
-        let a : Near growth s.top (length q) (Next n) = rw is at near in
+        let a : Near growth s.top (length q) (Some n) = rw is at near in
         let x = a.0 in
         let y = a.1 in
         record {
@@ -65,7 +64,7 @@ module _ {t q : List ℕ} {s : State} {k : ℕ} (g : Going t q s k) where
           valued = a.3;
         }
 
-    pub going-stops : (p : List ℕ) {r : Step} → r ≡ Stop → reached_in p r ≡ step s.bound s.value (drop s.top q) (get_or t k 0) → ByteTold t (k + 1)
+    pub going-stops : (p : List ℕ) {r : Option State} → r ≡ None → reached_in p r ≡ step s.bound s.value (drop s.top q) (get_or t k 0) → ByteTold t (k + 1)
     going-stops p {r} is e =
         let f : nowhere ≡ step s.bound s.value (drop s.top q) (get_or t k 0) = rw is at e in
         stops (stops_at t k s.bound s.value (drop s.top q) h g.reached (sym f))
@@ -74,12 +73,11 @@ module _ {t q : List ℕ} {s : State} {k : ℕ} (g : Going t q s k) where
     read_whole : steps start t ≡ at s.bound s.value (drop s.top q)
     read_whole = ap (steps start) (sym (take_all k t h)) ∙ g.reached
 
-    pub going-ends : s.top < room → ByteTold t (k + 1)
+    pub going-ends : s.top < room → ByteTold t (length t + 1)
     going-ends l =
         let z = g.sized in
         let e = read_whole ∙ ap (at s.bound s.value) (at_byte q s.top (omega arith)) in
-        let f : length t ≡ k = omega (arith, g.within) in
-        stops (rw f at (stops-after t s.bound s.value (get_or q s.top 0) (drop (s.top + 1) q) e))
+        stops (stops-after t s.bound s.value (get_or q s.top 0) (drop (s.top + 1) q) e)
 
     pub going-spelled : room ≤ s.top → ByteTold t 0
     going-spelled l =

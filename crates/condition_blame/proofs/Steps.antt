@@ -1,15 +1,11 @@
 -- One byte of the text, as the code reads it. Assumes nothing.
-use mathlib.Core.Path.{◌≡◌, refl}
-use mathlib.Core.List.{List, []}
+use mathlib.Core.Path.{◌≡◌}
+use mathlib.Core.List.{List}
 use mathlib.Core.Bool.{true, false}
-use Prim.Native.Nat.{ℕ, ◌+◌, ◌-◌, ◌*◌, ◌^◌, ◌≤◌, ◌<◌}
-use native.Mathlib.Omega.{arith}
+use Prim.Native.Nat.{ℕ, ◌+◌, ◌-◌, ◌*◌, ◌≤◌, ◌<◌}
 use lib.ListN.{length, get_or, drop, drop_of_length-le}
 use borrow.Author.Tests.{eq-eqb, ne_eqb}
-use Rattle.viable.specs.Grammar.{capital, expand, Reached, at, nowhere, more, expanded, step}
-use Rattle.condition_blame.specs.Search.{growth, Near}
-use Rattle.condition_blame.specs.declared.Step.{Step}
-use Rattle.condition_blame.specs.declared.Step.TheVariants.{Next, Stop}
+use Rattle.viable.specs.Grammar.{capital, expand, at, nowhere, more, expanded, step}
 use Rattle.condition_blame.proofs.Search.{at_byte}
 
 module _ (b n c top : ℕ) (q : List ℕ) where
@@ -34,8 +30,3 @@ module _ (b n c top : ℕ) (q : List ℕ) where
       pub step_other : capital (get_or q top 0) ≡ false → (get_or q top 0 ≡ c → ⊥) → step b n (drop top q) c ≡ nowhere
       unfolding step
       step_other e f = rw (none, at_byte q top h, e, ne_eqb (get_or q top 0) c f)
-
--- an item was taken from the top before
-pub near-after : (top end : ℕ) (r : Step) → top + 1 ≤ end → Near (growth + 1) (top + 1) (top + 1) r → Near growth top end r
-near-after top end (Next s) h a = let x = a.0 in let y = a.1 in (omega arith, omega arith, a.2, a.3)
-near-after top end Stop h a = tt

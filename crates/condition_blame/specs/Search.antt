@@ -1,11 +1,9 @@
 -- A proof device: the table of items as the code holds it, and what the code keeps. It promises nothing by itself.
-use Rattle.std.specs.Prelude.{◌≡◌, List, [], ◌∷◌, ◌++◌, ◌&&◌, ℕ, ◌+◌, ◌*◌, ◌^◌, ◌≤◌, eqb, length, drop}
+use Rattle.std.specs.Prelude.{List, [], ◌∷◌, ◌++◌, ◌&&◌, ℕ, ◌+◌, ◌*◌, ◌^◌, ◌≤◌, eqb, drop, Option, None, Some}
 use Rattle.base.specs.Pick.{pick}
 use Rattle.condition.specs.Texts.{most_bytes}
 use Rattle.viable.specs.Grammar.{rows, Expansion, word, none, Reached, at, nowhere}
 use Rattle.condition_blame.specs.declared.State.{State}
-use Rattle.condition_blame.specs.declared.Step.{Step}
-use Rattle.condition_blame.specs.declared.Step.TheVariants.{Next, Stop}
 
 abbrev pub growth : ℕ
 growth = 16
@@ -32,16 +30,12 @@ row_in (x ∷ []) i c = none
 row_in (x ∷ y ∷ []) i c = none
 row_in (x ∷ y ∷ z ∷ l) i c = pick (eqb x 10 && (eqb y i && eqb z c)) (word (line l)) (row_in (y ∷ z ∷ l) i c)
 
--- what the position of a row's end says
-abbrev pub found_in : List ℕ → ℕ → Expansion
-found_in g r = pick (eqb r 0) none (word (line (drop r g)))
-
 -- where the reading stands, the items being q from the top on
-abbrev pub reached_in : List ℕ → Step → Reached
-reached_in q (Next s) = at s.bound s.value (drop s.top q)
-reached_in q Stop = nowhere
+abbrev pub reached_in : List ℕ → Option State → Reached
+reached_in q (Some s) = at s.bound s.value (drop s.top q)
+reached_in q None = nowhere
 
 -- at most `most` items are added to those from the top on, which stay before the end, and the numbers are small
-abbrev pub Near : ℕ → ℕ → ℕ → Step → Type 0
-Near most top end (Next s) = (top ≤ s.top + most) × (s.top ≤ end) × (s.bound ≤ 2 ^ 32) × (s.value ≤ 2 ^ 32)
-Near most top end Stop = Unit
+abbrev pub Near : ℕ → ℕ → ℕ → Option State → Type 0
+Near most top end (Some s) = (top ≤ s.top + most) × (s.top ≤ end) × (s.bound ≤ 2 ^ 32) × (s.value ≤ 2 ^ 32)
+Near most top end None = Unit

@@ -1,13 +1,13 @@
 // Where the reading of a condition's text stops.
 #![tactic(auto)]
 
-ghost use Rattle.std.specs.Prelude.{◌≡◌, List, ◌++◌, ℕ, ◌+◌, ◌*◌, ◌^◌, ◌≤◌, length, drop};
+ghost use Rattle.std.specs.Prelude.{◌≡◌, List, ◌++◌, ℕ, ◌+◌, ◌*◌, ◌^◌, ◌≤◌, length, drop, position, ◌==◌, IfSome, IfNone};
 ghost use Rattle.condition.specs.Texts.{most_bytes};
 ghost use Rattle.viable.specs.Begins.{ByteTold};
-ghost use Rattle.viable.specs.Grammar.{nonzero, class_of, bound_of, expand, more as moreOf, opened as openedAt, expanded, step};
+ghost use Rattle.viable.specs.Grammar.{nonzero, class_of, bound_of, expand, more as moreOf, opened as openedAt, expanded, step, word, none};
 ghost use Rattle.viable.specs.Grammar.Reached.{at};
 ghost use Rattle.condition_blame.specs.Blame.{Blamed};
-ghost use Rattle.condition_blame.specs.Search.{table as tableText, line, row_in, found_in, reached_in, growth, room, Near};
+ghost use Rattle.condition_blame.specs.Search.{table as tableText, line, row_in, reached_in, growth, room, Near};
 
 use condition::MOST_BYTES;
 
@@ -26,66 +26,53 @@ pub struct State {
     pub value: u64,
 }
 
-#[derive(Clone, Copy)]
-pub enum Step {
-    Next(State),
-    Stop,
+// Where the text's first byte 10 stands.
+fn line_end(text: &[u8]) -> Option<usize>
+    ensures { result ≡ position (λ c. c == 10) text.now }
+{
+    text.iter().position(|c| *c == b'\n')
 }
 
-// The position after the two first bytes of the row of item i for the byte c; 0 where there is none.
-fn find(table: &[u8], i: u8, c: u8) -> usize
-    ensures { found_in table.now result ≡ row_in table.now i c }
+// What stands before it.
+fn first_line(text: &[u8]) -> &[u8]
+    ensures { result.now ≡ line text.now }
 {
-    let mut k: usize = 0;
-    while 2 < table.len() - k {
-        if (table[k] == 10) & ((table[k + 1] == i) & (table[k + 2] == c)) {
-            return k + 3;
+    let end = line_end(text).unwrap_or(text.len());
+    &text[..end]
+}
+
+// The items of the row of item i for the byte c: what stands behind its two first bytes.
+fn find(table: &[u8], i: u8, c: u8) -> Option<&[u8]>
+    ensures some { IfSome result (λ r. row_in table.now i c ≡ word r.now) }
+    ensures absent { IfNone result (row_in table.now i c ≡ none) }
+{
+    for k in 0..table.len() {
+        if table[k..].starts_with(&[b'\n', i, c]) {
+            return Some(first_line(&table[k + 3..]));
         }
-        k += 1;
     }
-    0
-}
-
-// Puts what stands in the table from k to the end of its row before the items from `top` on.
-fn push(stack: &mut [u8], top: usize, table: &[u8], k: usize) -> usize
-    requires table_len_bound { length (line (drop k table.now)) ≤ top }
-    requires top_in_bounds { top ≤ length stack.old }
-    ensures stack_after { drop result stack.new ≡ line (drop k table.now) ++ drop top stack.old }
-    ensures table_value { result + length (line (drop k table.now)) ≡ top }
-{
-    if table.len() <= k {
-        return top;
-    }
-    let c = table[k];
-    if c == 10 {
-        return top;
-    }
-    let t = push(stack, top, table, k + 1);
-    stack[t - 1] = c;
-    t - 1
+    None
 }
 
 // The numbers that an item may hold lie below this.
+#[tactic(auto, unfolding(viable::specs::Grammar::bound_of))]
 fn bound_of(i: u8) -> u64
     ensures { result ≡ bound_of i }
 {
     match i {
-        b'D' => language::VARIABLES as u64,
-        b'I' => language::VARIABLES as u64,
+        b'D' | b'I' => language::VARIABLES as u64,
         b'M' => 2147483649,
         _ => 2147483648,
     }
 }
 
 // Whether the digit c goes on the number n below the bound b.
+#[tactic(auto, unfolding(viable::specs::Grammar::more))]
 fn more(b: u64, n: u64, c: u8) -> bool
     requires { n ≤ 2 ^ 32 }
     ensures { result ≡ moreOf b n c }
 {
-    if c < b'0' {
-        return false;
-    }
-    if b'9' < c {
+    if !c.is_ascii_digit() {
         return false;
     }
     (0 < n) & (n * 10 + ((c - b'0') as u64) < b)
@@ -95,17 +82,14 @@ fn more(b: u64, n: u64, c: u8) -> bool
 fn is_nonzero(c: u8) -> bool
     ensures { result ≡ nonzero c }
 {
-    (b'1' <= c) & (c <= b'9')
+    (b'1'..=b'9').contains(&c)
 }
 
 // The byte that stands for c in the table.
 fn class_of(c: u8) -> u8
     ensures { result ≡ class_of c }
 {
-    if is_nonzero(c) {
-        return b'1';
-    }
-    c
+    if is_nonzero(c) { b'1' } else { c }
 }
 
 // Where the reading stands after the first byte c of item i, from the top on.
@@ -115,35 +99,33 @@ fn opened(top: usize, i: u8, c: u8) -> State
 {
     if is_nonzero(c) {
         return State {
-            top: top,
+            top,
             bound: bound_of(i),
             value: (c - b'0') as u64,
         };
     }
     State {
-        top: top,
+        top,
         bound: 0,
         value: 0,
     }
 }
 
 // The items that follow the byte c of item i, a capital letter, come before those from `top` on.
-fn row(stack: &mut [u8], top: usize, table: &[u8], i: u8, c: u8) -> Step
+fn row(stack: &mut [u8], top: usize, table: &[u8], i: u8, c: u8) -> Option<State>
     requires table_value { table.now ≡ tableText }
     requires growth_bound { (growth + 1 ≤ top) × (top ≤ length stack.old) }
     ensures result_after { reached_in stack.new result ≡ expanded (expand i c) i c (drop top stack.old) }
     ensures near { Near (growth + 1) top top result }
 {
-    let k = find(table, i, class_of(c));
-    if k == 0 {
-        return Step::Stop;
-    }
-    let t = push(stack, top, table, k);
-    Step::Next(opened(t, i, c))
+    let items = find(table, i, class_of(c))?;
+    let first = top - items.len();
+    stack[first..top].copy_from_slice(items);
+    Some(opened(first, i, c))
 }
 
 // One byte more: the items from the top on change, or nothing that may stand there begins with it.
-fn advance(stack: &mut [u8], table: &[u8], s: State, c: u8) -> Step
+fn advance(stack: &mut [u8], table: &[u8], s: State, c: u8) -> Option<State>
     requires table_value { table.now ≡ tableText }
     requires growth_le_top { (growth ≤ s.top) × (s.top ≤ length stack.old) × (s.bound ≤ 2 ^ 32) × (s.value ≤ 2 ^ 32) }
     ensures result_after { reached_in stack.new result ≡ step s.bound s.value (drop s.top stack.old) c }
@@ -153,27 +135,27 @@ fn advance(stack: &mut [u8], table: &[u8], s: State, c: u8) -> Step
     let bound = s.bound;
     let value = s.value;
     if more(bound, value, c) {
-        return Step::Next(State {
-            top: top,
-            bound: bound,
+        return Some(State {
+            top,
+            bound,
             value: value * 10 + ((c - b'0') as u64),
         });
     }
     if stack.len() <= top {
-        return Step::Stop;
+        return None;
     }
     let i = stack[top];
     if (b'A' <= i) & (i <= b'Z') {
         return row(stack, top + 1, table, i, c);
     }
     if i == c {
-        return Step::Next(State {
+        return Some(State {
             top: top + 1,
             bound: 0,
             value: 0,
         });
     }
-    Step::Stop
+    None
 }
 
 // As many items as there is room for.
@@ -196,18 +178,15 @@ fn stop(text: &[u8], table: &[u8]) -> u32
         bound: 0,
         value: 0,
     };
-    let mut at: usize = 0;
-    while at < text.len() {
-        let c = text[at];
-        let Step::Next(next) = advance(&mut stack, table, s, c) else {
+    for at in 0..text.len() {
+        let Some(next) = advance(&mut stack, table, s, text[at]) else {
             return (at + 1) as u32;
         };
         s = next;
-        at += 1;
     }
     let top = s.top;
     if top < ROOM {
-        return (at + 1) as u32;
+        return (text.len() + 1) as u32;
     }
     0
 }

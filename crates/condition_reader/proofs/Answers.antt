@@ -1,18 +1,17 @@
 -- A whole text: what the reader's answer says of it, and that reading gives a spelled condition back. Assumes nothing.
-use mathlib.Core.Path.{◌≡◌, ap, sym, ◌∙◌}
+use mathlib.Core.Path.{◌≡◌, refl, ap, sym, ◌∙◌}
 use mathlib.Core.List.{List, [], append-nil}
 use Prim.Native.Nat.{ℕ, zero, suc, ◌+◌, ◌-◌, ◌≤◌, ◌<◌}
 use native.Mathlib.Omega.{arith}
 use native.Mathlib.Nat.{zero-add}
 use lib.ListN.{length, drop, replicate, length-drop, length-replicate, drop_of_length-le}
 use lib.Seq.{sets-eq, length-sets, take_at, drop_at}
-use Rattle.condition_reader.specs.declared.Refusal.TheVariants.{Misspelled, PartCount}
-use Rattle.condition_reader.specs.declared.Answer.{Answer}
-use Rattle.condition_reader.specs.declared.Answer.TheVariants as answer
-use Rattle.condition_reader.specs.declared.ConditionRead.TheVariants as read
+use Rattle.condition_reader.specs.declared.Reading.{Reading}
+use Rattle.condition_reader.specs.declared.Refusal.{Refusal}
+use Rattle.std.specs.Prelude.{Result, Ok, Err, Some, None}
 use Rattle.condition.specs.Condition.{Condition, spell_condition, parts}
 use Rattle.condition.specs.Texts.{most_bytes, most_parts, Taken}
-use Rattle.condition_reader.specs.Reading.{Refused, ConditionRead}
+use Rattle.condition_reader.specs.Reading.{ConditionRead}
 use Rattle.condition.specs.Words.{words, Held}
 use Rattle.condition_reader.specs.Parsing.{parse_condition, Reads, TellsWhole}
 use Rattle.condition_reader.proofs.Spelling.{condition-sound, whole-complete}
@@ -27,34 +26,28 @@ drop-replicate (suc n) (suc m) a = let e : suc n - suc m ≡ n - m = omega arith
 
 module _ (t o q : List ℕ) where
   -- nothing was found
-  pub whole-not : Reads t 0 o 0 q read.Misspelled → TellsWhole t o q read.Misspelled
+  pub whole-not : Reads t 0 o 0 q None → TellsWhole t o q None
   whole-not i c s =
       let z : ◌≡◌ {A = ℕ} 0 1 = cc (tells-not (parse_condition (length t) t) t 0 o 0 q (i (length t) (omega arith)), whole-complete t c s) in
       omega arith
 
-  module _ (k m : ℕ) (i : Reads t 0 o 0 q (read.Found k m)) where
+  module _ (k m : ℕ) (i : Reads t 0 o 0 q (Some (m, k))) where
     -- a condition was found, and more follows
-    pub whole-more : k < length t → TellsWhole t o q read.Misspelled
+    pub whole-more : k < length t → TellsWhole t o q None
     whole-more h c s =
         tells-found (parse_condition (length t) t) t 0 o 0 q k m (i (length t) (omega arith)) λ d e _.
         let w : drop k t ≡ [] = cc (whole-complete t c s) in
         let x : length t - k ≡ 0 = sym (length-drop k t) ∙ ap length w in
         omega arith
 
-    pub whole-found : length t ≤ k → k ≤ length t → TellsWhole t o q (read.Found k m)
-    whole-found h l =
+    pub whole-found : length t ≤ k → TellsWhole t o q (Some m)
+    whole-found h =
         tells-found (parse_condition (length t) t) t 0 o 0 q k m (i (length t) (omega arith)) λ c e s.
         let j = condition-sound (length t) t c (drop k t) e in
-        (c, record { spelling = j.0 ∙ rw (drop_of_length-le t h) (append-nil (spell_condition c)); valid = j.1 }, s, omega arith)
+        (c, record { spelling = j.0 ∙ rw (drop_of_length-le t h) (append-nil (spell_condition c)); valid = j.1 }, s)
 
-  pub none-refused : TellsWhole t o q read.Misspelled → length t ≤ most_bytes → Refused t Misspelled
-  none-refused w b = (b, w)
-
-  module _ (k m : ℕ) (w : TellsWhole t o q (read.Found k m)) (b : length t ≤ most_bytes) where
-    pub many-refused : most_parts < m → Refused t PartCount
-    many-refused f = let n = w.2.counted in (b, w.0, w.1, omega arith)
-
-    pub few-taken : m ≤ most_parts → o ≡ replicate most_parts 0 → ConditionRead t (answer.Taken m) q
+  module _ (m : ℕ) (w : TellsWhole t o q (Some m)) (b : length t ≤ most_bytes) where
+    pub few-taken : m ≤ most_parts → o ≡ replicate most_parts 0 → (c : Condition) × Taken t c × Held c m q
     few-taken f r =
         let c = w.0 in
         let n = w.2.counted in
@@ -73,9 +66,9 @@ module _ (t o q : List ℕ) where
         )
 
 -- the text of a condition that is to be taken is read, and gives it back
-pub read_back : (t : List ℕ) (c : Condition) → Taken t c → (a : Answer) (ws : List ℕ) → ConditionRead t a ws → (a ≡ answer.Taken (length (parts c))) × Held c (length (parts c)) ws
-read_back t c k (answer.Taken m) ws r =
-    let e : r.0 ≡ c = taken-unique r.1 k in
-    let h : Held c m ws = rw e at r.2 in
-    (ap answer.Taken h.counted, rw h.counted at h)
-read_back t c k (answer.Refused f) ws r = absurd (taken_refused k f r.0)
+pub read_back : (t : List ℕ) (c : Condition) → Taken t c → (a : Result Reading Refusal) → ConditionRead t a → (r : Reading) × (a ≡ Ok r) × Held c (length (parts c)) r.words × (r.count ≡ length (parts c))
+read_back t c k (Ok r) h =
+    let e : h.0 ≡ c = taken-unique h.1 k in
+    let g : Held c r.count r.words = rw e at h.2 in
+    (r, refl, rw g.counted at g, g.counted)
+read_back t c k (Err f) h = absurd (taken_refused k f h)

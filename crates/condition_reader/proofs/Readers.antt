@@ -20,12 +20,11 @@ use Rattle.condition.proofs.Words.{words-length}
 use Rattle.atom_reader.specs.Parsing.{parse_atom}
 use Rattle.atom_reader.proofs.Spelling.{atom-sound}
 use Rattle.operator_reader.specs.declared.Bracket.{Bracket}
-use Rattle.operator_reader.specs.declared.Bracket.TheVariants.{Round, Some, All}
+use Rattle.operator_reader.specs.declared.Bracket.TheVariants as bracket
+use Rattle.std.specs.Prelude.{Option, Some, None}
 use Rattle.operator_reader.specs.Parsing.{coded, opening_of, closing_of, parse_prefix, parse_opening, parse_middle}
 use Rattle.operator_reader.proofs.Spelling.{prefix-sound, middle-sound}
 use Rattle.operator_reader.proofs.Operators.{coded-inv, coded-not}
-use Rattle.condition_reader.specs.declared.ConditionRead.{ConditionRead}
-use Rattle.condition_reader.specs.declared.ConditionRead.TheVariants.{Found, Misspelled}
 use Rattle.condition_reader.specs.Parsing.{parse_leaf, parse_unary, parse_binary, parse_bracketed, small, by_head, parse_condition, Stored, Tells, Reads, ReadsBy, Ready}
 use Rattle.condition_reader.proofs.Spelling.{condition-sound}
 
@@ -41,19 +40,19 @@ module _ (s w : List ℕ) (a b : ℕ) (e : drop a s ≡ w ++ drop b s) where
   position h l = omega (arith, between)
 
 -- what is found, from the answer; the last argument goes on
-pub tells-found : {C : Type 0} (p : Parsed Condition) (s : List ℕ) (at : ℕ) (o : List ℕ) (n : ℕ) (q : List ℕ) (k m : ℕ) → Tells p s at o n q (Found k m)
+pub tells-found : {C : Type 0} (p : Parsed Condition) (s : List ℕ) (at : ℕ) (o : List ℕ) (n : ℕ) (q : List ℕ) (k m : ℕ) → Tells p s at o n q (Some (m, k))
     → ((c : Condition) → p ≡ found c (drop k s) → Stored c at o n q m → C) → C
 tells-found (found c t) s at o n q k m h g = g c (ap (found c) h.0) h.1
 tells-found misspelled s at o n q k m h g = absurd h
 
-pub tells-not : (p : Parsed Condition) (s : List ℕ) (at : ℕ) (o : List ℕ) (n : ℕ) (q : List ℕ) → Tells p s at o n q Misspelled → p ≡ misspelled
+pub tells-not : (p : Parsed Condition) (s : List ℕ) (at : ℕ) (o : List ℕ) (n : ℕ) (q : List ℕ) → Tells p s at o n q None → p ≡ misspelled
 tells-not (found c t) s at o n q h = absurd h
 tells-not misspelled s at o n q h = refl
 
-found-tells : (p : Parsed Condition) (s : List ℕ) (at : ℕ) (o : List ℕ) (n : ℕ) (q : List ℕ) (k m : ℕ) (c : Condition) → p ≡ found c (drop k s) → Stored c at o n q m → Tells p s at o n q (Found k m)
+found-tells : (p : Parsed Condition) (s : List ℕ) (at : ℕ) (o : List ℕ) (n : ℕ) (q : List ℕ) (k m : ℕ) (c : Condition) → p ≡ found c (drop k s) → Stored c at o n q m → Tells p s at o n q (Some (m, k))
 found-tells p s at o n q k m c e h = rw e (refl, h)
 
-not-tells : (p : Parsed Condition) (s : List ℕ) (at : ℕ) (o : List ℕ) (n : ℕ) (q : List ℕ) → p ≡ misspelled → Tells p s at o n q Misspelled
+not-tells : (p : Parsed Condition) (s : List ℕ) (at : ℕ) (o : List ℕ) (n : ℕ) (q : List ℕ) → p ≡ misspelled → Tells p s at o n q None
 not-tells p s at o n q e = rw e tt
 
 -- what every answer keeps: the count grows, by no more than the text that was read
@@ -62,7 +61,7 @@ pub record Bounds (s : List ℕ) (at n k m : ℕ) : Type 0 where
   pub behind : m + at ≤ n + k
   pub within : m + at ≤ n + length s
 
-pub bounds : (s : List ℕ) (at : ℕ) (o : List ℕ) (n : ℕ) (q : List ℕ) (k m : ℕ) → Reads s at o n q (Found k m) → Bounds s at n k m
+pub bounds : (s : List ℕ) (at : ℕ) (o : List ℕ) (n : ℕ) (q : List ℕ) (k m : ℕ) → Reads s at o n q (Some (m, k)) → Bounds s at n k m
 bounds s at o n q k m i =
     tells-found (parse_condition (length s - at) (drop at s)) s at o n q k m (i (length s - at) (le_refl (length s - at))) λ c e h.
     let b = beyond s (spell_condition c) at k (condition-sound (length s - at) (drop at s) c (drop k s) e).0 in
@@ -71,25 +70,25 @@ bounds s at o n q k m i =
     let g = h.counted in
     record { more = omega arith; behind = omega arith; within = omega arith }
 
-pub same-room : (s : List ℕ) (at : ℕ) (o : List ℕ) (n : ℕ) (q : List ℕ) (k m : ℕ) → Reads s at o n q (Found k m) → length q ≡ length o
+pub same-room : (s : List ℕ) (at : ℕ) (o : List ℕ) (n : ℕ) (q : List ℕ) (k m : ℕ) → Reads s at o n q (Some (m, k)) → length q ≡ length o
 same-room s at o n q k m i =
     tells-found (parse_condition (length s - at) (drop at s)) s at o n q k m (i (length s - at) (le_refl (length s - at))) λ c e h. ap length h.text ∙ length-sets o n (words c n at)
 
 module _ (s : List ℕ) (at : ℕ) (o : List ℕ) (n : ℕ) where
   -- an atom
   pub leaf-found : (k : ℕ) (a : Atom) (q : List ℕ) → parse_atom (drop at s) ≡ found a (drop k s) → k ≤ length s → q ≡ set o n (word 0 0 at k)
-      → Tells (parse_leaf (drop at s)) s at o n q (Found k (n + 1))
+      → Tells (parse_leaf (drop at s)) s at o n q (Some (n + 1, k))
   unfolding parse_leaf words parts spell_condition
   leaf-found k a q e l f =
       let z : k ≡ at + length (spell_atom a) = position s (spell_atom a) at k (atom-sound (drop at s) a (drop k s) e).0 (atom-longer a) l in
       found-tells (parse_leaf (drop at s)) s at o n q k (n + 1) (atom a) (rw e) (record { text = f ∙ ap (λ (x : ℕ). set o n (word 0 0 at x)) z; counted = refl })
 
-  pub leaf-not : (q : List ℕ) → parse_atom (drop at s) ≡ misspelled → Tells (parse_leaf (drop at s)) s at o n q Misspelled
+  pub leaf-not : (q : List ℕ) → parse_atom (drop at s) ≡ misspelled → Tells (parse_leaf (drop at s)) s at o n q None
   unfolding parse_leaf
   leaf-not q e = not-tells (parse_leaf (drop at s)) s at o n q (rw e)
 
   -- a unary operator and its condition
-  pub unary-not : (q : List ℕ) → coded unary_code (parse_prefix (drop at s)) ≡ misspelled → ReadsBy (λ p. parse_unary p (drop at s)) s at o n q Misspelled
+  pub unary-not : (q : List ℕ) → coded unary_code (parse_prefix (drop at s)) ≡ misspelled → ReadsBy (λ p. parse_unary p (drop at s)) s at o n q None
   unfolding parse_unary
   unary-not q e f h = not-tells (parse_unary (parse_condition f) (drop at s)) s at o n q (rw (coded-not unary_code (parse_prefix (drop at s)) e))
 
@@ -104,18 +103,18 @@ module _ (s : List ℕ) (at : ℕ) (o : List ℕ) (n : ℕ) where
     pub operand-ready : Ready s at o n → Ready s k o n
     operand-ready r = let f = r.few in let g = prefix-beyond in record { short = r.short; few = omega arith; room = r.room }
 
-    pub operand-fits : Ready s at o n → (q : List ℕ) (next m : ℕ) → Reads s k o n q (Found next m) → m ≤ most_bytes
+    pub operand-fits : Ready s at o n → (q : List ℕ) (next m : ℕ) → Reads s k o n q (Some (m, next)) → m ≤ most_bytes
     operand-fits r q next m i = let f = r.short in let h = (operand-ready r).few in let w = bounds s k o n q next m i in omega arith
 
-    pub operand-not : (q : List ℕ) → Reads s k o n q Misspelled → ReadsBy (λ p. parse_unary p (drop at s)) s at o n q Misspelled
+    pub operand-not : (q : List ℕ) → Reads s k o n q None → ReadsBy (λ p. parse_unary p (drop at s)) s at o n q None
     unfolding parse_unary
     operand-not q i f h =
         coded-inv unary_code (parse_prefix (drop at s)) code (drop k s) e λ p j _.
         let g = prefix-beyond in
         not-tells (parse_unary (parse_condition f) (drop at s)) s at o n q (rw (j, tells-not (parse_condition f (drop k s)) s k o n q (i f (omega arith))))
 
-    pub unary-found : (q q₁ : List ℕ) (next m : ℕ) → Reads s k o n q (Found next m) → next ≤ length s → q₁ ≡ set q m (word code 0 at next)
-        → ReadsBy (λ p. parse_unary p (drop at s)) s at o n q₁ (Found next (m + 1))
+    pub unary-found : (q q₁ : List ℕ) (next m : ℕ) → Reads s k o n q (Some (m, next)) → next ≤ length s → q₁ ≡ set q m (word code 0 at next)
+        → ReadsBy (λ p. parse_unary p (drop at s)) s at o n q₁ (Some (m + 1, next))
     unfolding parse_unary words parts
     unary-found q q₁ next m i r t f h =
         coded-inv unary_code (parse_prefix (drop at s)) code (drop k s) e λ p j x.
@@ -135,14 +134,14 @@ module _ (s : List ℕ) (at : ℕ) (o : List ℕ) (n : ℕ) where
         })
 
 opening-of-longer : (b : Bracket) → 0 < length (opening_of b)
-opening-of-longer Round = omega arith
-opening-of-longer Some = omega arith
-opening-of-longer All = omega arith
+opening-of-longer bracket.Round = omega arith
+opening-of-longer bracket.Some = omega arith
+opening-of-longer bracket.All = omega arith
 
 closing-of-longer : (b : Bracket) → 0 < length (closing_of b)
-closing-of-longer Round = omega arith
-closing-of-longer Some = omega arith
-closing-of-longer All = omega arith
+closing-of-longer bracket.Round = omega arith
+closing-of-longer bracket.Some = omega arith
+closing-of-longer bracket.All = omega arith
 
 -- the words of two conditions and of their operator, one after the other
 sets-three : (a b : List ℕ) (x : ℕ) (o : List ℕ) (n : ℕ) → set (sets (sets o n a) (n + length a) b) (n + length a + length b) x ≡ sets o n (a ++ (b ++ x ∷ []))
@@ -163,14 +162,14 @@ module _ (s : List ℕ) (at first : ℕ) (b : Bracket) (o : List ℕ) (n : ℕ) 
   pub first-ready : Ready s at o n → Ready s first o n
   first-ready r = let f = r.few in let g = first-beyond in record { short = r.short; few = omega arith; room = r.room }
 
-  pub first-not : (q : List ℕ) → Reads s first o n q Misspelled → ReadsBy (λ p. parse_binary b p (drop first s)) s at o n q Misspelled
+  pub first-not : (q : List ℕ) → Reads s first o n q None → ReadsBy (λ p. parse_binary b p (drop first s)) s at o n q None
   unfolding parse_binary
   first-not q i f h =
       let g = first-beyond in
       not-tells (parse_binary b (parse_condition f) (drop first s)) s at o n q (rw (tells-not (parse_condition f (drop first s)) s first o n q (i f (omega arith))))
 
-  module _ (k m : ℕ) (q : List ℕ) (i : Reads s first o n q (Found k m)) where
-    pub middle-not : coded binary_code (parse_middle b (drop k s)) ≡ misspelled → ReadsBy (λ p. parse_binary b p (drop first s)) s at o n q Misspelled
+  module _ (k m : ℕ) (q : List ℕ) (i : Reads s first o n q (Some (m, k))) where
+    pub middle-not : coded binary_code (parse_middle b (drop k s)) ≡ misspelled → ReadsBy (λ p. parse_binary b p (drop first s)) s at o n q None
     unfolding parse_binary
     middle-not e f h =
         let g = first-beyond in
@@ -197,7 +196,7 @@ module _ (s : List ℕ) (at first : ℕ) (b : Bracket) (o : List ℕ) (n : ℕ) 
           let g = first-beyond in
           record { short = r.short; few = omega arith; room = same-room s first o n q k m i ∙ r.room }
 
-      pub second-not : (q₁ : List ℕ) → Reads s second q m q₁ Misspelled → ReadsBy (λ p. parse_binary b p (drop first s)) s at o n q₁ Misspelled
+      pub second-not : (q₁ : List ℕ) → Reads s second q m q₁ None → ReadsBy (λ p. parse_binary b p (drop first s)) s at o n q₁ None
       unfolding parse_binary
       second-not q₁ j f h =
           let g = first-beyond in
@@ -207,7 +206,7 @@ module _ (s : List ℕ) (at first : ℕ) (b : Bracket) (o : List ℕ) (n : ℕ) 
           coded-inv binary_code (parse_middle b (drop k s)) code (drop second s) e λ p z _.
           not-tells (parse_binary b (parse_condition f) (drop first s)) s at o n q₁ (rw (y, z, tells-not (parse_condition f (drop second s)) s second q m q₁ (j f (omega arith))))
 
-      module _ (k₁ m₁ : ℕ) (q₁ : List ℕ) (j : Reads s second q m q₁ (Found k₁ m₁)) where
+      module _ (k₁ m₁ : ℕ) (q₁ : List ℕ) (j : Reads s second q m q₁ (Some (m₁, k₁))) where
         pub both-fit : Ready s at o n → Room m m₁ q₁
         both-fit r =
             let f = r.short in
@@ -217,7 +216,7 @@ module _ (s : List ℕ) (at first : ℕ) (b : Bracket) (o : List ℕ) (n : ℕ) 
             let v = bounds s second q m q₁ k₁ m₁ j in
             record { some = omega arith; left = omega arith; fits = omega arith; room = same-room s second q m q₁ k₁ m₁ j ∙ z.room }
 
-        pub closing-not : parse_word (closing_of b) (drop k₁ s) ≡ misspelled → ReadsBy (λ p. parse_binary b p (drop first s)) s at o n q₁ Misspelled
+        pub closing-not : parse_word (closing_of b) (drop k₁ s) ≡ misspelled → ReadsBy (λ p. parse_binary b p (drop first s)) s at o n q₁ None
         unfolding parse_binary
         closing-not x f h =
             let g = first-beyond in
@@ -229,7 +228,7 @@ module _ (s : List ℕ) (at first : ℕ) (b : Bracket) (o : List ℕ) (n : ℕ) 
             not-tells (parse_binary b (parse_condition f) (drop first s)) s at o n q₁ (rw (y, z, y₁, x))
 
         pub binary-found : (q₂ : List ℕ) (next : ℕ) → parse_word (closing_of b) (drop k₁ s) ≡ found tt (drop next s) → next ≤ length s → q₂ ≡ set q₁ m₁ (word code (m - 1) at next)
-            → ReadsBy (λ p. parse_binary b p (drop first s)) s at o n q₂ (Found next (m₁ + 1))
+            → ReadsBy (λ p. parse_binary b p (drop first s)) s at o n q₂ (Some (m₁ + 1, next))
         unfolding parse_binary words parts
         binary-found q₂ next x r t f h =
             let g = first-beyond in
@@ -272,13 +271,13 @@ module _ (s : List ℕ) (at first : ℕ) (b : Bracket) (o : List ℕ) (n : ℕ) 
                 ∙ sets-three (words c n first) (words c₁ m second) (word (binary_code p) (m - 1) at next) o n)
 
 -- nothing is left to read
-pub none_left : (s : List ℕ) (at : ℕ) (o : List ℕ) (n : ℕ) (q : List ℕ) → length s ≤ at → Reads s at o n q Misspelled
+pub none_left : (s : List ℕ) (at : ℕ) (o : List ℕ) (n : ℕ) (q : List ℕ) → length s ≤ at → Reads s at o n q None
 unfolding parse_condition
 none_left s at o n q h zero _ = tt
 none_left s at o n q h (suc f) _ = rw (at-end s at h) tt
 
 -- what stands at the head picks the reader
-pub headed : (s : List ℕ) (at : ℕ) (o : List ℕ) (n : ℕ) (q : List ℕ) (r : ConditionRead) (p : (List ℕ → Parsed Condition) → Parsed Condition) → at < length s
+pub headed : (s : List ℕ) (at : ℕ) (o : List ℕ) (n : ℕ) (q : List ℕ) (r : Option (ℕ × ℕ)) (p : (List ℕ → Parsed Condition) → Parsed Condition) → at < length s
     → ((g : List ℕ → Parsed Condition) → by_head g (drop at s) ≡ p g) → ReadsBy p s at o n q r → Reads s at o n q r
 unfolding parse_condition
 headed s at o n q r p h e i zero l = absurd (omega arith)
@@ -292,7 +291,7 @@ module _ (s : List ℕ) (at : ℕ) (h : at < length s) where
   head-bracketed e g = rw (at_byte s at h, e)
 
 -- a bracket, or a unary operator
-module _ (s : List ℕ) (at : ℕ) (o : List ℕ) (n : ℕ) (q : List ℕ) (r : ConditionRead) where
+module _ (s : List ℕ) (at : ℕ) (o : List ℕ) (n : ℕ) (q : List ℕ) (r : Option (ℕ × ℕ)) where
   pub by-bracket : (b : Bracket) (k : ℕ) → parse_opening (drop at s) ≡ found b (drop k s) → ReadsBy (λ p. parse_binary b p (drop k s)) s at o n q r
       → ReadsBy (λ p. parse_bracketed p (drop at s)) s at o n q r
   unfolding parse_bracketed

@@ -1,6 +1,6 @@
 -- A proof device: what each reader of conditions finds at the front of a text, and what it stores. It promises nothing by itself:
 -- proofs/Spelling.antt holds it to the spelling, both ways round.
-use Rattle.std.specs.Prelude.{◌≡◌, List, [], ◌∷◌, Bool, ◌&&◌, ℕ, zero, suc, ◌+◌, ◌-◌, ◌≤◌, leb, length, drop}
+use Rattle.std.specs.Prelude.{◌≡◌, List, [], ◌∷◌, Bool, ◌&&◌, ℕ, zero, suc, ◌+◌, ◌-◌, ◌≤◌, leb, length, drop, Option, Some, None}
 use Rattle.std.proofs.lemmas.List.Edits.{sets}
 use Rattle.base.specs.Bytes.{byte}
 use Rattle.tokens.specs.Parsing.{Parsed, found, misspelled, after, after_or, parse_word}
@@ -11,8 +11,6 @@ use Rattle.condition.specs.Words.{words}
 use Rattle.atom_reader.specs.Parsing.{parse_atom}
 use Rattle.operator_reader.specs.declared.Bracket.{Bracket}
 use Rattle.operator_reader.specs.Parsing.{parse_prefix, closing_of, parse_opening, parse_middle}
-use Rattle.condition_reader.specs.declared.ConditionRead.{ConditionRead}
-use Rattle.condition_reader.specs.declared.ConditionRead.TheVariants.{Found, Misspelled}
 
 unfoldable pub parse_leaf : List ℕ → Parsed Condition
 parse_leaf l = after (parse_atom l) λ a t. found (atom a) t
@@ -50,33 +48,30 @@ unfoldable pub parse_condition : ℕ → List ℕ → Parsed Condition
 parse_condition zero l = misspelled
 parse_condition (suc fuel) l = by_head (parse_condition fuel) l
 
-abbrev pub condition_end : ConditionRead → ℕ
-condition_end (Found k m) = k
-condition_end Misspelled = 0
-
 -- what a reader of the condition at `at` leaves in the words o, from part n on
 pub record Stored (c : Condition) (at : ℕ) (o : List ℕ) (n : ℕ) (q : List ℕ) (m : ℕ) : Type 0 where
   pub text : q ≡ sets o n (words c n at)
   pub counted : m ≡ n + length (parts c)
 
--- the answer, and the words q that the reader leaves, say what p finds at `at` of the text s
-abbrev pub Tells : Parsed Condition → List ℕ → ℕ → List ℕ → ℕ → List ℕ → ConditionRead → Type 0
-Tells (found c t) s at o n q (Found k m) = (t ≡ drop k s) × Stored c at o n q m
-Tells (found c t) s at o n q Misspelled = ⊥
-Tells misspelled s at o n q (Found k m) = ⊥
-Tells misspelled s at o n q Misspelled = Unit
+-- the answer, which is the number of parts so far and the position after the condition, and the words q that the reader leaves, say what p
+-- finds at `at` of the text s
+abbrev pub Tells : Parsed Condition → List ℕ → ℕ → List ℕ → ℕ → List ℕ → Option (ℕ × ℕ) → Type 0
+Tells (found c t) s at o n q (Some r) = (t ≡ drop r.1 s) × Stored c at o n q r.0
+Tells (found c t) s at o n q None = ⊥
+Tells misspelled s at o n q (Some r) = ⊥
+Tells misspelled s at o n q None = Unit
 
 -- the answer tells what the reader of conditions finds at `at`, with every fuel that is enough; and what another reader finds that calls it
-abbrev pub Reads : List ℕ → ℕ → List ℕ → ℕ → List ℕ → ConditionRead → Type 0
+abbrev pub Reads : List ℕ → ℕ → List ℕ → ℕ → List ℕ → Option (ℕ × ℕ) → Type 0
 Reads s at o n q r = (f : ℕ) → length s - at ≤ f → Tells (parse_condition f (drop at s)) s at o n q r
 
-abbrev pub ReadsBy : ((List ℕ → Parsed Condition) → Parsed Condition) → List ℕ → ℕ → List ℕ → ℕ → List ℕ → ConditionRead → Type 0
+abbrev pub ReadsBy : ((List ℕ → Parsed Condition) → Parsed Condition) → List ℕ → ℕ → List ℕ → ℕ → List ℕ → Option (ℕ × ℕ) → Type 0
 ReadsBy p s at o n q r = (f : ℕ) → length s - at ≤ f + 1 → Tells (p (parse_condition f)) s at o n q r
 
--- the answer says which condition the whole text t spells
-abbrev pub TellsWhole : List ℕ → List ℕ → List ℕ → ConditionRead → Type 0
-TellsWhole t o q (Found k m) = (c : Condition) × Spells t c × Stored c 0 o 0 q m × (k ≡ length t)
-TellsWhole t o q Misspelled = (c : Condition) → Spells t c → ⊥
+-- the answer, which is the number of parts, says which condition the whole text t spells
+abbrev pub TellsWhole : List ℕ → List ℕ → List ℕ → Option ℕ → Type 0
+TellsWhole t o q (Some m) = (c : Condition) × Spells t c × Stored c 0 o 0 q m
+TellsWhole t o q None = (c : Condition) → Spells t c → ⊥
 
 -- what the readers ask: a short text, no more parts than bytes so far, and room for the words
 pub record Ready (s : List ℕ) (at : ℕ) (o : List ℕ) (n : ℕ) : Type 0 where

@@ -1,19 +1,19 @@
 // Conditions: read from a text into their parts, with refusals 6 to 8.
 #![tactic(auto)]
 
-ghost use Rattle.std.specs.Prelude.{◌++◌, ◌≡◌, ◌≤◌, ◌<◌, length, drop, set, replicate};
+ghost use Rattle.std.specs.Prelude.{◌++◌, ◌≡◌, ◌≤◌, ◌<◌, length, drop, set};
+ghost use Rattle.tokens.specs.Parsing.{parsed_end};
 ghost use Rattle.condition.specs.Texts.{most_bytes, most_parts};
 ghost use Rattle.condition.specs.Words.{word};
 ghost use Rattle.operator_reader.specs.Parsing.{opening_of};
-ghost use Rattle.condition_reader.specs.Reading.{number, ConditionRead as WholeRead};
-ghost use Rattle.condition_reader.specs.Parsing.{parse_leaf, parse_unary, parse_binary, parse_bracketed, condition_end, Tells, Reads, ReadsBy, TellsWhole, Ready};
+ghost use Rattle.condition_reader.specs.Reading.{number, ConditionRead};
+ghost use Rattle.condition_reader.specs.Parsing.{parse_leaf, parse_unary, parse_binary, parse_bracketed, Tells, Reads, ReadsBy, TellsWhole, Ready};
 
-use atom_reader::AtomRead;
 use condition::{END, LEFT, MOST_BYTES, MOST_PARTS, START};
-use operator_reader::{Bracket, BracketRead, OperatorRead};
-use tokens::WordRead;
+use operator_reader::Bracket;
+use refusals::Numbered;
 
-// The refusals of a condition's text.
+// The refusals of a condition's text, with their numbers of document 01.
 #[derive(Clone, Copy)]
 pub enum Refusal {
     Length,
@@ -21,35 +21,23 @@ pub enum Refusal {
     PartCount,
 }
 
-#[derive(Clone, Copy)]
-pub enum Answer {
-    Taken(u32),
-    Refused(Refusal),
-}
-
-// Where the answer is `Taken`, with the number of parts, the first words are theirs. All other words are zeros.
+// The number of parts, and their words. All other words are zeros.
 #[derive(Clone, Copy)]
 pub struct Reading {
-    pub answer: Answer,
+    pub count: u32,
     pub words: [u64; MOST_PARTS],
 }
 
-// The number of a refusal in document 01.
-pub fn number_of(r: Refusal) -> u8
-    ensures { result ≡ number r }
-{
-    match r {
-        Refusal::Length => 6,
-        Refusal::Misspelled => 7,
-        Refusal::PartCount => 8,
-    }
-}
+impl Numbered for Refusal {
+    ghost number = { number };
 
-// The position after the condition, and the number of parts so far.
-#[derive(Clone, Copy)]
-enum ConditionRead {
-    Found(usize, usize),
-    Misspelled,
+    fn number(self) -> u8 {
+        match self {
+            Refusal::Length => 6,
+            Refusal::Misspelled => 7,
+            Refusal::PartCount => 8,
+        }
+    }
 }
 
 // One more part as a word, where there is room.
@@ -63,33 +51,27 @@ fn push(out: &mut [u64; MOST_PARTS], n: usize, code: u8, left: usize, start: usi
     }
 }
 
-// A condition that is an atom.
-fn leaf(s: &[u8], at: usize, out: &mut [u64; MOST_PARTS], n: usize) -> ConditionRead
+// A condition that is an atom: the number of parts so far, and the position after it.
+fn leaf(s: &[u8], at: usize, out: &mut [u64; MOST_PARTS], n: usize) -> Option<(usize, usize)>
     requires ready { Ready s.now at out.old n }
     requires at_in_bounds { at < length s.now }
     ensures tells { Tells (parse_leaf (drop at s.now)) s.now at out.old n out.new result }
-    ensures result_in_bounds { condition_end result ≤ length s.now }
+    ensures result_in_bounds { parsed_end result ≤ length s.now }
 {
-    let AtomRead::Found(_, k) = atom_reader::atom(s, at) else {
-        return ConditionRead::Misspelled;
-    };
+    let (_, k) = atom_reader::atom(s, at)?;
     push(out, n, 0, 0, at, k);
-    ConditionRead::Found(k, n + 1)
+    Some((n + 1, k))
 }
 
 // The condition at the position; its parts are numbered from n. Each reader below that calls another is called at one place, so that one
 // condition within another takes one small frame of stack.
 #[cycle(binary_bracketed_condition_unary)]
-fn condition(s: &[u8], at: usize, out: &mut [u64; MOST_PARTS], n: usize) -> ConditionRead
+fn condition(s: &[u8], at: usize, out: &mut [u64; MOST_PARTS], n: usize) -> Option<(usize, usize)>
     requires { Ready s.now at out.old n }
     ensures reads { Reads s.now at out.old n out.new result }
-    ensures result_in_bounds { condition_end result ≤ length s.now }
+    ensures result_in_bounds { parsed_end result ≤ length s.now }
 {
-    if s.len() <= at {
-        return ConditionRead::Misspelled;
-    }
-    let c = s[at];
-    match c {
+    match *s.get(at)? {
         b'a'..=b'z' => leaf(s, at, out, n),
         _ => bracketed(s, at, out, n),
     }
@@ -97,34 +79,30 @@ fn condition(s: &[u8], at: usize, out: &mut [u64; MOST_PARTS], n: usize) -> Cond
 
 // `(p & q)`, `E[p U q]` and the like; what begins with no bracket begins with a unary operator.
 #[cycle(binary_bracketed_condition_unary)]
-fn bracketed(s: &[u8], at: usize, out: &mut [u64; MOST_PARTS], n: usize) -> ConditionRead
+fn bracketed(s: &[u8], at: usize, out: &mut [u64; MOST_PARTS], n: usize) -> Option<(usize, usize)>
     requires ready { Ready s.now at out.old n }
     requires at_in_bounds { at < length s.now }
     ensures reads_by { ReadsBy (λ p. parse_bracketed p (drop at s.now)) s.now at out.old n out.new result }
-    ensures result_in_bounds { condition_end result ≤ length s.now }
+    ensures result_in_bounds { parsed_end result ≤ length s.now }
 {
-    let BracketRead::Found(bracket, first) = operator_reader::opening(s, at) else {
-        return unary(s, at, out, n);
-    };
-    binary(s, at, first, bracket, out, n)
+    match operator_reader::opening(s, at) {
+        Some((bracket, first)) => binary(s, at, first, bracket, out, n),
+        None => unary(s, at, out, n),
+    }
 }
 
 // `!p`, and `EX p` to `AM p`.
 #[cycle(binary_bracketed_condition_unary)]
-fn unary(s: &[u8], at: usize, out: &mut [u64; MOST_PARTS], n: usize) -> ConditionRead
+fn unary(s: &[u8], at: usize, out: &mut [u64; MOST_PARTS], n: usize) -> Option<(usize, usize)>
     requires ready { Ready s.now at out.old n }
     requires at_in_bounds { at < length s.now }
     ensures reads_by { ReadsBy (λ p. parse_unary p (drop at s.now)) s.now at out.old n out.new result }
-    ensures result_in_bounds { condition_end result ≤ length s.now }
+    ensures result_in_bounds { parsed_end result ≤ length s.now }
 {
-    let OperatorRead::Found(code, k) = operator_reader::prefix(s, at) else {
-        return ConditionRead::Misspelled;
-    };
-    let ConditionRead::Found(next, m) = condition(s, k, out, n) else {
-        return ConditionRead::Misspelled;
-    };
+    let (code, k) = operator_reader::prefix(s, at)?;
+    let (m, next) = condition(s, k, out, n)?;
     push(out, m, code, 0, at, next);
-    ConditionRead::Found(next, m + 1)
+    Some((m + 1, next))
 }
 
 // Two conditions with an operator between them, the first at `first`, and what closes the bracket.
@@ -136,77 +114,48 @@ fn binary(
     bracket: Bracket,
     out: &mut [u64; MOST_PARTS],
     n: usize,
-) -> ConditionRead
+) -> Option<(usize, usize)>
     requires ready { Ready s.now at out.old n }
     requires at_in_bounds { at < length s.now }
     requires s_value { drop at s.now ≡ opening_of bracket ++ drop first s.now }
     ensures reads_by { ReadsBy (λ p. parse_binary bracket p (drop first s.now)) s.now at out.old n out.new result }
-    ensures result_in_bounds { condition_end result ≤ length s.now }
+    ensures result_in_bounds { parsed_end result ≤ length s.now }
 {
-    let ConditionRead::Found(k, m) = condition(s, first, out, n) else {
-        return ConditionRead::Misspelled;
-    };
-    let OperatorRead::Found(code, second) = operator_reader::middle(s, k, bracket) else {
-        return ConditionRead::Misspelled;
-    };
-    let ConditionRead::Found(k1, m1) = condition(s, second, out, m) else {
-        return ConditionRead::Misspelled;
-    };
-    let WordRead::Found(next) = operator_reader::closing(s, k1, bracket) else {
-        return ConditionRead::Misspelled;
-    };
+    let (m, k) = condition(s, first, out, n)?;
+    let (code, second) = operator_reader::middle(s, k, bracket)?;
+    let (m1, k1) = condition(s, second, out, m)?;
+    let next = operator_reader::closing(s, k1, bracket)?;
     push(out, m1, code, m - 1, at, next);
-    ConditionRead::Found(next, m1 + 1)
+    Some((m1 + 1, next))
 }
 
-// As many zeros as there are words.
-fn blank() -> [u64; MOST_PARTS]
-    ensures { result ≡ replicate most_parts 0 }
-{
-    [0; MOST_PARTS]
-}
-
-fn refused(r: Refusal) -> Reading
-    ensures { (result.answer ≡ Answer.Refused r) × (result.words ≡ replicate most_parts 0) }
-{
-    Reading {
-        answer: Answer::Refused(r),
-        words: blank(),
-    }
-}
-
-// The condition that the whole text spells.
-fn whole(text: &[u8], out: &mut [u64; MOST_PARTS]) -> ConditionRead
+// The number of parts of the condition that the whole text spells.
+fn whole(text: &[u8], out: &mut [u64; MOST_PARTS]) -> Option<usize>
     requires text_len_bound { length text.now ≤ most_bytes }
     requires out_len { length out.old ≡ most_parts }
     ensures { TellsWhole text.now out.old out.new result }
 {
-    let ConditionRead::Found(next, parts) = condition(text, 0, out, 0) else {
-        return ConditionRead::Misspelled;
-    };
+    let (parts, next) = condition(text, 0, out, 0)?;
     if next < text.len() {
-        return ConditionRead::Misspelled;
+        return None;
     }
-    ConditionRead::Found(next, parts)
+    Some(parts)
 }
 
 // The whole text is read before its parts are counted.
-pub fn read(text: &[u8]) -> Reading
-    ensures { WholeRead text.now result.answer result.words }
+pub fn read(text: &[u8]) -> Result<Reading, Refusal>
+    ensures { ConditionRead text.now result }
 {
     if MOST_BYTES < text.len() {
-        return refused(Refusal::Length);
+        return Err(Refusal::Length);
     }
-    let mut words = blank();
-    let ConditionRead::Found(_, parts) = whole(text, &mut words) else {
-        return refused(Refusal::Misspelled);
+    let mut words = [0; MOST_PARTS];
+    let Some(parts) = whole(text, &mut words) else {
+        return Err(Refusal::Misspelled);
     };
     if MOST_PARTS < parts {
-        return refused(Refusal::PartCount);
+        return Err(Refusal::PartCount);
     }
     let count = parts as u32;
-    Reading {
-        answer: Answer::Taken(count),
-        words: words,
-    }
+    Ok(Reading { count, words })
 }

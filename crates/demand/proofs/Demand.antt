@@ -5,6 +5,7 @@
 -- ended with the same value and the same kept ones, or with a fault at the same statement. Under every budget that isn't refused both answer
 -- alike.
 -- Assumes nothing.
+use Rattle.std.specs.Prelude.{Result, Ok, Err}
 use mathlib.Core.Path.{◌≡◌, refl, subst}
 use mathlib.Core.List.{List}
 use Prim.Native.Nat.{ℕ, ◌≤◌}
@@ -28,17 +29,17 @@ use Rattle.rewriting.proofs.Rewritten.{rewritten-changed}
 use Rattle.run.proofs.Unique.{never-refused}
 use Rattle.run.specs.Run.{most_steps, RunAnswers}
 use Rattle.demand.specs.Demand.{RunsAlike, Demand3}
-use Rattle.run.specs.declared.RunAnswer.{RunAnswer}
-use Rattle.run.specs.declared.RunAnswer.TheVariants.{Refused, Finished}
+use Rattle.execution.specs.declared.Outcome.{Outcome}
+use Rattle.run.specs.declared.Refusal.{Refusal}
 
 module _ {t : List ℕ} {P : List Statement} (taken : Taken t P) (ps start : List ℕ) (input budget : ℕ) (allowed : budget ≤ most_steps) where
   -- a text that is taken gets none of 2 to 5, and an allowed budget not 15; the program that answers is the one that the text is taken as
   pub called-answers :
-      (r : RunAnswer) (ws ks : List ℕ) → RunAnswers ps t start input budget r ws ks
-      → (a : Answer) × (r ≡ Finished a) × Answers (in_force ps) P start input budget a ws ks
-  called-answers (Refused n) ws ks r = absurd (never-refused t budget r.0 allowed taken)
-  called-answers (Finished a) ws ks f =
-      (a, refl, subst (λ (Q : List Statement). Answers (in_force ps) Q start input budget a ws ks) (taken-unique f.taken taken) f.answers)
+      (r : Result Outcome Refusal) → RunAnswers ps t start input budget r
+      → (o : Outcome) × (r ≡ Ok o) × Answers (in_force ps) P start input budget o.answer o.values o.kept
+  called-answers (Err r) f = absurd (never-refused t budget f allowed taken)
+  called-answers (Ok o) f =
+      (o, refl, subst (λ (Q : List Statement). Answers (in_force ps) Q start input budget o.answer o.values o.kept) (taken-unique f.taken taken) f.answers)
 
 pub demand-3 :
     {t u : List ℕ} {P : List Statement} {ms : List Mark} → Taken t P → marks.Taken u ms
@@ -64,9 +65,10 @@ demand-3 {t} {u} {P} {ms} given listed vs judged Q r = record {
     taken = record { lines = refl; program = changed-wellformed given.program changed }
 
     alike :
-        (ps start : List ℕ) → length start ≡ variables → (input budget : ℕ) → budget ≤ most_steps → (a b : RunAnswer) (ws us ks hs : List ℕ)
-        → RunAnswers ps t start input budget a ws ks → RunAnswers ps (text Q) start input budget b us hs → RunsAlike a b × (ks ≡ hs)
-    alike ps start l input budget allowed a b ws us ks hs p q =
-        let x = called-answers given ps start input budget allowed a ws ks p in
-        let y = called-answers taken ps start input budget allowed b us hs q in
-        rw (x.1, y.1) (answers-alike given.program changed start l input (in_force ps) budget x.0 y.0 ws us ks hs x.2 y.2)
+        (ps start : List ℕ) → length start ≡ variables → (input budget : ℕ) → budget ≤ most_steps → (a b : Result Outcome Refusal)
+        → RunAnswers ps t start input budget a → RunAnswers ps (text Q) start input budget b → RunsAlike a b
+    alike ps start l input budget allowed a b p q =
+        let x = called-answers given ps start input budget allowed a p in
+        let y = called-answers taken ps start input budget allowed b q in
+        rw (x.1, y.1)
+        (answers-alike given.program changed start l input (in_force ps) budget x.0.answer y.0.answer x.0.values y.0.values x.0.kept y.0.kept x.2 y.2)

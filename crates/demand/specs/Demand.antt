@@ -2,7 +2,7 @@
 -- marks text that are taken, the rewritten program is the given one with exactly the accepted marks made, is itself taken, and runs as
 -- the given one does, after every number of steps and under every budget; before each step both hold the same in every variable that the
 -- given program may still use before defining it. Document 01, "What a contract says here"; document 02, "Traces side by side".
-use Rattle.std.specs.Prelude.{◌≡◌, List, ◌↔◌, ℕ, ◌≤◌, ◌<◌, length, get_or, take}
+use Rattle.std.specs.Prelude.{◌≡◌, List, ◌↔◌, ℕ, ◌≤◌, ◌<◌, length, get_or, take, Result, Ok, Err}
 use Rattle.language.specs.Spelling.{variables}
 use Rattle.language.specs.declared.Statement.{Statement}
 use Rattle.program.specs.Program.{Taken}
@@ -14,14 +14,14 @@ use Rattle.rewriting.specs.Verdicts.{Judged, Widened, Rewritten}
 use Rattle.rewriting.specs.declared.Verdict.TheVariants.{Accepted}
 use Rattle.lockstep.specs.Lockstep.{Agree, Side, Together, Alike}
 use Rattle.run.specs.Run.{most_steps, RunAnswers}
-use Rattle.run.specs.declared.RunAnswer.{RunAnswer}
-use Rattle.run.specs.declared.RunAnswer.TheVariants.{Refused, Finished}
+use Rattle.execution.specs.declared.Outcome.{Outcome}
+use Rattle.run.specs.declared.Refusal.{Refusal}
 
--- neither call of `run` is refused, and what the two runs answer is alike
-abbrev pub RunsAlike : RunAnswer → RunAnswer → Type 0
-RunsAlike (Refused n) b = ⊥
-RunsAlike (Finished a) (Refused n) = ⊥
-RunsAlike (Finished a) (Finished b) = Alike a b
+-- neither call of `run` is refused, what the two runs answer is alike, and they keep the same
+abbrev pub RunsAlike : Result Outcome Refusal → Result Outcome Refusal → Type 0
+RunsAlike (Err r) b = ⊥
+RunsAlike (Ok a) (Err r) = ⊥
+RunsAlike (Ok a) (Ok b) = Alike a.answer b.answer × (a.kept ≡ b.kept)
 
 -- t is the given program's text, u that of the marks, vs are the verdict bytes and w is the new text
 pub record Demand3 (t u vs w : List ℕ) : Type 0 where
@@ -43,5 +43,5 @@ pub record Demand3 (t u vs w : List ℕ) : Type 0 where
   pub traces : (start : List ℕ) → length start ≡ variables → (input k : ℕ) → Side (Agree P) (after P start input k) (after Q start input k)
   -- "Under every budget that isn't refused, the two runs answer the same value and the same steps, or 'spent' at the same statement";
   -- document 02: "given and rewritten programs must match in all nine". ps is the table of prices, the same for both and any
-  pub alike : (ps start : List ℕ) → length start ≡ variables → (input budget : ℕ) → budget ≤ most_steps → (a b : RunAnswer) (ws us ks hs : List ℕ)
-      → RunAnswers ps t start input budget a ws ks → RunAnswers ps w start input budget b us hs → RunsAlike a b × (ks ≡ hs)
+  pub alike : (ps start : List ℕ) → length start ≡ variables → (input budget : ℕ) → budget ≤ most_steps → (a b : Result Outcome Refusal)
+      → RunAnswers ps t start input budget a → RunAnswers ps w start input budget b → RunsAlike a b

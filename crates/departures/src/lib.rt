@@ -7,7 +7,7 @@ ghost use Rattle.ctl.specs.Paths.{So};
 ghost use Rattle.graph.specs.Graphs.{edges_at, step_of, DirectionsAt};
 ghost use Rattle.departures.specs.Departures.{Departs, Left};
 
-use graph::{EDGES, ENTRIES, PLACES};
+use graph::{Edges, PLACES};
 
 // Puts a shortest way from s, of one step or more, to the goal through the set at the front of the lent words, as numbers of statements, and
 // answers how many words it has. There must be one: the set needs not have s.
@@ -25,12 +25,10 @@ pub fn leave(
     requires s_lt_n { (s < n) × (((ls : List ℕ) → Departs (step_of n (edges_at steps.now)) (So (member through.now)) (So (member goal.now)) s ls → ⊥) → ⊥) }
     ensures { Left (step_of n (edges_at steps.now)) (So (member through.now)) (So (member goal.now)) s path.old path.new result × (result ≤ n + 1) }
 {
-    let head = &steps[..PLACES];
-    let link = &steps[PLACES..PLACES + EDGES];
-    let to = &steps[PLACES + EDGES..ENTRIES];
-    let mut numbers = distances::blank_numbers();
+    let steps = Edges::of(n, steps);
+    let mut numbers = [0; PLACES];
     distances::measure(n, opposite, through, goal, &mut numbers);
-    let u = walks::nearest(&head[..n], link, to, s, &numbers);
+    let u = walks::nearest(steps, s, &numbers);
     path[0] = (s + 1) as u32;
-    walks::walk(&head[..n], link, to, u, &numbers, path, 1)
+    walks::walk(steps, u, &numbers, path, 1)
 }

@@ -1,13 +1,14 @@
 -- How long a column's text is. Assumes nothing.
 use mathlib.Core.Path.{◌≡◌, ◌∙◌}
-use mathlib.Core.List.{List, [], ◌∷◌, ◌++◌}
+use mathlib.Core.List.{List, ◌++◌, append_assoc}
 use Prim.Native.Nat.{ℕ, ◌+◌, ◌-◌, ◌≤◌}
 use native.Mathlib.Omega.{arith}
-use lib.ListN.{length, set, length-append, length-replicate, replicate-append-replicate}
-use lib.Seq.{sets}
+use lib.ListN.{length, take, drop, replicate, length-append, length-replicate, length-take, length-drop}
+use lib.Seq.{sets, sets-eq, drop-drop}
+use borrow.Rule.Slice.PartMut.{put_mid}
 use Rattle.language.specs.Spelling.{digits}
 use Rattle.statement_writer.specs.Writing.{Put}
-use Rattle.statement_writer.proofs.Puts.{sets-append, put_then, room}
+use Rattle.statement_writer.proofs.Puts.{put_then, room}
 use Rattle.desk.specs.Columns.{spaces, wide, padded}
 
 pub wide-length : (w n : ℕ) → length (wide w n) ≡ (w - length (digits n)) + length (digits n)
@@ -18,13 +19,20 @@ pub padded-length : (w : ℕ) (xs : List ℕ) → length (padded w xs) ≡ lengt
 unfolding padded
 padded-length w xs = simp (length-append, length-replicate)
 
--- one space more
-pub spaces-more : (o : List ℕ) (at i : ℕ) → set (sets o at (spaces i)) (at + i) 32 ≡ sets o at (spaces (i + 1))
-spaces-more o at i =
-    let e : length (spaces i) ≡ i = length-replicate i 32 in
-    let f : set (sets o at (spaces i)) (at + length (spaces i)) 32 ≡ sets o at (spaces i ++ 32 ∷ []) = sets-append (spaces i) (32 ∷ []) o at in
-    let g : spaces i ++ 32 ∷ [] ≡ spaces (i + 1) = replicate-append-replicate i 1 32 in
-    rw (e, g) at f
+-- a part of the bytes that holds a text now
+put_part : (o w : List ℕ) (at n : ℕ) → n ≡ length w → at + n ≤ length o → put_mid at n o w ≡ sets o at w
+put_part o w at n e h = rw (sets-eq w o at (omega arith), drop-drop n at o, e, append_assoc)
+
+-- a part that is filled with spaces
+pub spaces_put : (o q : List ℕ) (at n : ℕ) → at + n ≤ length o → q ≡ replicate (length (take n (drop at o))) 32
+    → Put o at (spaces n) (put_mid at n o q) (at + n)
+spaces_put o q at n h e =
+    let l : length (take n (drop at o)) ≡ n = simp (length-take, length-drop) (omega arith) in
+    let s : length (spaces n) ≡ n = length-replicate n 32 in
+    record {
+      text = rw (e, l) (put_part o (spaces n) at n (omega arith) h);
+      after = omega arith;
+    }
 
 -- the digits after their spaces
 module _ {o q : List ℕ} {at k g d : ℕ} (w n : ℕ) (a : Put o at (spaces g) q k) (i : g ≡ w - d) (j : d ≡ length (digits n)) where

@@ -1,4 +1,2 @@
-pub mod Values
 pub mod Lengths
 pub mod Rooms
-pub mod Words

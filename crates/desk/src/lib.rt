@@ -3,3 +3,10 @@
 
 pub mod columns;
 pub mod refusals;
+
+// Why a text isn't written: the call is refused, and a refusal of so many bytes stands in its place; or too few bytes are lent.
+#[derive(Clone, Copy)]
+pub enum Failure {
+    Refused(usize),
+    NoRoom,
+}

@@ -17,7 +17,9 @@ fn on_line(out: &mut [u8], at: usize, before: &[u8], line: u32, after: &[u8]) ->
     statement_writer::word(out, k2, after)
 }
 
-// The words of the refusal with number n. The figures of sizes in them are text, as in the definitions.
+// The words of the refusal with number n: C and the documents number the refusals of all calls. The figures of sizes in them are text, as in
+// the definitions.
+#[tactic(auto, unfolding(crate::specs::Refusals::refusal_words))]
 pub fn words(out: &mut [u8], at: usize, n: u8, line: u32) -> usize
     requires { at + length (refusal_words n line) ≤ length out.old }
     ensures { Put out.old at (refusal_words n line) out.new result }

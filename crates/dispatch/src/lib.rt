@@ -9,7 +9,6 @@ ghost use Rattle.machine.specs.Machine.{operand_value, value, stored, perform};
 ghost use Rattle.machine.specs.Answer.{state_of};
 ghost use Rattle.encoding.specs.Encoding.{operand_in, left_in, right_in, statement_in};
 
-use arithmetic::Evaluated;
 use encoding::Entry;
 use language::Operator;
 use machine::{Next, VALUES};
@@ -47,11 +46,11 @@ fn operate(o: Operator, e: Entry, x: usize, at: u32, values: &mut [u32; VALUES])
     let b = right(e, &*values);
     let given = arithmetic::apply_operator(o, a, b);
     match given {
-        Evaluated::Value(v) => {
+        Some(v) => {
             values[x] = v;
             Next::Goto(at + 1)
         }
-        Evaluated::Fault => Next::Fault(at),
+        None => Next::Fault(at),
     }
 }
 

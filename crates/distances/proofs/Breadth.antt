@@ -14,15 +14,14 @@ use Rattle.bits.specs.Row.{count_below}
 use Rattle.bits.proofs.Counts.{count-le, count_less, count-ext}
 use Rattle.ctl.specs.Paths.{Graph}
 use Rattle.ctl.proofs.Reach.{more-on, more-self, more-only}
-use Rattle.graph.specs.Lists.{step, listed}
+use Rattle.graph.specs.Lists.{step}
 use Rattle.graph.specs.Graphs.{Opposite}
-use Rattle.graph.proofs.Lists.{listed-end}
 use Rattle.worklist.proofs.Stack.{push-below, push-top, work-room}
 use Rattle.forcing.specs.Numbers.{none, number_of, numbered}
 use Rattle.forcing.specs.Search.{Started}
 use Rattle.forcing.proofs.Steps.{numbered-some, numbered-none, set-numbered, set-kept}
 use Rattle.lassos.specs.Distances.{Distances}
-use Rattle.distances.specs.Search.{Search, SearchIn, Searched, Visiting, Found}
+use Rattle.distances.specs.Search.{Search, Searched, Visiting, Found}
 
 module _ (n : ℕ) (back : ℕ → ℕ → Bool) (p q : ℕ → Bool) where
   -- ---- the start

@@ -6,8 +6,6 @@ ghost use Rattle.language.specs.Spelling.{variables};
 ghost use Rattle.bits.specs.Row.{member};
 ghost use Rattle.driver_reader.specs.Names.{DriverRead, NamesRead};
 
-use tokens::VariableRead;
-
 // The refusal of a list that is misspelled, or names a variable twice.
 pub const DRIVER_NUMBER: u8 = 22;
 
@@ -22,8 +20,9 @@ fn names(s: &[u8], named: &mut [u64]) -> bool
         return true;
     }
     let mut at: usize = 0;
+    // A `while`: each name tells where the next one begins, so no slice or range has the names that a `for` would go over.
     while at < n {
-        let VariableRead::Found(x, k) = tokens::variable(s, at) else {
+        let Some((x, k)) = tokens::variable(s, at) else {
             return false;
         };
         if bits::contains(named, x as usize) {

@@ -1,12 +1,11 @@
 -- What entries hold, by their kinds. Assumes nothing.
-use mathlib.Core.Path.{◌≡◌, refl, sym, ◌∙◌}
-use mathlib.Core.Bool.{Bool, true, false}
-use Prim.Native.Nat.{ℕ, zero, suc, ◌+◌, ◌*◌, ◌-◌, ◌/◌, ◌%◌, ◌<◌}
+use mathlib.Core.Path.{◌≡◌, refl}
+use mathlib.Core.Bool.{Bool}
+use Prim.Native.Nat.{ℕ, zero, suc, ◌-◌, ◌/◌, ◌%◌, ◌<◌}
 use native.Mathlib.Omega.{arith}
 use lib.Dec.{eqb}
 use Rattle.language.specs.declared.Operator.TheVariants.{Divide}
 use Rattle.language.specs.declared.Expression.TheVariants.{Binary}
-use Rattle.language.specs.declared.Statement.{Statement}
 use Rattle.language.specs.declared.Statement.TheVariants.{Assign}
 use Rattle.encoding.specs.declared.Entry.{Entry}
 use Rattle.encoding.specs.Encoding.{Packed, operand_in, operator_in, statement_by, statement_in, left_in, right_in}
@@ -32,15 +31,6 @@ kind-high (suc (suc (suc (suc (suc k))))) x a b m n h = let e : suc (suc (suc (s
 pub packed-statement : (e : Entry) {k : ℕ} {a b : Bool} {x : ℕ} → Packed e.head k a b x → statement_in e ≡ statement_by k x a b e.first e.second
 unfolding statement_in
 packed-statement e p = rw (p.kind_part, p.variable_part, p.first_part, p.second_part)
-
--- the sum of the parts has them
-pub packed : (k a b x : ℕ) {p q : Bool} → k < 16 → a < 2 → b < 2 → x < 256 → eqb a 1 ≡ p → eqb b 1 ≡ q → Packed (k + 16 * a + 32 * b + 64 * x) k p q x
-packed k a b x hk ha hb hx e f =
-    let head = k + 16 * a + 32 * b + 64 * x in
-    let d : head / 16 % 2 ≡ a = omega arith in
-    let g : head / 32 % 2 ≡ b = omega arith in
-    let w : head / 64 ≡ x = omega arith in
-    record { kind_part = omega arith; variable_part = rw w (omega arith); first_part = rw d e; second_part = rw g f }
 
 -- what an entry holds, where its kind is an operator's
 pub binary-entry : (e : Entry) → 4 < e.head % 16 → statement_in e ≡ Assign (e.head / 64 % 256) (Binary (left_in e) (operator_in (e.head % 16 - 5)) (right_in e))

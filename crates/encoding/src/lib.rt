@@ -1,7 +1,7 @@
 // Statements in three numbers, as a program's value holds them, and taken back.
 #![tactic(auto)]
 
-ghost use Rattle.std.specs.Prelude.{◌≡◌, ◌<◌, ◌-◌, eqb};
+ghost use Rattle.std.specs.Prelude.{◌≡◌, ◌<◌, ◌-◌};
 ghost use Rattle.encoding.specs.Encoding.{Packed, operand_in, operator_in, is_constant, statement_in};
 
 use language::{Expression, Operand, Operator, Statement};
@@ -14,10 +14,10 @@ pub struct Entry {
     pub second: u32,
 }
 
-fn operand_of(constant: u32, w: u32) -> Operand
-    ensures { result ≡ operand_in (eqb constant 1) w }
+fn operand_of(constant: bool, w: u32) -> Operand
+    ensures { result ≡ operand_in constant w }
 {
-    if constant == 1 {
+    if constant {
         Operand::Constant(w)
     } else {
         Operand::Variable((w % 256) as u8)
@@ -38,7 +38,8 @@ fn operator_of(kind: u32) -> Operator
     }
 }
 
-// The statement that an entry holds.
+// The statement that an entry holds. By name and not by `From`: the name says which of the two is meant, at each of its callers.
+#[tactic(auto, unfolding(crate::specs::Encoding::statement_in))]
 pub fn statement_of(e: Entry) -> Statement
     ensures { result ≡ statement_in e }
 {
@@ -53,12 +54,12 @@ pub fn statement_of(e: Entry) -> Statement
         2 => Statement::Skip,
         3 => Statement::Branch(x, first, second),
         4 => {
-            let a = operand_of(head / 16 % 2, first);
+            let a = operand_of(head / 16 % 2 == 1, first);
             Statement::Assign(x, Expression::Single(a))
         }
         _ => {
-            let a = operand_of(head / 16 % 2, first);
-            let b = operand_of(head / 32 % 2, second);
+            let a = operand_of(head / 16 % 2 == 1, first);
+            let b = operand_of(head / 32 % 2 == 1, second);
             Statement::Assign(x, Expression::Binary(a, operator_of(kind), b))
         }
     }
@@ -67,10 +68,7 @@ pub fn statement_of(e: Entry) -> Statement
 fn is_constant(a: Operand) -> bool
     ensures { result ≡ is_constant a }
 {
-    match a {
-        Operand::Variable(_) => false,
-        Operand::Constant(_) => true,
-    }
+    matches!(a, Operand::Constant(_))
 }
 
 // The number of a variable or a constant.
@@ -78,7 +76,7 @@ fn word_of(a: Operand) -> u32
     ensures { operand_in (is_constant a) result ≡ a }
 {
     match a {
-        Operand::Variable(x) => x as u32,
+        Operand::Variable(x) => u32::from(x),
         Operand::Constant(n) => n,
     }
 }
@@ -96,18 +94,12 @@ fn kind_of(o: Operator) -> u32
     }
 }
 
-fn bit(b: bool) -> u32
-    ensures { (result < 2) × (eqb result 1 ≡ b) }
-{
-    if b { 1 } else { 0 }
-}
-
 // The head of a kind, whether its operands are constants, and a variable.
 fn pack(kind: u32, a: bool, b: bool, x: u8) -> u32
     requires { kind < 16 }
     ensures { Packed result kind a b x }
 {
-    kind + 16 * bit(a) + 32 * bit(b) + 64 * (x as u32)
+    kind + 16 * u32::from(a) + 32 * u32::from(b) + 64 * u32::from(x)
 }
 
 // The entry that holds the statement.

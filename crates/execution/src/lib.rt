@@ -48,7 +48,7 @@ pub fn run(
             }
             Next::Finish(v) => {
                 return Outcome {
-                    answer: Answer::Ended(arithmetic::signed(v), steps, ticks),
+                    answer: Answer::Ended(v.cast_signed(), steps, ticks),
                     values: start,
                     kept: machine::kept_of(values),
                 };

@@ -1,5 +1,5 @@
 -- What `witness` answers, and what it leaves in the lent words, for every program text, condition text, part, statement and path.
-use Rattle.std.specs.Prelude.{◌≡◌, Bool, true, List, ◌↔◌, ℕ, ◌+◌, ◌-◌, ◌≤◌, ◌<◌, length}
+use Rattle.std.specs.Prelude.{◌≡◌, Bool, true, List, ◌↔◌, ℕ, ◌+◌, ◌-◌, ◌≤◌, ◌<◌, length, Result, Ok, Err}
 use Rattle.language.specs.declared.Statement.{Statement}
 use Rattle.program.specs.Program.{most, Taken}
 use Rattle.ctl.specs.Paths.{Quant, E, A}
@@ -7,13 +7,15 @@ use Rattle.flow.specs.Flow.{steps}
 use Rattle.condition.specs.Condition.{Unary, negation, Binary, conjunction, disjunction, Condition, atom, unary, binary, parts}
 use Rattle.condition.specs.Texts as condition
 use Rattle.condition_reader.specs.Reading as condition-reading
+use Rattle.condition_reader.specs.declared.Refusal as condition-refusal
 use Rattle.truth.specs.Truth.{Sat}
 use Rattle.table.specs.Table.{part_at}
 use Rattle.table.specs.Rules.{unary_operator, binary_operator}
-use Rattle.calls.specs.Refusals.{CallRefused}
+use Rattle.calls.specs.Refusals.{CallRefused, number_of}
+use Rattle.calls.specs.declared.Refusal.{Refusal}
 use Rattle.witness.specs.Witness.{Witness}
 use Rattle.explain.specs.declared.Witnessed.{Witnessed}
-use Rattle.explain.specs.declared.Witnessed.TheVariants.{Refused, Path, None}
+use Rattle.explain.specs.declared.Witnessed.TheVariants.{Path, None}
 
 -- "The path needs as many words as the program can have statements and one more, else 1."
 abbrev pub path_words : ℕ
@@ -80,8 +82,12 @@ pub record NoneTold (t u : List ℕ) (part statement : ℕ) (old new : List ℕ)
   pub silent : Exists P c part statement → Silent P (bare (part_at c part)) (statement - 1)
   pub kept : new ≡ old
 
+-- a path, or why there is none
+abbrev pub WitnessTold : List ℕ → List ℕ → ℕ → ℕ → List ℕ → List ℕ → Witnessed → Type 0
+WitnessTold t u part statement old new (Path m turn) = PathTold t u part statement old new m turn
+WitnessTold t u part statement old new (None truth) = NoneTold t u part statement old new truth
+
 -- "A refused call answers only its number and keeps all lent memory."
-abbrev pub WitnessAnswers : List ℕ → List ℕ → ℕ → ℕ → List ℕ → List ℕ → Witnessed → Type 0
-WitnessAnswers t u part statement old new (Refused n) = WitnessRefused t u old n × (new ≡ old)
-WitnessAnswers t u part statement old new (Path m turn) = PathTold t u part statement old new m turn
-WitnessAnswers t u part statement old new (None truth) = NoneTold t u part statement old new truth
+abbrev pub WitnessAnswers : List ℕ → List ℕ → ℕ → ℕ → List ℕ → List ℕ → Result Witnessed (Refusal condition-refusal.Refusal) → Type 0
+WitnessAnswers t u part statement old new (Err r) = WitnessRefused t u old (number_of condition-reading.number r) × (new ≡ old)
+WitnessAnswers t u part statement old new (Ok a) = WitnessTold t u part statement old new a

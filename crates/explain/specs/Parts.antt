@@ -9,7 +9,7 @@ use Rattle.table.specs.Table.{part_at}
 use Rattle.table.specs.Fill.{HeldOf, TableOf}
 use Rattle.explain.specs.Explain.{bare, Shows, Silent}
 use Rattle.explain.specs.declared.Witnessed.{Witnessed}
-use Rattle.explain.specs.declared.Witnessed.TheVariants.{Refused, Path, None}
+use Rattle.explain.specs.declared.Witnessed.TheVariants.{Path, None}
 
 -- the words ws are those of some condition, with the text u
 pub record SomeWords (m : ℕ) (ws : List ℕ) : Type 0 where
@@ -40,6 +40,5 @@ pub record SomeTabled (m : ℕ) (ws : List ℕ) (n : ℕ) (flow table : List ℕ
 
 -- what is answered of part k at place s, where its truth is known
 abbrev pub Explained : List Statement → Condition → ℕ → ℕ → Bool → List ℕ → List ℕ → Witnessed → Type 0
-Explained P c k s truth old new (Refused n) = ⊥
 Explained P c k s truth old new (Path m turn) = Shows P (bare (part_at c k)) s old new m turn
 Explained P c k s truth old new (None b) = (b ≡ truth) × Silent P (bare (part_at c k)) s × (new ≡ old)

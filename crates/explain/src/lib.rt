@@ -16,10 +16,10 @@ ghost use Rattle.table.specs.Fill.{HeldOf, SomeHeld};
 ghost use Rattle.tabulate.specs.Tabulate.{table_words};
 ghost use Rattle.witness.specs.Witness.{Witness};
 ghost use Rattle.witness.specs.Trails.{Words};
-ghost use Rattle.explain.specs.Explain.{path_words, WitnessAnswers};
+ghost use Rattle.explain.specs.Explain.{path_words, WitnessTold, WitnessAnswers};
 ghost use Rattle.explain.specs.Parts.{SomeWords, Looked, Tabled, SomeTabled, Explained};
 
-use calls::ROOM_NUMBER;
+use calls::Refusal;
 use condition::{LEFT, MOST_PARTS};
 use labelling::Operator;
 use program::Program;
@@ -30,11 +30,10 @@ use walks::Trail;
 // A path has room in this many words.
 pub const PATH_WORDS: usize = program::MOST + 1;
 
-// Refused: document 01's number. Path: how many words it has, and 0, or the word to whose statement its last turns back, counted from 1.
-// None: whether the part is true there.
+// Path: how many words it has, and 0, or the word to whose statement its last turns back, counted from 1. None: whether the part is true
+// there.
 #[derive(Clone, Copy)]
 pub enum Witnessed {
-    Refused(u8),
     Path(u32, u32),
     None(bool),
 }
@@ -45,6 +44,7 @@ fn below_negations(words: [u64; MOST_PARTS], parts: usize, k: usize) -> usize
     ensures { Looked parts words k result }
 {
     let mut j = k;
+    // The part where it ends is what is looked for: no range has its end at the start.
     while words[j] % LEFT == 1 {
         j -= 1;
     }
@@ -173,7 +173,7 @@ fn at_statement(
     requires held { Held p × ((t : List ℕ) × Taken t (statements p)) }
     requires some_held { SomeHeld condition.now parts words }
     requires path_words_in_bounds { path_words ≤ length path.old }
-    ensures { (t : List ℕ) (c : Condition) → Taken t (statements p) → HeldOf condition.now c parts words → WitnessAnswers t condition.now part statement path.old path.new result }
+    ensures { (t : List ℕ) (c : Condition) → Taken t (statements p) → HeldOf condition.now c parts words → WitnessTold t condition.now part statement path.old path.new result }
 {
     let n = p.count;
     let k = part as usize;
@@ -204,27 +204,13 @@ pub fn witness(
     part: u32,
     statement: u32,
     path: &mut [u32],
-) -> Witnessed
+) -> Result<Witnessed, Refusal<condition_reader::Refusal>>
     ensures { WitnessAnswers program.now condition.now part statement path.old path.new result }
 {
     if path.len() < PATH_WORDS {
-        return Witnessed::Refused(ROOM_NUMBER);
+        return Err(Refusal::Room);
     }
-    let reading = program::read(program);
-    let answer = reading.answer;
-    if let program::Answer::Refused(refusal) = answer {
-        return Witnessed::Refused(program::number_of(refusal));
-    }
-    let p = reading.program;
-    let conditions = condition_reader::read(condition);
-    let told = conditions.answer;
-    match told {
-        condition_reader::Answer::Refused(refusal) => {
-            Witnessed::Refused(condition_reader::number_of(refusal))
-        }
-        condition_reader::Answer::Taken(parts) => {
-            let words = conditions.words;
-            at_statement(p, condition, words, parts, part, statement, path)
-        }
-    }
+    let p = program::read(program)?;
+    let c = condition_reader::read(condition).map_err(Refusal::Text)?;
+    Ok(at_statement(p, condition, c.words, c.count, part, statement, path))
 }

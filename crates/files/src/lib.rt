@@ -5,20 +5,20 @@
 ghost use Rattle.std.specs.Prelude.{◌≡◌, ◌≤◌, length};
 ghost use Rattle.std.specs.Io.{WritesAtMost};
 ghost use Rattle.io.specs.Counts.{IsPrefixLen};
-ghost use Rattle.files.specs.Files.{chunk_room, file_room, Opens, Takes, Ends, Reads, Settles};
+ghost use Rattle.files.specs.Files.{chunk_room, file_room, Opens, Ends, Reads, Settles};
 
 use std::env::{Env, FillError};
 use std::fmt::InlineText;
 use std::fs::File;
 use std::io::{Error, ErrorKind, Print, Read, Write};
 use std::os::fd::AsRawFd;
-use tokens::WordRead;
 
 // A file has at most 65,535 bytes; one byte more is lent, by which a longer one is told.
 const FILE_ROOM: usize = 65536;
 // Pieces of what is printed are written from this many bytes.
 pub const CHUNK: usize = 16384;
-// What a program tells of how it went: a result, a refusal, usage or a file that can't be read, output that wasn't written.
+// What a program tells of how it went: a result, a refusal, usage or a file that can't be read, output that wasn't written. Numbers, since
+// `print` and `status` take any.
 pub const RESULT: u8 = 0;
 
 pub const REFUSAL: u8 = 1;
@@ -33,35 +33,11 @@ const OUTPUT: &str = "/dev/stdout";
 // What the system says of a descriptor that isn't open.
 const NOT_OPEN: i32 = 9;
 
-// Whole: the file's bytes stand at the front of the lent ones. Missing: it can't be opened. Unread: it can't be read to its end, or is
-// longer than 65,535 bytes.
+// Missing: the file can't be opened. Unread: it can't be read to its end, or is longer than 65,535 bytes.
 #[derive(Clone, Copy)]
-pub enum FileRead {
-    Whole(usize),
+pub enum FileError {
     Missing,
     Unread,
-}
-
-#[derive(Drop)]
-enum Opened {
-    File(File),
-    Missing(Error),
-}
-
-// What one read answers: so many bytes, that none is left, or that it failed.
-#[derive(Clone, Copy)]
-enum Taken {
-    Bytes(usize),
-    End,
-    Failed(Error),
-}
-
-// Whole: all of the file, of so many bytes. Full: it is as long as the lent bytes, or longer. Failed: a read failed.
-#[derive(Clone, Copy)]
-enum Ended {
-    Whole(usize),
-    Full,
-    Failed(Error),
 }
 
 pub fn chunk() -> [u8; CHUNK]
@@ -103,10 +79,7 @@ fn asks_status(rt: &HostRuntime) -> bool {
     let Ok(n) = rt.arg(1, &mut first) else {
         return false;
     };
-    let WordRead::Found(k) = tokens::word(&first[..n], 0, b"--status") else {
-        return false;
-    };
-    k == n
+    &first[..n] == b"--status".as_slice()
 }
 
 // How many arguments stand before the program's own.
@@ -129,12 +102,7 @@ fn all_arguments(rt: &HostRuntime) -> usize {
 
 // How many arguments the program has, its name among them and `--status` not.
 pub fn arg_count(rt: &HostRuntime) -> usize {
-    let n = all_arguments(rt);
-    let k = skipped(rt);
-    if n < k {
-        return 0;
-    }
-    n - k
+    all_arguments(rt).saturating_sub(skipped(rt))
 }
 
 // Puts argument i at the front of the lent bytes and answers its length, or that it is missing or has no room.
@@ -152,10 +120,7 @@ fn argument(rt: &HostRuntime, i: usize, buffer: &mut [u8]) -> Result<usize, Fill
 pub fn arg(rt: &HostRuntime, i: usize, buffer: &mut [u8]) -> usize
     ensures { IsPrefixLen result buffer.new }
 {
-    match argument(rt, i, buffer) {
-        Ok(n) => n,
-        Err(_) => 0,
-    }
+    argument(rt, i, buffer).unwrap_or(0)
 }
 
 // std takes names that are UTF-8.
@@ -166,88 +131,76 @@ fn try_open(rt: &HostRuntime, name: &[u8]) -> Result<File, Error> {
     }
 }
 
-fn open(rt: &HostRuntime, name: &[u8]) -> Opened
+fn open(rt: &HostRuntime, name: &[u8]) -> Result<File, Error>
     ensures { Opens result }
 {
-    match try_open(rt, name) {
-        Ok(file) => {
-            if file.as_raw_fd() < 0 {
-                return Opened::Missing(Error::from_raw_os_error(NOT_OPEN));
-            }
-            Opened::File(file)
-        }
-        Err(e) => Opened::Missing(e),
+    let file = try_open(rt, name)?;
+    if file.as_raw_fd() < 0 {
+        return Err(Error::from_raw_os_error(NOT_OPEN));
     }
+    Ok(file)
 }
 
-fn read_some(file: &mut File, part: &mut [u8]) -> Taken
-    ensures { Takes part.old part.new result }
-{
-    match file.read(part) {
-        Ok(n) => {
-            if n == 0 {
-                return Taken::End;
-            }
-            Taken::Bytes(n)
-        }
-        Err(e) => Taken::Failed(e),
-    }
-}
-
-fn read_to_end(file: &mut File, buffer: &mut [u8]) -> Ended
+// Reads to the file's end and answers how many bytes there were; none, where the file is as long as the lent bytes, or longer.
+fn read_to_end(file: &mut File, buffer: &mut [u8]) -> Result<Option<usize>, Error>
     ensures { Ends buffer.old buffer.new result }
 {
     let mut done: usize = 0;
+    // One read takes several bytes, so that no `for` counts them.
     while done < buffer.len() {
-        match read_some(file, &mut buffer[done..]) {
-            Taken::Bytes(n) => {
-                done += n;
-            }
-            Taken::End => {
-                return Ended::Whole(done);
-            }
-            Taken::Failed(e) => {
-                return Ended::Failed(e);
-            }
+        let n = file.read(&mut buffer[done..])?;
+        if n == 0 {
+            return Ok(Some(done));
         }
+        done += n;
     }
-    Ended::Full
+    Ok(None)
 }
 
 // Reads an open file, and tells why it can't be read.
-fn read_open(rt: &HostRuntime, file: &mut File, name: &[u8], buffer: &mut [u8]) -> FileRead
+fn read_open(
+    rt: &HostRuntime,
+    file: &mut File,
+    name: &[u8],
+    buffer: &mut [u8],
+) -> Result<usize, FileError>
     ensures { Reads buffer.old buffer.new result }
 {
     if buffer.len() < FILE_ROOM {
         tell(rt, name);
         tell(rt, b" can't be read: no room for 65,535 bytes\n");
-        return FileRead::Unread;
+        return Err(FileError::Unread);
     }
     match read_to_end(file, &mut buffer[..FILE_ROOM]) {
-        Ended::Whole(n) => FileRead::Whole(n),
-        Ended::Full => {
+        Ok(Some(n)) => Ok(n),
+        Ok(None) => {
             tell(rt, name);
             tell(rt, b" can't be read: over 65,535 bytes\n");
-            FileRead::Unread
+            Err(FileError::Unread)
         }
-        Ended::Failed(e) => {
+        Err(e) => {
             tell(rt, name);
             fail(rt, b" can't be read", e);
-            FileRead::Unread
+            Err(FileError::Unread)
         }
     }
 }
 
 // Reads the file with this name; where it can't be opened, its name, these words and why are told. The file is closed.
-fn read_named(rt: &HostRuntime, name: &[u8], words: &[u8], buffer: &mut [u8]) -> FileRead
+fn read_named(
+    rt: &HostRuntime,
+    name: &[u8],
+    words: &[u8],
+    buffer: &mut [u8],
+) -> Result<usize, FileError>
     ensures { Reads buffer.old buffer.new result }
 {
     match open(rt, name) {
-        Opened::File(mut file) => read_open(rt, &mut file, name, buffer),
-        Opened::Missing(e) => {
+        Ok(mut file) => read_open(rt, &mut file, name, buffer),
+        Err(e) => {
             tell(rt, name);
             fail(rt, words, e);
-            FileRead::Missing
+            Err(FileError::Missing)
         }
     }
 }
@@ -259,7 +212,7 @@ fn read_argument(
     default: &[u8],
     words: &[u8],
     buffer: &mut [u8],
-) -> FileRead
+) -> Result<usize, FileError>
     ensures { Reads buffer.old buffer.new result }
 {
     if arg_count(rt) <= i {
@@ -270,25 +223,35 @@ fn read_argument(
         Ok(n) => read_named(rt, &name[..n], words, buffer),
         Err(FillError::TooLong) => {
             tell(rt, b"a file's name: File name too long\n");
-            FileRead::Missing
+            Err(FileError::Missing)
         }
         Err(FillError::NotPresent) => {
             tell(rt, b"a file's name: Invalid argument\n");
-            FileRead::Missing
+            Err(FileError::Missing)
         }
     }
 }
 
 // Puts the bytes of the file that argument i names, or of the default where the argument is missing, at the front of the lent ones. A line
 // on standard error tells why there are none.
-pub fn read(rt: &HostRuntime, i: usize, default: &[u8], buffer: &mut [u8]) -> FileRead
+pub fn read(
+    rt: &HostRuntime,
+    i: usize,
+    default: &[u8],
+    buffer: &mut [u8],
+) -> Result<usize, FileError>
     ensures { Reads buffer.old buffer.new result }
 {
     read_argument(rt, i, default, b" can't be opened", buffer)
 }
 
 // The same for a program that takes a file that can't be opened for an empty one, and says so.
-pub fn read_or_empty(rt: &HostRuntime, i: usize, default: &[u8], buffer: &mut [u8]) -> FileRead
+pub fn read_or_empty(
+    rt: &HostRuntime,
+    i: usize,
+    default: &[u8],
+    buffer: &mut [u8],
+) -> Result<usize, FileError>
     ensures { Reads buffer.old buffer.new result }
 {
     read_argument(rt, i, default, b" is read as empty", buffer)
@@ -329,6 +292,12 @@ fn synced(rt: &HostRuntime) -> Result<(), Error> {
     file.sync_all()
 }
 
+// Flushes standard output, and waits.
+fn flushed(rt: &HostRuntime) -> Result<(), Error> {
+    rt.stdout().flush()?;
+    synced(rt)
+}
+
 // The status after standard output is flushed, which tells what was lost late.
 fn settled(rt: &HostRuntime, n: u8) -> u8
     ensures { Settles n result }
@@ -336,12 +305,7 @@ fn settled(rt: &HostRuntime, n: u8) -> u8
     if n == UNWRITTEN {
         return n;
     }
-    let mut out = rt.stdout();
-    if let Err(e) = out.flush() {
-        fail(rt, b"standard output", e);
-        return UNWRITTEN;
-    }
-    match synced(rt) {
+    match flushed(rt) {
         Ok(()) => n,
         Err(e) => {
             fail(rt, b"standard output", e);

@@ -11,10 +11,7 @@ use marks::Mark;
 fn is_variable(a: Operand) -> bool
     ensures { Decides result (IsVariable a) }
 {
-    match a {
-        Operand::Variable(_) => true,
-        Operand::Constant(_) => false,
-    }
+    matches!(a, Operand::Variable(_))
 }
 
 // Whether the operand can stand for a variable that the statement uses.
@@ -22,24 +19,19 @@ fn takes(i: Statement, a: Operand) -> bool
     ensures { Decides result (Takes i a) }
 {
     match i {
-        Statement::Read(_) => true,
-        Statement::Write(_) => is_variable(a),
-        Statement::Assign(_, _) => true,
-        Statement::Branch(_, _, _) => is_variable(a),
-        Statement::Skip => true,
+        Statement::Write(_) | Statement::Branch(_, _, _) => is_variable(a),
+        Statement::Read(_) | Statement::Assign(_, _) | Statement::Skip => true,
     }
 }
 
 fn is_binary(e: Expression) -> bool
     ensures { Decides result (IsBinary e) }
 {
-    match e {
-        Expression::Single(_) => false,
-        Expression::Binary(_, _, _) => true,
-    }
+    matches!(e, Expression::Binary(_, _, _))
 }
 
-// Whether the statement assigns the expression to some variable.
+// Whether the statement assigns the expression to some variable. By codes, here and in `fits`: with the derived `==` of statements and of
+// expressions, whose contract is that of no named function, the proof didn't close.
 fn assigns(i: Statement, e: Expression) -> bool
     ensures { Decides result ((z : ℕ) × (i ≡ Statement.Assign z e)) }
 {
@@ -52,18 +44,8 @@ pub fn fits(m: Mark, i: Statement) -> bool
 {
     match m {
         Mark::Rm(_, x, e) => codes::same_statement(i, Statement::Assign(x, e)),
-        Mark::Rpl(_, x, a) => {
-            if !codes::shows(i, x) {
-                return false;
-            }
-            takes(i, a)
-        }
-        Mark::Cse(_, _, e) => {
-            if !assigns(i, e) {
-                return false;
-            }
-            is_binary(e)
-        }
+        Mark::Rpl(_, x, a) => codes::shows(i, x) && takes(i, a),
+        Mark::Cse(_, _, e) => assigns(i, e) && is_binary(e),
     }
 }
 
@@ -81,14 +63,7 @@ fn is_not_zero(b: Operand) -> bool
 fn is_safe(o: Operator, b: Operand) -> bool
     ensures { Decides result (Safe o b) }
 {
-    match o {
-        Operator::Add => true,
-        Operator::Subtract => true,
-        Operator::Multiply => true,
-        Operator::Less => true,
-        Operator::Equal => true,
-        Operator::Divide => is_not_zero(b),
-    }
+    o != Operator::Divide || is_not_zero(b)
 }
 
 // Whether the mark drops nothing that may fault.
@@ -96,11 +71,7 @@ pub fn droppable(m: Mark) -> bool
     ensures { Decides result (Droppable m) }
 {
     match m {
-        Mark::Rm(_, _, e) => match e {
-            Expression::Single(_) => true,
-            Expression::Binary(_, o, b) => is_safe(o, b),
-        },
-        Mark::Rpl(_, _, _) => true,
-        Mark::Cse(_, _, _) => true,
+        Mark::Rm(_, _, Expression::Binary(_, o, b)) => is_safe(o, b),
+        Mark::Rm(_, _, Expression::Single(_)) | Mark::Rpl(_, _, _) | Mark::Cse(_, _, _) => true,
     }
 }

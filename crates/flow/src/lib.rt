@@ -93,16 +93,12 @@ fn connect(
 {
     graph::clear(&mut edges[..n]);
     let mut count: usize = 0;
-    let mut k: usize = 0;
-    while k < sources {
-        let a = graph::wide(first[k]);
-        let b = graph::wide(second[k]);
+    for k in 0..sources {
+        let a = usize::from(first[k]);
+        let b = usize::from(second[k]);
         count = add(edges, count, turned, k, a);
         if a != b {
             count = add(edges, count, turned, k, b);
-            k += 1;
-        } else {
-            k += 1;
         }
     }
     count
@@ -115,13 +111,9 @@ fn add_self_steps(n: usize, edges: &mut [u16], start: usize) -> usize
     ensures { Holds n edges.new result (3 * n) (with_self n (step_of n (edges_at edges.old)) n) }
 {
     let mut count = start;
-    let mut s: usize = 0;
-    while s < n {
+    for s in 0..n {
         if edges[s] == 0 {
             count = graph::add(edges, count, s, s);
-            s += 1;
-        } else {
-            s += 1;
         }
     }
     count
@@ -149,13 +141,6 @@ fn draw(n: usize, first: &[u16], second: &[u16], flow: &mut [u16])
     connect_back(n, first, second, &mut flow[graph::ENTRIES..]);
 }
 
-// Room for a number for each place.
-fn row() -> [u16; PLACES]
-    ensures { Zeros places result }
-{
-    [0; PLACES]
-}
-
 // The control-flow graph of the program.
 pub fn of(p: Program, flow: &mut [u16])
     requires held { Held p }
@@ -164,16 +149,13 @@ pub fn of(p: Program, flow: &mut [u16])
     ensures { FlowOf (statements p) (flow_at flow.new) }
 {
     let n = p.count;
-    let mut first = row();
-    let mut second = row();
-    let mut s: usize = 0;
-    while s < n {
-        let e = p.entries[s];
-        let t = encoding::statement_of(e);
+    let mut first = [0; PLACES];
+    let mut second = [0; PLACES];
+    for s in 0..n {
+        let t = encoding::statement_of(p.entries[s]);
         let r = successors_of(t, s);
         first[s] = r.first;
         second[s] = r.second;
-        s += 1;
     }
     draw(n, &first, &second, flow);
 }

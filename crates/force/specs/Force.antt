@@ -1,30 +1,28 @@
 -- What `force` answers, and what it leaves in the lent table, for every program text, driver's list, condition text and table.
-use Rattle.std.specs.Prelude.{◌≡◌, List, ℕ, ◌≤◌, ◌<◌, length, get_or, replicate}
+use Rattle.std.specs.Prelude.{◌≡◌, List, ℕ, ◌≤◌, ◌<◌, length, get_or, replicate, Result, Ok, Err}
 use Rattle.program.specs.Program.{most}
 use Rattle.truth.specs.Truth.{Sat}
 use Rattle.condition_reader.specs.Reading as condition-reading
-use Rattle.condition_reader.specs.declared.Refusal as condition-refusal
-use Rattle.calls.specs.Refusals.{CallRefused}
+use Rattle.calls.specs.Refusals.{CallRefused, number_of}
+use Rattle.calls.specs.declared.Refusal.{Refusal}
 use Rattle.driver_reader.specs.Names.{driver_number, among, Named, Unnamed}
 use Rattle.arms.specs.Arms.{his}
 use Rattle.arms.specs.Forced.{Forced}
 use Rattle.tabulate.specs.Tabulate.{table_words, TabulateFilled}
-use Rattle.force.specs.declared.ForceAnswer.{ForceAnswer}
-use Rattle.force.specs.declared.ForceAnswer.TheVariants.{Refused, Filled}
+use Rattle.tabulate.specs.declared.Filled.{Filled}
+use Rattle.force.specs.declared.Forced as Answer
+use Rattle.force.specs.declared.TextRefusal.{TextRefusal}
+use Rattle.force.specs.declared.TextRefusal.TheVariants.{Driver, Condition}
 
 -- "22 .., after the program is taken and before the condition is read"
-pub data TextRefusal : Type 0 where
-  driver : TextRefusal
-  condition : condition-refusal.Refusal → TextRefusal
-
 abbrev pub number : TextRefusal → ℕ
-number driver = driver_number
-number (condition r) = condition-reading.number r
+number Driver = driver_number
+number (Condition r) = condition-reading.number r
 
 -- the driver's list d and the condition's text u get this refusal
 abbrev pub TextRefused : List ℕ → List ℕ → TextRefusal → Type 0
-TextRefused d u driver = Unnamed d
-TextRefused d u (condition r) = ((vs : List ℕ) × Named d vs) × condition-reading.Refused u r
+TextRefused d u Driver = Unnamed d
+TextRefused d u (Condition r) = ((vs : List ℕ) × Named d vs) × condition-reading.Refused u r
 
 -- 1, then 2 to 5, then 22, then 6 to 8: the number of the first that applies
 abbrev pub ForceRefused : List ℕ → List ℕ → List ℕ → List ℕ → ℕ → Type 0
@@ -57,6 +55,11 @@ pub record ForceFilled (t d u old new : List ℕ) (count satisfied first : ℕ) 
   pub beyond : Beyond (length table.P) before after
 
 -- "A refused call answers only its number and keeps all lent memory."
-abbrev pub ForceAnswers : List ℕ → List ℕ → List ℕ → List ℕ → List ℕ → ForceAnswer → Beside → Beside → Type 0
-ForceAnswers t d u old new (Refused n) before after = ForceRefused t d u old n × (new ≡ old) × (after ≡ before)
-ForceAnswers t d u old new (Filled count satisfied first) before after = ForceFilled t d u old new count satisfied first before after
+abbrev pub ForceAnswers : List ℕ → List ℕ → List ℕ → List ℕ → List ℕ → Result Filled (Refusal TextRefusal) → Beside → Beside → Type 0
+ForceAnswers t d u old new (Err r) before after = ForceRefused t d u old (number_of number r) × (new ≡ old) × (after ≡ before)
+ForceAnswers t d u old new (Ok f) before after = ForceFilled t d u old new f.parts f.satisfied f.first before after
+
+-- the same where what is told stands beside the counts, from blank entries
+abbrev pub Forces : List ℕ → List ℕ → List ℕ → List ℕ → List ℕ → Result Answer.Forced (Refusal TextRefusal) → Type 0
+Forces t d u old new (Err r) = ForceAnswers t d u old new (Err r) blank blank
+Forces t d u old new (Ok f) = ForceAnswers t d u old new (Ok f.filled) blank (record { numbers = f.number; arms = f.arm })

@@ -3,25 +3,37 @@
 
 ghost use Rattle.std.specs.Prelude.{◌≡◌, ◌≤◌, length};
 ghost use Rattle.program.specs.Program.{most};
-ghost use Rattle.force.specs.Force.{blank, ForceAnswers};
+ghost use Rattle.force.specs.Force.{blank, number, ForceAnswers, Forces};
 
-use calls::ROOM_NUMBER;
+use calls::Refusal;
 use driver_reader::DRIVER_NUMBER;
 use program::MOST;
-use tabulate::TABLE_WORDS;
+use refusals::Numbered;
+use tabulate::{Filled, TABLE_WORDS};
 
-// Refused: the number of documents 01 and 02. Filled: as `tabulate` answers.
+// Why the call is refused: as `tabulate`, or the driver's list is misspelled or names a variable twice.
 #[derive(Clone, Copy)]
-pub enum ForceAnswer {
-    Refused(u8),
-    Filled(u32, u32, u32),
+pub enum TextRefusal {
+    Driver,
+    Condition(condition_reader::Refusal),
+}
+
+impl Numbered for TextRefusal {
+    ghost number = { number };
+
+    fn number(self) -> u8 {
+        match self {
+            TextRefusal::Driver => DRIVER_NUMBER,
+            TextRefusal::Condition(refusal) => refusal.number(),
+        }
+    }
 }
 
 // For each statement the least number of steps within which the driver is sure of the condition, 4294967295 where he can't force it, and the
-// arm that is to be taken there: 0 none, 1 `goto`, 2 `else`. Zeros past the statements, and beside a refusal.
+// arm that is to be taken there: 0 none, 1 `goto`, 2 `else`. Zeros past the statements.
 #[derive(Clone, Copy)]
 pub struct Forced {
-    pub answer: ForceAnswer,
+    pub filled: Filled,
     pub number: [u32; MOST],
     pub arm: [u8; MOST],
 }
@@ -46,51 +58,48 @@ pub fn fill(
     table: &mut [u64],
     numbers: &mut [u32],
     arms: &mut [u8],
-) -> ForceAnswer
+) -> Result<Filled, Refusal<TextRefusal>>
     requires { (most ≤ length numbers.old) × (most ≤ length arms.old) }
     ensures { ForceAnswers program.now driver.now condition.now table.old table.new result (record { numbers = numbers.old; arms = arms.old }) (record { numbers = numbers.new; arms = arms.new }) }
 {
     if table.len() < TABLE_WORDS {
-        return ForceAnswer::Refused(ROOM_NUMBER);
+        return Err(Refusal::Room);
     }
-    let reading = program::read(program);
-    let answer = reading.answer;
-    if let program::Answer::Refused(refusal) = answer {
-        return ForceAnswer::Refused(program::number_of(refusal));
-    }
-    let p = reading.program;
+    let p = program::read(program)?;
     let mut named = bits::blank();
     if !driver_reader::read(driver, &mut named) {
-        return ForceAnswer::Refused(DRIVER_NUMBER);
+        return Err(Refusal::Text(TextRefusal::Driver));
     }
-    let conditions = condition_reader::read(condition);
-    let told = conditions.answer;
-    match told {
-        condition_reader::Answer::Refused(refusal) => {
-            ForceAnswer::Refused(condition_reader::number_of(refusal))
-        }
-        condition_reader::Answer::Taken(parts) => {
-            let words = conditions.words;
-            let mut flow = flow::blank();
-            let summary = tabulate::fill(p, condition, words, parts, &mut flow, table);
-            let count = parts as usize;
-            let goal = table::row_of(&*table, count - 1);
-            arms::of(p, &flow, &named, &goal, numbers, arms);
-            ForceAnswer::Filled(parts, summary.satisfied, summary.first)
-        }
-    }
+    let c = condition_reader::read(condition).map_err(|refusal| {
+        Refusal::Text(TextRefusal::Condition(refusal))
+    })?;
+    let mut flow = flow::blank();
+    let summary = tabulate::fill(p, condition, c.words, c.count, &mut flow, table);
+    let count = c.count as usize;
+    let goal = table::row_of(&*table, count - 1);
+    arms::of(p, &flow, &named, &goal, numbers, arms);
+    Ok(Filled {
+        parts: c.count,
+        satisfied: summary.satisfied,
+        first: summary.first,
+    })
 }
 
 // Fills the table as `tabulate` does, and tells the numbers and the arms.
-pub fn force(program: &[u8], driver: &[u8], condition: &[u8], table: &mut [u64]) -> Forced
-    ensures { ForceAnswers program.now driver.now condition.now table.old table.new result.answer blank (record { numbers = result.number; arms = result.arm }) }
+pub fn force(
+    program: &[u8],
+    driver: &[u8],
+    condition: &[u8],
+    table: &mut [u64],
+) -> Result<Forced, Refusal<TextRefusal>>
+    ensures { Forces program.now driver.now condition.now table.old table.new result }
 {
-    let mut numbers = blank_numbers();
-    let mut arms = blank_arms();
-    let answer = fill(program, driver, condition, table, &mut numbers, &mut arms);
-    Forced {
-        answer: answer,
-        number: numbers,
-        arm: arms,
-    }
+    let mut number = blank_numbers();
+    let mut arm = blank_arms();
+    let filled = fill(program, driver, condition, table, &mut number, &mut arm)?;
+    Ok(Forced {
+        filled,
+        number,
+        arm,
+    })
 }

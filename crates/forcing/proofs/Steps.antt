@@ -5,20 +5,20 @@ use mathlib.Core.List.{List}
 use mathlib.Core.Bool.{Bool, true, false, not, ◌||◌, or-false}
 use mathlib.Core.Logic.{◌⊎◌, inl, ◌↔◌, ⊎_elim}
 use Prim.Native.Nat.{ℕ, suc, ◌+◌, ◌-◌, ◌≤◌, ◌<◌}
-use native.Mathlib.Decide.{dec_lt, ℕ_discrete}
+use native.Mathlib.Decide.{ℕ_discrete}
 use native.Mathlib.Omega.{arith}
 use lib.ListN.{length, get_or, set}
 use lib.Seq.{get_or-set_same, get_or-set_other}
 use lib.Dec.{eqb}
 use borrow.Author.Count.{below_more}
 use borrow.Author.Tests.{eqb-true, eq-eqb, ne_eqb}
-use Rattle.base.proofs.Bools.{split, clash, or_left, or_right, true_of_not}
+use Rattle.base.proofs.Bools.{split, clash, or_right, true_of_not}
 use Rattle.bits.proofs.Counts.{count-le}
 use Rattle.ctl.specs.Paths.{Graph}
 use Rattle.ctl.proofs.Reach.{more-on, more-self}
 use Rattle.graph.specs.Lists.{step, listed, Linked}
 use Rattle.graph.specs.Graphs.{Opposite}
-use Rattle.graph.proofs.Lists.{listed-step, listed-end}
+use Rattle.graph.proofs.Lists.{listed-end}
 use Rattle.graph.proofs.Walk.{passed_first}
 use Rattle.games.specs.Ranks.{Ranks}
 use Rattle.worklist.specs.Worklist.{Skipped, Rest}

@@ -7,7 +7,7 @@ ghost use Rattle.bits.specs.Row.{member};
 ghost use Rattle.ctl.specs.Paths.{quant, So};
 ghost use Rattle.ctl.specs.Tables.{Onto};
 ghost use Rattle.graph.specs.Lists.{step, Linked, Blank};
-ghost use Rattle.graph.specs.Graphs.{places, ListsAt, Room, Added};
+ghost use Rattle.graph.specs.Graphs.{places, entries, edges_at, head_of, ListsAt, Room, Added};
 
 // The most places of a graph, and their edges.
 pub const PLACES: usize = 1024;
@@ -21,18 +21,14 @@ pub const ENTRIES: usize = PLACES + (EDGES + EDGES);
 pub fn wide(x: u16) -> usize
     ensures { result ≡ x }
 {
-    x as usize
+    usize::from(x)
 }
 
 // No edges.
 pub fn clear(head: &mut [u16])
     ensures { Blank head.new }
 {
-    let mut k: usize = 0;
-    while k < head.len() {
-        head[k] = 0;
-        k += 1;
-    }
+    head.fill(0);
 }
 
 // A slice's entries, copied.
@@ -40,12 +36,7 @@ pub fn copy(from: &[u16], to: &mut [u16])
     requires { length to.old ≡ length from.now }
     ensures { to.new ≡ from.now }
 {
-    let n = from.len();
-    let mut k: usize = 0;
-    while k < n {
-        to[k] = from[k];
-        k += 1;
-    }
+    to.copy_from_slice(from);
 }
 
 // One edge more, from s to t. Returns the number of edges.
@@ -59,28 +50,54 @@ pub fn add(edges: &mut [u16], count: usize, s: usize, t: usize) -> usize
     count + 1
 }
 
-// Whether some step of s leads to a place that is in the set, or to one that is not: as `want` says.
-fn meets(head: &[u16], link: &[u16], to: &[u16], s: usize, set: &[u64], want: bool) -> bool
-    requires linked { Linked head.now link.now to.now }
-    requires s_in_bounds { (s < length head.now) × (length head.now ≤ length set.now * 64) }
-    ensures { (result ≡ true) ↔ ((t : ℕ) × (step head.now link.now to.now s t ≡ true) × (member set.now t ≡ want)) }
-{
-    let mut k = wide(head[s]);
-    while k > 0 {
-        let e = k - 1;
-        if bits::contains(set, wide(to[e])) == want {
-            return true;
-        }
-        k = wide(link[e]);
-    }
-    false
+// The lists of one direction: the place of a list's first edge stands in `head`, the next edge of the same place in `link`, and
+// where an edge leads in `to`.
+#[derive(Clone, Copy)]
+pub struct Edges<'a> {
+    pub head: &'a [u16],
+    pub link: &'a [u16],
+    pub to: &'a [u16],
 }
 
-// Whether some step of s leads into the set, or all steps: as `all` says.
-pub fn onto(all: bool, head: &[u16], link: &[u16], to: &[u16], s: usize, set: &[u64]) -> bool
-    requires linked { Linked head.now link.now to.now }
-    requires s_in_bounds { (s < length head.now) × (length head.now ≤ length set.now * 64) }
-    ensures { (result ≡ true) ↔ Onto (quant all) (step head.now link.now to.now) (So (member set.now)) s }
-{
-    meets(head, link, to, s, set, !all) != all
+impl<'a> Edges<'a> {
+    // The lists of the first n places that stand in lent numbers.
+    pub fn of(n: usize, numbers: &'a [u16]) -> Edges<'a>
+        requires { (n ≤ places) × (length numbers.now ≡ entries) }
+        ensures head { result.head.now ≡ head_of n (edges_at numbers.now) }
+        ensures link { result.link.now ≡ (edges_at numbers.now).link }
+        ensures to { result.to.now ≡ (edges_at numbers.now).to }
+    {
+        Edges {
+            head: &numbers[..n],
+            link: &numbers[PLACES..PLACES + EDGES],
+            to: &numbers[PLACES + EDGES..ENTRIES],
+        }
+    }
+
+    // Whether some step of s leads to a place that is in the set, or to one that is not: as `want` says.
+    fn meets(self, s: usize, set: &[u64], want: bool) -> bool
+        requires linked { Linked self.head.now self.link.now self.to.now }
+        requires s_in_bounds { (s < length self.head.now) × (length self.head.now ≤ length set.now * 64) }
+        ensures { (result ≡ true) ↔ ((t : ℕ) × (step self.entry.head.now self.entry.link.now self.entry.to.now s t ≡ true) × (member set.now t ≡ want)) }
+    {
+        let mut k = usize::from(self.head[s]);
+        // No index is counted here: k follows the links of a list.
+        while k > 0 {
+            let e = k - 1;
+            if bits::contains(set, usize::from(self.to[e])) == want {
+                return true;
+            }
+            k = usize::from(self.link[e]);
+        }
+        false
+    }
+
+    // Whether some step of s leads into the set, or all steps: as `all` says.
+    pub fn onto(self, all: bool, s: usize, set: &[u64]) -> bool
+        requires linked { Linked self.head.now self.link.now self.to.now }
+        requires s_in_bounds { (s < length self.head.now) × (length self.head.now ≤ length set.now * 64) }
+        ensures { (result ≡ true) ↔ Onto (quant all) (step self.entry.head.now self.entry.link.now self.entry.to.now) (So (member set.now)) s }
+    {
+        self.meets(s, set, !all) != all
+    }
 }

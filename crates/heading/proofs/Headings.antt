@@ -9,8 +9,12 @@ use Rattle.statement_writer.specs.Writing.{Put}
 use Rattle.language.proofs.Lengths.{number-most}
 use Rattle.run.specs.Run.{most_steps, budget_number}
 use Rattle.judge.specs.Judge.{Room, Lent, JudgeAnswers}
-use Rattle.judge.specs.declared.JudgeAnswer.{JudgeAnswer}
-use Rattle.judge.specs.declared.JudgeAnswer.TheVariants.{Refused, Finished}
+use Rattle.judge.specs.declared.Judged.{Judged}
+use Rattle.marks.specs.Reading as marks
+use Rattle.marks.specs.declared.Refusal as marks-refusal
+use Rattle.calls.specs.Refusals.{number_of}
+use Rattle.calls.specs.declared.Refusal.{Refusal}
+use Rattle.std.specs.Prelude.{Result, Ok, Err}
 use Rattle.report.specs.Report.{counts_line}
 use Rattle.report.proofs.Lines.{counts-length}
 use Rattle.report.proofs.Reports.{answer-refused, answer-finished}
@@ -41,18 +45,18 @@ budget-refused h fits put =
       put = put;
     }
 
-module _ (t u : List ℕ) (budget : ℕ) (lent left : Lent) {r : JudgeAnswer} (a : JudgeAnswers t u lent left r) (allowed : budget ≤ most_steps) {o q : List ℕ} {n : ℕ} where
-  pub head-refused : (m line : ℕ) → r ≡ Refused m → Room lent.verdicts lent.new → Blamed t u m line → length (refusal_text m line) ≤ length o → Put o 0 (refusal_text m line) q n
+module _ (t u : List ℕ) (budget : ℕ) (lent left : Lent) {r : Result Judged (Refusal marks-refusal.Refusal)} (a : JudgeAnswers t u lent left r) (allowed : budget ≤ most_steps) {o q : List ℕ} {n : ℕ} where
+  pub head-refused : {f : Refusal marks-refusal.Refusal} (m line : ℕ) → r ≡ Err f → m ≡ number_of marks.number f → Room lent.verdicts lent.new → Blamed t u m line → length (refusal_text m line) ≤ length o → Put o 0 (refusal_text m line) q n
       → HeadRefused t u budget o q n × (left.new ≡ lent.new)
-  head-refused m line is room about fits put =
-      (record { n = m; line = line; refused = inr (allowed, answer-refused t u lent left a is room); blamed = about; fits = fits; put = put }, ap (λ (x : Lent). x.new) (rw is at a).1)
+  head-refused m line is e room about fits put =
+      (record { n = m; line = line; refused = inr (allowed, answer-refused t u lent left a is e room); blamed = about; fits = fits; put = put }, ap (λ (x : Lent). x.new) (rw is at a).1)
 
-  pub head-judged : (count accepted bytes : ℕ) → r ≡ Finished count accepted bytes → length (heading_text count accepted) ≤ length o → Put o 0 (heading_text count accepted) q n
-      → HeadJudged t u budget lent.new left.new o q n bytes
-  head-judged count accepted bytes is fits put =
+  pub head-judged : (j : Judged) → r ≡ Ok j → length (heading_text j.marks j.accepted) ≤ length o → Put o 0 (heading_text j.marks j.accepted) q n
+      → HeadJudged t u budget lent.new left.new o q n j.bytes
+  head-judged j is fits put =
       record {
-        count = count;
-        accepted = accepted;
+        count = j.marks;
+        accepted = j.accepted;
         lent = lent;
         left = left;
         before = refl;

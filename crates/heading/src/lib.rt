@@ -5,7 +5,8 @@ ghost use Rattle.std.specs.Prelude.{◌≤◌, length};
 ghost use Rattle.statement_writer.specs.Writing.{Put};
 ghost use Rattle.heading.specs.Heading.{heading_text, heading_room, Heads};
 
-use judge::{JudgeAnswer, TEXT_BYTES};
+use judge::TEXT_BYTES;
+use refusals::Numbered;
 use run::{BUDGET_NUMBER, MOST_STEPS};
 
 // Every heading has room in this many bytes.
@@ -48,12 +49,11 @@ pub fn write(program: &[u8], marks: &[u8], budget: u32, new: &mut [u8], out: &mu
     let mut verdicts = judge::verdict_buffer();
     let answer = judge::judge(program, marks, &mut verdicts, new);
     match answer {
-        JudgeAnswer::Refused(n) => {
+        Err(refusal) => {
+            let n = refusal.number();
             let line = refusal_line::line_of_number(program, marks, n);
             Heading::Refused(desk::refusals::refusal(out, 0, n, line))
         }
-        JudgeAnswer::Finished(count, accepted, bytes) => {
-            Heading::Judged(judged(out, count, accepted), bytes as usize)
-        }
+        Ok(told) => Heading::Judged(judged(out, told.marks, told.accepted), told.bytes as usize),
     }
 }

@@ -3,8 +3,8 @@
 
 ghost use Rattle.host_force.specs.Exports.{ForceExported};
 
-use force::ForceAnswer;
 use program::MOST;
+use refusals::Numbered;
 
 // Returns 0, or the number of the refusal. The numbers and the arms of the statements are set, and what stands after them is kept.
 pub fn force(
@@ -20,13 +20,12 @@ pub fn force(
 ) -> u8
     ensures { ForceExported program.now driver.now condition.now table.old table.new result (record { numbers = number.old; arms = arm.old }) (record { numbers = number.new; arms = arm.new }) (record { parts = parts.old; satisfied = satisfied.old; first = first.old }) (record { parts = parts.new; satisfied = satisfied.new; first = first.new }) }
 {
-    let answer = force::fill(program, driver, condition, table, number, arm);
-    match answer {
-        ForceAnswer::Refused(n) => n,
-        ForceAnswer::Filled(m, n, k) => {
-            *parts = m;
-            *satisfied = n;
-            *first = k;
+    match force::fill(program, driver, condition, table, number, arm) {
+        Err(refusal) => refusal.number(),
+        Ok(filled) => {
+            *parts = filled.parts;
+            *satisfied = filled.satisfied;
+            *first = filled.first;
             0
         }
     }

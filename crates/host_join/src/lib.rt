@@ -3,7 +3,7 @@
 
 ghost use Rattle.host_join.specs.Places.{JoinExported};
 
-use join::JoinAnswer;
+use refusals::Numbered;
 
 pub fn export(
     road: &[u8],
@@ -14,13 +14,13 @@ pub fn export(
 ) -> u8
     ensures { JoinExported road.now creeper.now text.old text.new result (record { statements = statements.old; bytes = bytes.old }) (record { statements = statements.new; bytes = bytes.new }) }
 {
-    let answer = join::join(road, creeper, text);
-    match answer {
-        JoinAnswer::Refused(number) => number,
-        JoinAnswer::Joined(m, b) => {
-            *statements = m;
-            *bytes = b;
-            0
+    let joined = match join::join(road, creeper, text) {
+        Ok(joined) => joined,
+        Err(refusal) => {
+            return refusal.number();
         }
-    }
+    };
+    *statements = joined.statements;
+    *bytes = joined.bytes;
+    0
 }

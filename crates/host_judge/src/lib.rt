@@ -3,7 +3,7 @@
 
 ghost use Rattle.host_judge.specs.Places.{JudgeExported};
 
-use judge::JudgeAnswer;
+use refusals::Numbered;
 
 pub fn export(
     program: &[u8],
@@ -16,13 +16,12 @@ pub fn export(
 ) -> u8
     ensures { JudgeExported program.now marks.now (record { verdicts = verdicts.old; new = text.old }) (record { verdicts = verdicts.new; new = text.new }) result (record { marks = count.old; accepted = accepted.old; bytes = bytes.old }) (record { marks = count.new; accepted = accepted.new; bytes = bytes.new }) }
 {
-    let answer = judge::judge(program, marks, verdicts, text);
-    match answer {
-        JudgeAnswer::Refused(number) => number,
-        JudgeAnswer::Finished(m, a, b) => {
-            *count = m;
-            *accepted = a;
-            *bytes = b;
+    match judge::judge(program, marks, verdicts, text) {
+        Err(refusal) => refusal.number(),
+        Ok(judged) => {
+            *count = judged.marks;
+            *accepted = judged.accepted;
+            *bytes = judged.bytes;
             0
         }
     }

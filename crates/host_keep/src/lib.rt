@@ -3,17 +3,16 @@
 
 ghost use Rattle.host_keep.specs.Places.{KeepExported};
 
-use keep::KeepAnswer;
+use refusals::Numbered;
 
 pub fn export(stages: &mut [u8], name: &[u8], program: &[u8], place: &mut u32) -> u8
     ensures { KeepExported stages.old name.now program.now stages.new result place.old place.new }
 {
-    let answer = keep::keep(stages, name, program);
-    match answer {
-        KeepAnswer::Refused(number) => number,
-        KeepAnswer::Kept(k) => {
+    match keep::keep(stages, name, program) {
+        Ok(k) => {
             *place = k;
             0
         }
+        Err(refusal) => refusal.number(),
     }
 }

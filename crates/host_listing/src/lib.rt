@@ -3,19 +3,23 @@
 
 ghost use Rattle.host_listing.specs.Exports.{ListReturned, ListExported, RelistExported};
 
-use listing::{COUNTS, ListAnswer, Listing};
+use listing::{COUNTS, Ones};
+use refusals::Numbered;
 
 // Returns the answer's number, and sets the places to the counts where there are any.
-fn tell(listed: Listing, defined: &mut [u32; COUNTS], used: &mut [u32; COUNTS]) -> u8
-    ensures { ListReturned listed.answer (record { defined = listed.defined; used = listed.used }) result (record { defined = defined.old; used = used.old }) (record { defined = defined.new; used = used.new }) }
+fn tell<R: Numbered>(
+    listed: Result<Ones, R>,
+    defined: &mut [u32; COUNTS],
+    used: &mut [u32; COUNTS],
+) -> u8
+    ensures { ListReturned R.number listed result (record { defined = defined.old; used = used.old }) (record { defined = defined.new; used = used.new }) }
 {
-    let writers = listed.defined;
-    let readers = listed.used;
-    let answer = listed.answer;
-    match answer {
-        ListAnswer::Refused(number) => number,
-        ListAnswer::Listed => {
+    match listed {
+        Err(refusal) => refusal.number(),
+        Ok(ones) => {
+            let writers = ones.defined;
             *defined = writers;
+            let readers = ones.used;
             *used = readers;
             0
         }

@@ -3,18 +3,17 @@
 
 ghost use Rattle.host_mark_line.specs.Places.{MarkLineExported};
 
-use mark_line::MarkLineAnswer;
+use refusals::Numbered;
 
 pub fn export(marks: &[u8], line: u32, begin: &mut usize, end: &mut usize) -> u8
     ensures { MarkLineExported marks.now line result (record { begin = begin.old; end = end.old }) (record { begin = begin.new; end = end.new }) }
 {
-    let answer = mark_line::mark_line(marks, line);
-    match answer {
-        MarkLineAnswer::Refused(number) => number,
-        MarkLineAnswer::Found(b, e) => {
+    match mark_line::mark_line(marks, line) {
+        Ok((b, e)) => {
             *begin = b;
             *end = e;
             0
         }
+        Err(refusal) => refusal.number(),
     }
 }

@@ -5,22 +5,18 @@ ghost use Rattle.std.specs.Prelude.{◌≡◌};
 ghost use Rattle.pricing.specs.Prices.{ours as oursAre};
 ghost use Rattle.host_prices.specs.Places.{PricesExported};
 
-use prices::PricesAnswer;
 use pricing::KINDS;
+use refusals::Numbered;
 
 pub fn export(text: &[u8], prices: &mut [u32; KINDS]) -> u8
     ensures { PricesExported text.now result prices.old prices.new }
 {
-    let held = *prices;
-    let read = prices::read_prices(text, held);
-    let table = read.prices;
-    let answer = read.answer;
-    match answer {
-        PricesAnswer::Taken => {
+    match prices::read_prices(text) {
+        Ok(table) => {
             *prices = table;
             0
         }
-        PricesAnswer::Refused(number) => number,
+        Err(refusal) => refusal.number(),
     }
 }
 
@@ -28,6 +24,5 @@ pub fn export(text: &[u8], prices: &mut [u32; KINDS]) -> u8
 pub fn ours(prices: &mut [u32; KINDS])
     ensures { prices.new ≡ oursAre }
 {
-    let table = pricing::ours();
-    *prices = table;
+    *prices = pricing::ours();
 }

@@ -1,10 +1,12 @@
 -- What `report` leaves in the places that a host lends for its answer, and the number that the host gets.
-use Rattle.std.specs.Prelude.{◌≡◌, List, ℕ, ℤ, take}
+use Rattle.std.specs.Prelude.{◌≡◌, List, ℕ, ℤ, take, Result, Ok, Err}
 use Rattle.std.proofs.lemmas.List.Edits.{sets}
 use Rattle.price_list.specs.declared.PriceList.{PriceList}
 use Rattle.priced.specs.Priced.{ReportAnswers}
-use Rattle.priced.specs.declared.PriceAnswer.{PriceAnswer}
-use Rattle.priced.specs.declared.PriceAnswer.TheVariants.{Refused, Listed}
+use Rattle.marks.specs.Reading as marks
+use Rattle.marks.specs.declared.Refusal as marks-refusal
+use Rattle.calls.specs.Refusals.{number_of}
+use Rattle.calls.specs.declared.Refusal.{Refusal}
 
 -- the places that a host lends for the answer
 pub record ReportPlaces : Type 0 where
@@ -31,13 +33,12 @@ placed l o = record {
 }
 
 -- 0 is a result, any other number the refusal, which keeps all
-abbrev pub ReportReturned : PriceAnswer → PriceList → ℕ → ReportPlaces → ReportPlaces → Type 0
-ReportReturned (Refused n) l r o q = (r ≡ n) × (q ≡ o)
-ReportReturned Listed l r o q = (r ≡ 0) × (q ≡ placed l o)
+abbrev pub ReportReturned : Result PriceList (Refusal marks-refusal.Refusal) → ℕ → ReportPlaces → ReportPlaces → Type 0
+ReportReturned (Err f) r o q = (r ≡ number_of marks.number f) × (q ≡ o)
+ReportReturned (Ok l) r o q = (r ≡ 0) × (q ≡ placed l o)
 
 -- the number and the places are those of the one answer of `report` under the table ps
 pub record ReportExported (ps t u : List ℕ) (r : ℕ) (o q : ReportPlaces) : Type 0 where
-  pub answer : PriceAnswer
-  pub list : PriceList
-  pub answers : ReportAnswers ps t u answer list
-  pub returned : ReportReturned answer list r o q
+  pub answer : Result PriceList (Refusal marks-refusal.Refusal)
+  pub answers : ReportAnswers ps t u answer
+  pub returned : ReportReturned answer r o q

@@ -5,9 +5,9 @@ ghost use Rattle.std.specs.Prelude.{◌≡◌, ◌≤◌, length};
 ghost use Rattle.program.specs.Program.{most};
 ghost use Rattle.host_report.specs.Places.{begun, ReportExported};
 
-use priced::PriceAnswer;
 use pricing::KINDS;
 use program::MOST;
+use refusals::Numbered;
 
 // The first n entries are copied, and the others are kept.
 fn copy(from: &[u32; MOST], n: usize, out: &mut [u32; MOST])
@@ -34,26 +34,17 @@ pub fn export(
 ) -> u8
     ensures { ReportExported prices.now program.now marks.now result (record { before = before.old; after = after.old; statements = statements.old; given = given.old; rewritten = rewritten.old; saved = saved.old }) (record { before = before.new; after = after.new; statements = statements.new; given = given.new; rewritten = rewritten.new; saved = saved.new }) }
 {
-    let table = *prices;
-    let priced = priced::report(program, marks, table);
-    let answer = priced.answer;
-    match answer {
-        PriceAnswer::Refused(number) => number,
-        PriceAnswer::Listed => {
-            let list = priced.list;
-            let count = list.count;
-            let size = count as usize;
-            let one = list.before;
-            let two = list.after;
+    match priced::report(program, marks, *prices) {
+        Err(refusal) => refusal.number(),
+        Ok(list) => {
+            let size = list.count as usize;
             let cost = list.given;
-            let rest = list.rewritten;
-            let less = list.saved;
-            copy(&one, size, before);
-            copy(&two, size, after);
-            *statements = count;
+            copy(&list.before, size, before);
+            copy(&list.after, size, after);
+            *statements = list.count;
             *given = cost;
-            *rewritten = rest;
-            *saved = less;
+            *rewritten = list.rewritten;
+            *saved = list.saved;
             0
         }
     }

@@ -3,17 +3,16 @@
 
 ghost use Rattle.host_return.specs.Places.{ReturnExported};
 
-use go_back::ReturnAnswer;
+use refusals::Numbered;
 
 pub fn export(stages: &[u8], name: &[u8], text: &mut [u8], bytes: &mut u32) -> u8
     ensures { ReturnExported stages.now name.now text.old text.new result bytes.old bytes.new }
 {
-    let answer = go_back::go_back(stages, name, text);
-    match answer {
-        ReturnAnswer::Refused(number) => number,
-        ReturnAnswer::Returned(b) => {
+    match go_back::go_back(stages, name, text) {
+        Ok(b) => {
             *bytes = b;
             0
         }
+        Err(refusal) => refusal.number(),
     }
 }

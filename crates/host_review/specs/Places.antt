@@ -1,9 +1,12 @@
 -- What `review` leaves in the places that a host lends for its answer, and the number that the host gets.
-use Rattle.std.specs.Prelude.{◌≡◌, List, ℕ, take}
+use Rattle.std.specs.Prelude.{◌≡◌, List, ℕ, take, Result, Ok, Err}
 use Rattle.std.proofs.lemmas.List.Edits.{sets}
-use Rattle.review.specs.Review.{Told, ReviewAnswers}
-use Rattle.review.specs.declared.ReviewAnswer.{ReviewAnswer}
-use Rattle.review.specs.declared.ReviewAnswer.TheVariants.{Refused, Filled}
+use Rattle.calls.specs.Refusals.{number_of}
+use Rattle.calls.specs.declared.Refusal.{Refusal}
+use Rattle.review_reader.specs.Reading as reading
+use Rattle.review_reader.specs.declared.Refusal as reading-refusal
+use Rattle.review.specs.Review.{Told, told_of, ReviewAnswers}
+use Rattle.review.specs.declared.Reviewed.{Reviewed}
 
 -- the places that a host lends for the answer beside the table
 pub record ReviewPlaces : Type 0 where
@@ -25,13 +28,12 @@ told n a o = record {
 }
 
 -- 0 is a result, which sets both numbers and the entries of the lines; any other number is the refusal, which keeps all
-abbrev pub ReviewReturned : ReviewAnswer → Told → ℕ → ReviewPlaces → ReviewPlaces → Type 0
-ReviewReturned (Refused n) a r o q = (r ≡ n) × (q ≡ o)
-ReviewReturned (Filled m n) a r o q = (r ≡ 0) × (q ≡ record { tables = m; lines = n; told = told n a o.told })
+abbrev pub ReviewReturned : Result Reviewed (Refusal reading-refusal.Refusal) → ℕ → ReviewPlaces → ReviewPlaces → Type 0
+ReviewReturned (Err refusal) r o q = (r ≡ number_of reading.number refusal) × (q ≡ o)
+ReviewReturned (Ok a) r o q = (r ≡ 0) × (q ≡ record { tables = a.tables; lines = a.lines; told = told a.lines (told_of a) o.told })
 
 -- the number and the places are those of the one answer of `review`, which also says what the table holds
 pub record ReviewExported (t u old new : List ℕ) (r : ℕ) (o q : ReviewPlaces) : Type 0 where
-  pub answer : ReviewAnswer
-  pub beside : Told
-  pub answers : ReviewAnswers t u old new answer beside
-  pub returned : ReviewReturned answer beside r o q
+  pub answer : Result Reviewed (Refusal reading-refusal.Refusal)
+  pub answers : ReviewAnswers t u old new answer
+  pub returned : ReviewReturned answer r o q

@@ -5,7 +5,7 @@ ghost use Rattle.std.specs.Prelude.{◌≡◌, ◌≤◌, length};
 ghost use Rattle.sharing.specs.Sharing.{most_lines};
 ghost use Rattle.host_review.specs.Places.{begun, ReviewExported};
 
-use review::ReviewAnswer;
+use refusals::Numbered;
 use sharing::MOST_LINES;
 
 // The first n entries are copied, and the others are kept.
@@ -33,22 +33,16 @@ pub fn export(
 ) -> u8
     ensures { ReviewExported program.now conditions.now table.old table.new result (record { tables = tables.old; lines = lines.old; told = record { tables = numbers.old; parts = parts.old; satisfied = satisfied.old; first = first.old } }) (record { tables = tables.new; lines = lines.new; told = record { tables = numbers.new; parts = parts.new; satisfied = satisfied.new; first = first.new } }) }
 {
-    let reviewed = review::review(program, conditions, table);
-    let answer = reviewed.answer;
-    match answer {
-        ReviewAnswer::Refused(number) => number,
-        ReviewAnswer::Filled(m, n) => {
-            let size = n as usize;
-            let table_of = reviewed.table_of;
-            let part_count = reviewed.parts;
-            let satisfying = reviewed.satisfied;
-            let first_of = reviewed.first;
-            copy(&table_of, size, numbers);
-            copy(&part_count, size, parts);
-            copy(&satisfying, size, satisfied);
-            copy(&first_of, size, first);
-            *tables = m;
-            *lines = n;
+    match review::review(program, conditions, table) {
+        Err(refusal) => refusal.number(),
+        Ok(reviewed) => {
+            let size = reviewed.lines as usize;
+            copy(&reviewed.table_of, size, numbers);
+            copy(&reviewed.parts, size, parts);
+            copy(&reviewed.satisfied, size, satisfied);
+            copy(&reviewed.first, size, first);
+            *tables = reviewed.tables;
+            *lines = reviewed.lines;
             0
         }
     }

@@ -6,7 +6,7 @@ ghost use Rattle.host_run.specs.Places.{RunExported};
 use language::KEPT;
 use machine::{Answer, VALUES};
 use pricing::KINDS;
-use run::RunAnswer;
+use refusals::Numbered;
 
 pub fn export(
     program: &[u8],
@@ -24,39 +24,34 @@ pub fn export(
 ) -> u8
     ensures { RunExported prices.now program.now values.now input budget result (record { ended = ended.old; value = value.old; steps = steps.old; statement = statement.old; left = left.old; kept = kept.old; ticks = ticks.old }) (record { ended = ended.new; value = value.new; steps = steps.new; statement = statement.new; left = left.new; kept = kept.new; ticks = ticks.new }) }
 {
-    let start = *values;
-    let table = *prices;
-    let ran = run::run(program, start, input, budget, table);
-    let after = ran.values;
-    let eight = ran.kept;
-    let answer = ran.answer;
-    match answer {
-        RunAnswer::Refused(number) => number,
-        RunAnswer::Finished(finished) => {
-            match finished {
-                Answer::Ended(v, k, t) => {
-                    *ended = 1;
-                    *value = v;
-                    *steps = k;
-                    *kept = eight;
-                    *ticks = t;
-                    0
-                }
-                Answer::Fault(n, taken, t) => {
-                    *ended = 2;
-                    *statement = n;
-                    *steps = taken;
-                    *ticks = t;
-                    0
-                }
-                Answer::Spent(n, t) => {
-                    *ended = 0;
-                    *statement = n;
-                    *left = after;
-                    *ticks = t;
-                    0
-                }
-            }
+    let outcome = match run::run(program, *values, input, budget, *prices) {
+        Ok(outcome) => outcome,
+        Err(refusal) => {
+            return refusal.number();
+        }
+    };
+    let after = outcome.values;
+    let eight = outcome.kept;
+    match outcome.answer {
+        Answer::Ended(v, k, t) => {
+            *ended = 1;
+            *value = v;
+            *steps = k;
+            *kept = eight;
+            *ticks = t;
+        }
+        Answer::Fault(n, k, t) => {
+            *ended = 2;
+            *statement = n;
+            *steps = k;
+            *ticks = t;
+        }
+        Answer::Spent(n, t) => {
+            *ended = 0;
+            *statement = n;
+            *left = after;
+            *ticks = t;
         }
     }
+    0
 }

@@ -3,7 +3,7 @@
 
 ghost use Rattle.host_tabulate.specs.Places.{TabulateExported};
 
-use tabulate::TabulateAnswer;
+use refusals::Numbered;
 
 pub fn export(
     program: &[u8],
@@ -15,13 +15,12 @@ pub fn export(
 ) -> u8
     ensures { TabulateExported program.now condition.now table.old table.new result (record { parts = parts.old; satisfied = satisfied.old; first = first.old }) (record { parts = parts.new; satisfied = satisfied.new; first = first.new }) }
 {
-    let answer = tabulate::tabulate(program, condition, table);
-    match answer {
-        TabulateAnswer::Refused(number) => number,
-        TabulateAnswer::Filled(m, n, k) => {
-            *parts = m;
-            *satisfied = n;
-            *first = k;
+    match tabulate::tabulate(program, condition, table) {
+        Err(refusal) => refusal.number(),
+        Ok(filled) => {
+            *parts = filled.parts;
+            *satisfied = filled.satisfied;
+            *first = filled.first;
             0
         }
     }

@@ -3,7 +3,7 @@
 
 ghost use Rattle.host_why.specs.Places.{WhyExported};
 
-use why::Because;
+use refusals::Numbered;
 
 pub fn export(
     program: &[u8],
@@ -16,13 +16,12 @@ pub fn export(
 ) -> u8
     ensures { WhyExported program.now marks.now line path.old path.new result (record { verdict = verdict.old; length = length.old; culprit = culprit.old }) (record { verdict = verdict.new; length = length.new; culprit = culprit.new }) }
 {
-    let answer = why::why(program, marks, line, path);
-    match answer {
-        Because::Refused(number) => number,
-        Because::Verdict(b, k, c) => {
-            *verdict = b as u32;
-            *length = k;
-            *culprit = c;
+    match why::why(program, marks, line, path) {
+        Err(refusal) => refusal.number(),
+        Ok(because) => {
+            *verdict = u32::from(because.verdict);
+            *length = because.length;
+            *culprit = because.culprit;
             0
         }
     }

@@ -6,6 +6,7 @@ ghost use Rattle.bits.specs.Row.{one};
 ghost use Rattle.host_witness.specs.Places.{WitnessExported};
 
 use explain::Witnessed;
+use refusals::Numbered;
 
 fn number_of(truth: bool) -> u32
     ensures { result ≡ one truth }
@@ -25,15 +26,14 @@ pub fn export(
 ) -> u8
     ensures { WitnessExported program.now condition.now part statement path.old path.new result (record { length = length.old; turn = turn.old; truth = truth.old }) (record { length = length.new; turn = turn.new; truth = truth.new }) }
 {
-    let answer = explain::witness(program, condition, part, statement, path);
-    match answer {
-        Witnessed::Refused(number) => number,
-        Witnessed::Path(m, t) => {
+    match explain::witness(program, condition, part, statement, path) {
+        Err(refusal) => refusal.number(),
+        Ok(Witnessed::Path(m, t)) => {
             *length = m;
             *turn = t;
             0
         }
-        Witnessed::None(b) => {
+        Ok(Witnessed::None(b)) => {
             *length = 0;
             *turn = 0;
             *truth = number_of(b);

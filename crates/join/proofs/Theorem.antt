@@ -1,5 +1,6 @@
 -- The theorem of Wish 9: the joined text is taken, runs as the road program does and then as the creeper program does, and `run` answers so.
 -- Assumes nothing.
+use Rattle.std.specs.Prelude.{Result, Ok}
 use mathlib.Core.Path.{◌≡◌, refl, sym, ap, ◌∙◌, subst}
 use mathlib.Core.List.{List}
 use Prim.Native.Nat.{ℕ, ◌+◌, ◌-◌, ◌≤◌}
@@ -19,8 +20,8 @@ use Rattle.machine.specs.declared.Answer.{Answer}
 use Rattle.machine.specs.declared.Answer.TheVariants.{Ended, Fault, Spent}
 use Rattle.machine.proofs.Unique.{end-unique}
 use Rattle.run.specs.Run.{most_steps, RunFinished, RunAnswers}
-use Rattle.run.specs.declared.RunAnswer.{RunAnswer}
-use Rattle.run.specs.declared.RunAnswer.TheVariants.{Finished}
+use Rattle.execution.specs.declared.Outcome.{Outcome}
+use Rattle.run.specs.declared.Refusal.{Refusal}
 use Rattle.run.proofs.Unique.{run-unique}
 use Rattle.joining.specs.Joining.{writes, joined}
 use Rattle.joining.specs.Runs.{shift_end, shift, JoinedRuns}
@@ -29,11 +30,14 @@ use Rattle.joining.proofs.WellFormed.{joined-wellformed}
 use Rattle.join.specs.Answers.{Goes, Unended, RoadEnds}
 use Rattle.join.specs.Theorem.{JoinedTexts}
 
+abbrev outcome : Answer → List ℕ → List ℕ → Outcome
+outcome a ws ks = record { answer = a; values = ws; kept = ks }
+
 -- a call of `run` with the text of a program answers what the program's run answers
 module _ {t : List ℕ} {P : List Statement} (taken : Taken t P) (ps vs : List ℕ) (input budget : ℕ) where
-  answered : (a : Answer) (ws ks : List ℕ) → budget ≤ most_steps → Answers (in_force ps) P vs input budget a ws ks → (r : RunAnswer) (us hs : List ℕ) → RunAnswers ps t vs input budget r us hs
-      → (r ≡ Finished a) × (us ≡ ws) × (hs ≡ ks)
-  answered a ws ks allowed h r us hs g = run-unique ps t vs input budget r (Finished a) us ws hs ks g (record { P = P; allowed = allowed; taken = taken; answers = h })
+  answered : (o : Outcome) → budget ≤ most_steps → Answers (in_force ps) P vs input budget o.answer o.values o.kept
+      → (r : Result Outcome Refusal) → RunAnswers ps t vs input budget r → r ≡ Ok o
+  answered o allowed h r g = run-unique ps t vs input budget r (Ok o) g (record { P = P; allowed = allowed; taken = taken; answers = h })
 
   answers_of : {a : Answer} {ws ks : List ℕ} → RunFinished ps t vs input budget a ws ks → Answers (in_force ps) P vs input budget a ws ks
   answers_of {a} {ws} {ks} f = subst (λ (Q : List Statement). Answers (in_force ps) Q vs input budget a ws ks) (taken-unique f.taken taken) f.answers
@@ -55,18 +59,18 @@ module _ {t u : List ℕ} {P Q : List Statement} (p : Taken t P) (q : Taken u Q)
     -- ---- the road spent, or at a fault
 
     road-goes : (budget : ℕ) → budget ≤ most_steps → (a : Answer) (ws ks : List ℕ) → Answers (in_force ps) P vs input budget a ws ks → Unended a → Goes ps (text J) vs input budget 0 0 a ws ks
-    road-goes budget allowed (Ended x k t) ws ks h n r us hs g = absurd n
-    road-goes budget allowed (Fault m k t) ws ks (s, e, within, is, same, kept, paid) n r us hs g =
+    road-goes budget allowed (Ended x k t) ws ks h n r g = absurd n
+    road-goes budget allowed (Fault m k t) ws ks (s, e, within, is, same, kept, paid) n r g =
         let c : ℕ = ticks (in_force ps) J vs input k in
-        let one = answered joined-taken ps vs input budget (Fault m k c) ws ks allowed (s, runs.road_faults k s e, within, is, same, kept, refl) r us hs g in
+        let o = outcome (Fault m k c) ws ks in
         let there : m ≡ 0 + m = omega arith in
         let then : k ≡ 0 + k = omega arith in
-        (Fault m k c, one.0, (c, cc (there, then)))
-    road-goes budget allowed (Spent m t) ws ks (s, is, stands, same, paid) n r us hs g =
+        (o, answered joined-taken ps vs input budget o allowed (s, runs.road_faults k s e, within, is, same, kept, refl) r g, (c, cc (there, then)))
+    road-goes budget allowed (Spent m t) ws ks (s, is, stands, same, paid) n r g =
         let c : ℕ = ticks (in_force ps) J vs input budget in
-        let one = answered joined-taken ps vs input budget (Spent m c) ws ks allowed (s, is, runs.road budget s ws stands, same, refl) r us hs g in
+        let o = outcome (Spent m c) ws ks in
         let there : m ≡ 0 + m = omega arith in
-        (Spent m c, one.0, (c, cc there, one.1))
+        (o, answered joined-taken ps vs input budget o allowed (s, is, runs.road budget s ws stands, same, refl) r g, (c, cc there, refl))
 
     road : (budget : ℕ) (a : Answer) (ws ks : List ℕ) → RunFinished ps t vs input budget a ws ks → Unended a → Goes ps (text J) vs input budget 0 0 a ws ks
     road budget a ws ks f n = road-goes budget f.allowed a ws ks (answers_of p ps vs input budget f) n
@@ -84,22 +88,21 @@ module _ {t u : List ℕ} {P Q : List Statement} (p : Taken t P) (q : Taken u Q)
 
       goes : (budget : ℕ) → k - 1 + budget ≤ most_steps → (a : Answer) (ws gs : List ℕ) → Answers (in_force ps) Q e.left v budget a ws gs
           → Goes ps (text J) vs input (k - 1 + budget) d (k - 1) a ws gs
-      goes budget allowed (Ended x m t) ws gs (y, o, within, is, same, paid) r us hs g =
+      goes budget allowed (Ended x m t) ws gs (y, o, within, is, same, paid) r g =
           let c : ℕ = ticks (in_force ps) J vs input (k - 1 + m) in
-          let b : Answers (in_force ps) J vs input (k - 1 + budget) (Ended x (k - 1 + m) c) vs gs = (y, ends-onward m (written y gs) o, omega arith, is, refl, refl) in
-          let one = answered joined-taken ps vs input (k - 1 + budget) (Ended x (k - 1 + m) c) vs gs allowed b r us hs g in
-          (Ended x (k - 1 + m) c, one.0, (c, refl, one.2))
-      goes budget allowed (Fault n m t) ws gs (s, o, within, is, same, kept, paid) r us hs g =
+          let b = outcome (Ended x (k - 1 + m) c) vs gs in
+          let h : Answers (in_force ps) J vs input (k - 1 + budget) b.answer vs gs = (y, ends-onward m (written y gs) o, omega arith, is, refl, refl) in
+          (b, answered joined-taken ps vs input (k - 1 + budget) b allowed h r g, (c, refl, refl))
+      goes budget allowed (Fault n m t) ws gs (s, o, within, is, same, kept, paid) r g =
           let c : ℕ = ticks (in_force ps) J vs input (k - 1 + m) in
-          let b : Answers (in_force ps) J vs input (k - 1 + budget) (Fault (d + n) (k - 1 + m) c) vs (kept_of vs) =
-          (d + s, ends-onward m (faulted s) o, omega arith, omega arith, refl, refl, refl) in
-          let one = answered joined-taken ps vs input (k - 1 + budget) (Fault (d + n) (k - 1 + m) c) vs (kept_of vs) allowed b r us hs g in
-          (Fault (d + n) (k - 1 + m) c, one.0, (c, refl))
-      goes budget allowed (Spent n t) ws gs (s, is, stands, same, paid) r us hs g =
+          let b = outcome (Fault (d + n) (k - 1 + m) c) vs (kept_of vs) in
+          let h : Answers (in_force ps) J vs input (k - 1 + budget) b.answer vs (kept_of vs) = (d + s, ends-onward m (faulted s) o, omega arith, omega arith, refl, refl, refl) in
+          (b, answered joined-taken ps vs input (k - 1 + budget) b allowed h r g, (c, refl))
+      goes budget allowed (Spent n t) ws gs (s, is, stands, same, paid) r g =
           let c : ℕ = ticks (in_force ps) J vs input (k - 1 + budget) in
-          let b : Answers (in_force ps) J vs input (k - 1 + budget) (Spent (d + n) c) ws (kept_of vs) = (d + s, omega arith, stands-onward budget s ws stands, refl, refl) in
-          let one = answered joined-taken ps vs input (k - 1 + budget) (Spent (d + n) c) ws (kept_of vs) allowed b r us hs g in
-          (Spent (d + n) c, one.0, (c, refl, one.1))
+          let b = outcome (Spent (d + n) c) ws (kept_of vs) in
+          let h : Answers (in_force ps) J vs input (k - 1 + budget) b.answer ws (kept_of vs) = (d + s, omega arith, stands-onward budget s ws stands, refl, refl) in
+          (b, answered joined-taken ps vs input (k - 1 + budget) b allowed h r g, (c, refl, refl))
 
       -- the values told one step short of the end are those that the road left
       left-told : (a : Answer) (left hs : List ℕ) → Answers (in_force ps) P vs input (k - 1) a left hs → left ≡ e.left

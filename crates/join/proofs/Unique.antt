@@ -1,5 +1,6 @@
 -- A call of `join` has one answer, and leaves one content of the lent bytes. Assumes nothing.
-use mathlib.Core.Path.{◌≡◌, refl, sym, ap, ◌∙◌}
+use Rattle.std.specs.Prelude.{Result, Ok, Err}
+use mathlib.Core.Path.{◌≡◌, refl, sym, ap, ap₂, ◌∙◌}
 use mathlib.Core.List.{List}
 use Prim.Native.Nat.{ℕ, ◌≤◌, ◌<◌}
 use native.Mathlib.Omega.{arith}
@@ -10,23 +11,26 @@ use Rattle.program.proofs.RoundTrip.{taken-unique}
 use Rattle.program.proofs.Unique.{refused-unique, taken_refused}
 use Rattle.calls.proofs.Unique.{refuses-unique, refuses-not}
 use Rattle.joining.specs.Joining.{joined}
-use Rattle.join.specs.Join.{text_bytes, Refusal, creeper, long, Refused, number, JoinRefused, JoinFinished, JoinAnswers}
-use Rattle.join.specs.declared.JoinAnswer.{JoinAnswer}
-use Rattle.join.specs.declared.JoinAnswer.TheVariants as join
+use Rattle.calls.specs.Refusals.{number_of}
+use Rattle.calls.specs.declared.Refusal as calls
+use Rattle.join.specs.Join.{text_bytes, Refused, number, JoinRefused, JoinFinished, JoinAnswers}
+use Rattle.join.specs.declared.Joined.{Joined}
+use Rattle.join.specs.declared.Refusal.{Refusal}
+use Rattle.join.specs.declared.Refusal.TheVariants.{Creeper, Long}
 
 module _ (t u o : List ℕ) where
   lent-apart : length o < text_bytes → text_bytes ≤ length o → ⊥
   lent-apart s e = omega arith
 
   second-unique : (r s : Refusal) → Refused t u r → Refused t u s → r ≡ s
-  second-unique (creeper r) (creeper s) a b = ap creeper (refused-unique u r s a b)
-  second-unique (creeper r) long a b = absurd (taken_refused u b.3 r a)
-  second-unique long (creeper s) a b = absurd (taken_refused u a.3 s b)
-  second-unique long long a b = refl
+  second-unique (Creeper r) (Creeper s) a b = ap Creeper (refused-unique u r s a b)
+  second-unique (Creeper r) Long a b = absurd (taken_refused u b.3 r a)
+  second-unique Long (Creeper s) a b = absurd (taken_refused u a.3 s b)
+  second-unique Long Long a b = refl
 
   second-not : {q : List ℕ} {m b : ℕ} → JoinFinished t u o q m b → (r : Refusal) → Refused t u r → ⊥
-  second-not f (creeper r) a = taken_refused u f.creeper r a
-  second-not f long a = omega (arith, a.4, ap length (taken-unique a.2 f.road), ap length (taken-unique a.3 f.creeper), f.few)
+  second-not f (Creeper r) a = taken_refused u f.creeper r a
+  second-not f Long a = omega (arith, a.4, ap length (taken-unique a.2 f.road), ap length (taken-unique a.3 f.creeper), f.few)
 
   join-not : (n : ℕ) {q : List ℕ} {m b : ℕ} → JoinRefused t u o n → JoinFinished t u o q m b → ⊥
   join-not n r f = refuses-not lent-apart t (Refused t u) number n r f.room f.road (second-not f)
@@ -41,15 +45,25 @@ module _ (t u o : List ℕ) where
     same_text : text (joined a.P a.Q) ≡ text (joined b.P b.Q)
     same_text = rw (same-road, same-creeper)
 
-    join-finished : (join.Joined m n ≡ join.Joined k l) × (q ≡ r)
-    join-finished =
-        let c : m ≡ k = omega (arith, a.counted, b.counted, ap length same-road, ap length same-creeper) in
-        let d : n ≡ l = omega (arith, a.written.after, b.written.after, ap length same_text) in
-        (cc (c, d), a.written.text ∙ ap (sets o 0) same_text ∙ sym b.written.text)
+    join-finished : (m ≡ k) × (n ≡ l) × (q ≡ r)
+    join-finished = (
+      omega (arith, a.counted, b.counted, ap length same-road, ap length same-creeper),
+      omega (arith, a.written.after, b.written.after, ap length same_text),
+      a.written.text ∙ ap (sets o 0) same_text ∙ sym b.written.text,
+    )
+
+  -- the same is answered: of two refusals, the number
+  abbrev Same : Result Joined (calls.Refusal Refusal) → Result Joined (calls.Refusal Refusal) → Type 0
+  Same (Err r) (Err s) = number_of number r ≡ number_of number s
+  Same (Err r) (Ok b) = ⊥
+  Same (Ok a) (Err s) = ⊥
+  Same (Ok a) (Ok b) = a ≡ b
 
   -- a call of `join` has one answer, and leaves one content of the lent bytes
-  pub join-unique : (a b : JoinAnswer) (q r : List ℕ) → JoinAnswers t u o q a → JoinAnswers t u o r b → (a ≡ b) × (q ≡ r)
-  join-unique (join.Refused n) (join.Refused m) q r x y = (ap join.Refused (refuses-unique lent-apart t (Refused t u) number second-unique n m x.0 y.0), x.1 ∙ sym y.1)
-  join-unique (join.Refused n) (join.Joined m b) q r x y = absurd (join-not n x.0 y)
-  join-unique (join.Joined m b) (join.Refused n) q r x y = absurd (join-not n y.0 x)
-  join-unique (join.Joined m b) (join.Joined n c) q r x y = join-finished x y
+  pub join-unique : (a b : Result Joined (calls.Refusal Refusal)) (q r : List ℕ) → JoinAnswers t u o q a → JoinAnswers t u o r b → Same a b × (q ≡ r)
+  join-unique (Err n) (Err m) q r x y = (refuses-unique lent-apart t (Refused t u) number second-unique _ _ x.0 y.0, x.1 ∙ sym y.1)
+  join-unique (Err n) (Ok j) q r x y = absurd (join-not (number_of number n) x.0 y)
+  join-unique (Ok j) (Err n) q r x y = absurd (join-not (number_of number n) y.0 x)
+  join-unique (Ok a) (Ok b) q r x y =
+      let e = join-finished x y in
+      (ap₂ (λ (m n : ℕ). record { statements = m; bytes = n }) e.0 e.1, e.2)

@@ -1,6 +1,6 @@
 -- What `run` answers of a joined program, by what it answers of the road and of the creeper program, all three under one table of prices ps. All that is
 -- said of answers of runs by joined programs stands here.
-use Rattle.std.specs.Prelude.{◌≡◌, List, ℕ, ◌+◌, ◌-◌, ◌≤◌, length, get_or}
+use Rattle.std.specs.Prelude.{◌≡◌, List, ℕ, ◌+◌, ◌-◌, ◌≤◌, length, get_or, Result, Ok}
 use Rattle.std.specs.Int.{w32}
 use Rattle.std.proofs.Common.{to_z}
 use Rattle.language.specs.declared.Statement.{Statement}
@@ -8,8 +8,8 @@ use Rattle.program.specs.Program.{at}
 use Rattle.machine.specs.declared.Answer.{Answer}
 use Rattle.machine.specs.declared.Answer.TheVariants.{Ended, Fault, Spent}
 use Rattle.run.specs.Run.{most_steps, RunFinished, RunAnswers}
-use Rattle.run.specs.declared.RunAnswer.{RunAnswer}
-use Rattle.run.specs.declared.RunAnswer.TheVariants.{Finished}
+use Rattle.execution.specs.declared.Outcome.{Outcome}
+use Rattle.run.specs.declared.Refusal.{Refusal}
 use Rattle.joining.specs.Joining.{writes}
 
 -- b is the answer a, d statements and k steps further on: the same value and kept ones, the same fault, or the same values where it is spent. b has
@@ -22,7 +22,7 @@ Onward d k (Spent n t) ws ks b us hs = (c : ℕ) × (b ≡ Spent (d + n) c) × (
 -- whatever a call of `run` with the text w answers is that
 abbrev pub Goes : List ℕ → List ℕ → List ℕ → ℕ → ℕ → ℕ → ℕ → Answer → List ℕ → List ℕ → Type 0
 Goes ps w vs input budget d k a ws ks =
-    (r : RunAnswer) (us hs : List ℕ) → RunAnswers ps w vs input budget r us hs → (b : Answer) × (r ≡ Finished b) × Onward d k a ws ks b us hs
+    (r : Result Outcome Refusal) → RunAnswers ps w vs input budget r → (o : Outcome) × (r ≡ Ok o) × Onward d k a ws ks o.answer o.values o.kept
 
 abbrev pub Unended : Answer → Type 0
 Unended (Ended x k t) = ⊥

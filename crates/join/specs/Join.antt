@@ -1,33 +1,29 @@
 -- What `join` answers, and what it leaves in the lent bytes, for every two texts and every bytes lent.
-use Rattle.std.specs.Prelude.{◌≡◌, List, ℕ, ◌+◌, ◌-◌, ◌≤◌, ◌<◌, length, take}
+use Rattle.std.specs.Prelude.{◌≡◌, List, ℕ, ◌+◌, ◌-◌, ◌≤◌, ◌<◌, length, take, Result, Ok, Err}
 use Rattle.language.specs.declared.Statement.{Statement}
 use Rattle.statement_writer.specs.Writing.{Put}
 use Rattle.program.specs.Program.{text, text_room, most, Taken}
 use Rattle.program.specs.Reading as program
-use Rattle.program.specs.declared.Refusal as program-refusal
-use Rattle.calls.specs.Refusals.{CallRefused}
+use Rattle.calls.specs.Refusals.{CallRefused, number_of}
+use Rattle.calls.specs.declared.Refusal as calls
 use Rattle.joining.specs.Joining.{joined}
 use Rattle.join.specs.Theorem.{JoinedTexts}
-use Rattle.join.specs.declared.JoinAnswer.{JoinAnswer}
-use Rattle.join.specs.declared.JoinAnswer.TheVariants as answer
+use Rattle.join.specs.declared.Joined.{Joined}
+use Rattle.join.specs.declared.Refusal.{Refusal}
+use Rattle.join.specs.declared.Refusal.TheVariants.{Creeper, Long}
 
 -- "new text under 8,704 bytes", 34,816 by Wish 13
 abbrev pub text_bytes : ℕ
 text_bytes = text_room
 
--- what is refused once the road's text is taken: the creeper's text, or both as too long together
-pub data Refusal : Type 0 where
-  creeper : program-refusal.Refusal → Refusal
-  long : Refusal
-
--- "21 when N+M-1 is above 256 [1,024 by Wish 13], after both texts have been taken, the road text first"
+-- once the road's text is taken: "21 when N+M-1 is above 256 [1,024 by Wish 13], after both texts have been taken, the road text first"
 abbrev pub Refused : List ℕ → List ℕ → Refusal → Type 0
-Refused t u (creeper r) = program.Refused u r
-Refused t u long = (P : List Statement) × (Q : List Statement) × Taken t P × Taken u Q × (most < length P + length Q - 1)
+Refused t u (Creeper r) = program.Refused u r
+Refused t u Long = (P : List Statement) × (Q : List Statement) × Taken t P × Taken u Q × (most < length P + length Q - 1)
 
 abbrev pub number : Refusal → ℕ
-number (creeper r) = program.number r
-number long = 21
+number (Creeper r) = program.number r
+number Long = 21
 
 -- 1, then 2 to 5 of the road's text t, then 2 to 5 of the creeper's u, then 21: the number of the first that applies
 abbrev pub JoinRefused : List ℕ → List ℕ → List ℕ → ℕ → Type 0
@@ -49,6 +45,6 @@ pub record JoinFinished (t u o q : List ℕ) (count bytes : ℕ) : Type 0 where
   pub theorem : JoinedTexts t u (take bytes q)
 
 -- "A refused call answers only its number and keeps all lent memory."
-abbrev pub JoinAnswers : List ℕ → List ℕ → List ℕ → List ℕ → JoinAnswer → Type 0
-JoinAnswers t u o q (answer.Refused n) = JoinRefused t u o n × (q ≡ o)
-JoinAnswers t u o q (answer.Joined m b) = JoinFinished t u o q m b
+abbrev pub JoinAnswers : List ℕ → List ℕ → List ℕ → List ℕ → Result Joined (calls.Refusal Refusal) → Type 0
+JoinAnswers t u o q (Err r) = JoinRefused t u o (number_of number r) × (q ≡ o)
+JoinAnswers t u o q (Ok j) = JoinFinished t u o q j.statements j.bytes

@@ -1,10 +1,10 @@
 // A call: joins a road and a creeper program into one. It takes any bytes, and has no `requires`.
 #![tactic(auto)]
 
-ghost use Rattle.join.specs.Join.{JoinAnswers};
+ghost use Rattle.join.specs.Join.{number, JoinAnswers};
 
-use calls::ROOM_NUMBER;
 use program::{MOST, TEXT_ROOM};
+use refusals::Numbered;
 
 // The new text has at least this many bytes.
 pub const TEXT_BYTES: usize = TEXT_ROOM;
@@ -12,40 +12,51 @@ pub const TEXT_BYTES: usize = TEXT_ROOM;
 // The refusal of two programs that are too long together.
 pub const LONG_NUMBER: u8 = 21;
 
-// Refused: document 01's number, or 21. Joined: the statements of the joined program, and the bytes of its text.
+// Why a call is refused whose road text is taken: the creeper's isn't, or both are too long together.
 #[derive(Clone, Copy)]
-pub enum JoinAnswer {
-    Refused(u8),
-    Joined(u32, u32),
+pub enum Refusal {
+    Creeper(program::Refusal),
+    Long,
+}
+
+impl Numbered for Refusal {
+    ghost number = { number };
+
+    fn number(self) -> u8 {
+        match self {
+            Refusal::Creeper(refusal) => refusal.number(),
+            Refusal::Long => LONG_NUMBER,
+        }
+    }
+}
+
+// The statements of the joined program, and the bytes of its text.
+#[derive(Clone, Copy)]
+pub struct Joined {
+    pub statements: u32,
+    pub bytes: u32,
 }
 
 // Puts the text of the joined program at the front of the lent bytes.
-pub fn join(road: &[u8], creeper: &[u8], text: &mut [u8]) -> JoinAnswer
+pub fn join(road: &[u8], creeper: &[u8], text: &mut [u8]) -> Result<Joined, calls::Refusal<Refusal>>
     ensures { JoinAnswers road.now creeper.now text.old text.new result }
 {
     if text.len() < TEXT_BYTES {
-        return JoinAnswer::Refused(ROOM_NUMBER);
+        return Err(calls::Refusal::Room);
     }
-    let first = program::read(road);
-    let taken = first.answer;
-    if let program::Answer::Refused(refusal) = taken {
-        return JoinAnswer::Refused(program::number_of(refusal));
-    }
-    let second = program::read(creeper);
-    let follows = second.answer;
-    if let program::Answer::Refused(refusal) = follows {
-        let number = program::number_of(refusal);
-        return JoinAnswer::Refused(number);
-    }
-    let p = first.program;
-    let q = second.program;
-    let n = p.count;
-    let m = q.count;
-    if MOST + 1 < n + m {
-        return JoinAnswer::Refused(LONG_NUMBER);
+    let p = program::read(road)?;
+    let q = match program::read(creeper) {
+        Ok(q) => q,
+        Err(refusal) => {
+            return Err(calls::Refusal::Text(Refusal::Creeper(refusal)));
+        }
+    };
+    if MOST + 1 < p.count + q.count {
+        return Err(calls::Refusal::Text(Refusal::Long));
     }
     let bytes = joining::write(p, q, text);
-    let statements = (n + m - 1) as u32;
-    let length = bytes as u32;
-    JoinAnswer::Joined(statements, length)
+    Ok(Joined {
+        statements: (p.count + q.count - 1) as u32,
+        bytes: bytes as u32,
+    })
 }

@@ -12,8 +12,7 @@ use Rattle.language.specs.Kept.{kept_of}
 use Rattle.language.specs.declared.Statement.{Statement}
 use Rattle.language.specs.declared.Statement.TheVariants.{Read, Write, Assign, Branch, Skip}
 use Rattle.program.specs.Program.{at, InPlace, Targets, WellFormed}
-use Rattle.arithmetic.specs.declared.Evaluated.{Evaluated}
-use Rattle.arithmetic.specs.declared.Evaluated.TheVariants.{Value, Fault}
+use Rattle.std.specs.Prelude.{Option, None, Some}
 use Rattle.machine.specs.Machine.{Final, written, faulted, State, before, ended, after, value, stored, perform, step_from}
 use Rattle.machine.specs.Answer.{Ends}
 use Rattle.machine.proofs.Runs.{perform-inside}
@@ -44,9 +43,9 @@ inner-unwritten n s input v us ks (Read y) p l e = clashing (sym e)
 inner-unwritten n s input v us ks (Write y) p l e = omega (arith, p)
 inner-unwritten n s input v us ks (Assign y a) p l e = go (value us a) e
   where
-    go : (g : Evaluated) → stored g y s us ≡ ended (written v ks) → ⊥
-    go (Value u) f = clashing (sym f)
-    go Fault f = let z : ◌≡◌ {A = ℕ} 0 1 = cc in omega arith
+    go : (g : Option ℕ) → stored g y s us ≡ ended (written v ks) → ⊥
+    go (Some u) f = clashing (sym f)
+    go None f = let z : ◌≡◌ {A = ℕ} 0 1 = cc in omega arith
 inner-unwritten n s input v us ks (Branch y a b) p l e = clashing (sym e)
 inner-unwritten n s input v us ks Skip p l e = clashing (sym e)
 
@@ -65,9 +64,9 @@ module _ (d n input v : ℕ) (us : List ℕ) where
   moved-performs s (Write y) p t = refl
   moved-performs s (Assign y a) p t = go (value us a)
     where
-      go : (g : Evaluated) → stored g y (d + suc s) us ≡ shift d (stored g y (suc s) us)
-      go (Value u) = ap (λ (k : ℕ). before k (set us y u)) (omega arith)
-      go Fault = refl
+      go : (g : Option ℕ) → stored g y (d + suc s) us ≡ shift d (stored g y (suc s) us)
+      go (Some u) = ap (λ (k : ℕ). before k (set us y u)) (omega arith)
+      go None = refl
   moved-performs s (Branch y a b) p t = go (eqb (get_or us y 0) 0)
     where
       go : (c : Bool) → before (pick c (d + b) (d + a) - 1) us ≡ shift d (before (pick c b a - 1) us)
@@ -81,9 +80,9 @@ moves-on n s v us (Read y) t k ws e = let h : s + 1 ≡ k = cc in omega arith
 moves-on n s v us (Write y) t k ws e = clashing e
 moves-on n s v us (Assign y a) t k ws e = go (value us a) e
   where
-    go : (g : Evaluated) → stored g y s us ≡ before k ws → 0 < k
-    go (Value u) f = let h : s + 1 ≡ k = cc in omega arith
-    go Fault f = clashing f
+    go : (g : Option ℕ) → stored g y s us ≡ before k ws → 0 < k
+    go (Some u) f = let h : s + 1 ≡ k = cc in omega arith
+    go None f = clashing f
 moves-on n s v us (Branch y a b) t k ws e = go (eqb (get_or us y 0) 0) e
   where
     go : (c : Bool) → before (pick c b a - 1) us ≡ before k ws → 0 < k

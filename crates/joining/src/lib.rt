@@ -67,12 +67,10 @@ pub fn write(road: Program, creeper: Program, out: &mut [u8]) -> usize
     let size = creeper.count;
     let last = count - 1;
     let mut at: usize = 0;
-    let mut s: usize = 0;
-    while s < last {
+    for s in 0..last {
         let e = road.entries[s];
         let i = encoding::statement_of(e);
         at = statement_writer::line(out, at, i);
-        s += 1;
     }
     let write = road.entries[last];
     let read = creeper.entries[0];
@@ -83,13 +81,11 @@ pub fn write(road: Program, creeper: Program, out: &mut [u8]) -> usize
     let seam = Statement::Assign(y, Expression::Single(Operand::Variable(x)));
     at = statement_writer::line(out, at, seam);
     let d = last as u32;
-    let mut k: usize = 1;
-    while k < size {
+    for k in 1..size {
         let e = creeper.entries[k];
         let i = encoding::statement_of(e);
         let j = moved(i, d);
         at = statement_writer::line(out, at, j);
-        k += 1;
     }
     at
 }

@@ -1,5 +1,5 @@
 -- What `judge` answers, and what it leaves in the lent bytes, for every program text, list of marks and buffers.
-use Rattle.std.specs.Prelude.{◌≡◌, ◌⊎◌, List, ℕ, ◌≤◌, ◌<◌, length, get_or, take}
+use Rattle.std.specs.Prelude.{◌≡◌, ◌⊎◌, List, ℕ, ◌≤◌, ◌<◌, length, get_or, take, Result, Ok, Err}
 use Rattle.language.specs.declared.Statement.{Statement}
 use Rattle.statement_writer.specs.Writing.{Put}
 use Rattle.program.specs.Program.{text, text_room, Taken}
@@ -8,9 +8,10 @@ use Rattle.marks.specs.Reading.{Lined}
 use Rattle.marks.specs.declared.Mark.{Mark}
 use Rattle.rewriting.specs.Verdicts.{Verdicts, accepted_count, Rewritten}
 use Rattle.demand.specs.Demand.{Demand3}
-use Rattle.calls.specs.Refusals.{CallRefused}
-use Rattle.judge.specs.declared.JudgeAnswer.{JudgeAnswer}
-use Rattle.judge.specs.declared.JudgeAnswer.TheVariants.{Refused, Finished}
+use Rattle.marks.specs.declared.Refusal as marks-refusal
+use Rattle.calls.specs.Refusals.{CallRefused, number_of}
+use Rattle.calls.specs.declared.Refusal.{Refusal}
+use Rattle.judge.specs.declared.Judged.{Judged}
 
 -- "1: .. verdicts under 256 bytes or new text under 8,704 bytes", by document 02 1,024 and 34,816: as many marks and lines as there can be
 abbrev pub verdict_bytes : ℕ
@@ -56,6 +57,6 @@ pub record JudgeFinished (t u : List ℕ) (o q : Lent) (count accepted bytes : �
   pub demand : Demand3 t u q.verdicts (take bytes q.new)
 
 -- "A refused call answers only its number and keeps all lent memory."
-abbrev pub JudgeAnswers : List ℕ → List ℕ → Lent → Lent → JudgeAnswer → Type 0
-JudgeAnswers t u o q (Refused n) = JudgeRefused t u o.verdicts o.new n × (q ≡ o)
-JudgeAnswers t u o q (Finished count accepted bytes) = JudgeFinished t u o q count accepted bytes
+abbrev pub JudgeAnswers : List ℕ → List ℕ → Lent → Lent → Result Judged (Refusal marks-refusal.Refusal) → Type 0
+JudgeAnswers t u o q (Err r) = JudgeRefused t u o.verdicts o.new (number_of marks.number r) × (q ≡ o)
+JudgeAnswers t u o q (Ok j) = JudgeFinished t u o q j.marks j.accepted j.bytes

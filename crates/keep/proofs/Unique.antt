@@ -1,19 +1,42 @@
 -- A call of `keep` has one answer, and leaves one content of the lent bytes. Assumes nothing.
 use mathlib.Core.Path.{◌≡◌, refl, sym, ap, ◌∙◌}
 use mathlib.Core.Logic.{inl, inr}
-use mathlib.Core.List.{List}
+use mathlib.Core.List.{List, [], ◌∷◌}
 use Prim.Native.Nat.{ℕ, ◌+◌, ◌*◌, ◌≤◌, ◌<◌}
 use native.Mathlib.Decide.{dec_lt}
 use native.Mathlib.Omega.{arith}
-use lib.ListN.{length}
+use lib.Dec.{eqb}
+use lib.ListN.{length, get_or}
 use lib.Seq.{sets}
+use Rattle.std.specs.Prelude.{Result, Ok, Err}
+use Rattle.base.specs.Pick.{pick}
+use Rattle.program.specs.declared.Refusal.TheVariants as program
+use Rattle.calls.specs.Refusals.{number_of}
+use Rattle.calls.specs.declared.Refusal as call
+use Rattle.calls.specs.declared.Refusal.TheVariants as refusal
 use Rattle.calls.proofs.Unique.{refuses-unique, refuses-not}
 use Rattle.stages.specs.Stages.{stage_bytes, place_room, written}
 use Rattle.stages.specs.Choice.{FirstEmpty, Chosen, Full}
 use Rattle.stages.proofs.Places.{holds-place}
-use Rattle.keep.specs.Keep.{Refusal, misnamed, full, Refused, number, KeepRefused, KeepFinished, KeepAnswers}
-use Rattle.keep.specs.declared.KeepAnswer.{KeepAnswer}
-use Rattle.keep.specs.declared.KeepAnswer.TheVariants as keep
+use Rattle.keep.specs.Keep.{Refused, number, KeepRefused, KeepFinished, KeepAnswers}
+use Rattle.keep.specs.declared.Refusal.{Refusal}
+use Rattle.keep.specs.declared.Refusal.TheVariants.{Misnamed, Full as NoPlace}
+
+-- the refusal with number n
+abbrev named : ℕ → call.Refusal Refusal
+named n =
+    get_or
+    (refusal.Room ∷ refusal.Room ∷ refusal.Program program.Misspelled ∷ refusal.Program program.LineCount ∷ refusal.Program program.Placement ∷ refusal.Program program.Target ∷ [])
+    n (pick (eqb n 24) (refusal.Text NoPlace) (refusal.Text Misnamed))
+
+named-number : (r : call.Refusal Refusal) → named (number_of number r) ≡ r
+named-number refusal.Room = refl
+named-number (refusal.Program program.Misspelled) = refl
+named-number (refusal.Program program.LineCount) = refl
+named-number (refusal.Program program.Placement) = refl
+named-number (refusal.Program program.Target) = refl
+named-number (refusal.Text Misnamed) = refl
+named-number (refusal.Text NoPlace) = refl
 
 module _ {mem : List ℕ} where
   empty-unique : {k j : ℕ} → FirstEmpty mem k → FirstEmpty mem j → k ≡ j
@@ -39,26 +62,28 @@ module _ (mem n t : List ℕ) where
   lent-apart s e = omega arith
 
   second-unique : (r s : Refusal) → Refused mem n r → Refused mem n s → r ≡ s
-  second-unique misnamed misnamed a b = refl
-  second-unique misnamed full a b = absurd (a b.0)
-  second-unique full misnamed a b = absurd (b a.0)
-  second-unique full full a b = refl
+  second-unique Misnamed Misnamed a b = refl
+  second-unique Misnamed NoPlace a b = absurd (a b.0)
+  second-unique NoPlace Misnamed a b = absurd (b a.0)
+  second-unique NoPlace NoPlace a b = refl
 
   second-not : {q : List ℕ} {k : ℕ} → KeepFinished mem n t q k → (r : Refusal) → Refused mem n r → ⊥
-  second-not f misnamed a = a f.valid
-  second-not f full a = chosen-not f.chosen a.1
+  second-not f Misnamed a = a f.valid
+  second-not f NoPlace a = chosen-not f.chosen a.1
 
   keep-not : (r : ℕ) {q : List ℕ} {k : ℕ} → KeepRefused mem n t r → KeepFinished mem n t q k → ⊥
   keep-not r a f = refuses-not lent-apart t (Refused mem n) number r a f.room f.taken (second-not f)
 
-  keep-finished : {k j : ℕ} {q r : List ℕ} → KeepFinished mem n t q k → KeepFinished mem n t r j → (keep.Kept k ≡ keep.Kept j) × (q ≡ r)
+  keep-finished : {k j : ℕ} {q r : List ℕ} → KeepFinished mem n t q k → KeepFinished mem n t r j → (k ≡ j) × (q ≡ r)
   keep-finished a b =
       let same : a.k ≡ b.k = chosen-unique a.chosen b.chosen in
-      (ap keep.Kept (a.place ∙ ap (λ (i : ℕ). i + 1) same ∙ sym b.place), a.kept ∙ ap (λ (i : ℕ). sets mem (place_room * i) (written n t)) same ∙ sym b.kept)
+      (a.place ∙ ap (λ (i : ℕ). i + 1) same ∙ sym b.place, a.kept ∙ ap (λ (i : ℕ). sets mem (place_room * i) (written n t)) same ∙ sym b.kept)
 
   -- a call of `keep` has one answer, and leaves one content of the lent bytes
-  pub keep-unique : (a b : KeepAnswer) (q r : List ℕ) → KeepAnswers mem n t q a → KeepAnswers mem n t r b → (a ≡ b) × (q ≡ r)
-  keep-unique (keep.Refused k) (keep.Refused j) q r x y = (ap keep.Refused (refuses-unique lent-apart t (Refused mem n) number second-unique k j x.0 y.0), x.1 ∙ sym y.1)
-  keep-unique (keep.Refused k) (keep.Kept j) q r x y = absurd (keep-not k x.0 y)
-  keep-unique (keep.Kept k) (keep.Refused j) q r x y = absurd (keep-not j y.0 x)
-  keep-unique (keep.Kept k) (keep.Kept j) q r x y = keep-finished x y
+  pub keep-unique : (a b : Result ℕ (call.Refusal Refusal)) (q r : List ℕ) → KeepAnswers mem n t q a → KeepAnswers mem n t r b → (a ≡ b) × (q ≡ r)
+  keep-unique (Err k) (Err j) q r x y =
+      let same = refuses-unique lent-apart t (Refused mem n) number second-unique (number_of number k) (number_of number j) x.0 y.0 in
+      (ap Err (sym (named-number k) ∙ ap named same ∙ named-number j), x.1 ∙ sym y.1)
+  keep-unique (Err k) (Ok j) q r x y = absurd (keep-not (number_of number k) x.0 y)
+  keep-unique (Ok k) (Err j) q r x y = absurd (keep-not (number_of number j) y.0 x)
+  keep-unique (Ok k) (Ok j) q r x y = let f = keep-finished x y in (ap Ok f.0, f.1)

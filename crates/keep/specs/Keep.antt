@@ -1,28 +1,24 @@
 -- What `keep` answers, and what it leaves in the lent bytes, for every bytes, name and program text.
-use Rattle.std.specs.Prelude.{◌≡◌, List, ℕ, ◌+◌, ◌*◌, ◌≤◌, ◌<◌, length}
+use Rattle.std.specs.Prelude.{◌≡◌, List, ℕ, ◌+◌, ◌*◌, ◌≤◌, ◌<◌, length, Result, Ok, Err}
 use Rattle.std.proofs.lemmas.List.Edits.{sets}
 use Rattle.language.specs.declared.Statement.{Statement}
 use Rattle.program.specs.Program.{Taken}
-use Rattle.calls.specs.Refusals.{CallRefused}
+use Rattle.calls.specs.Refusals.{CallRefused, number_of}
+use Rattle.calls.specs.declared.Refusal as call
 use Rattle.stage_names.specs.Names.{name_number, ValidName}
 use Rattle.stages.specs.Stages.{places, stage_bytes, place_room, written, Holds}
 use Rattle.stages.specs.Choice.{Chosen, Full}
-use Rattle.keep.specs.declared.KeepAnswer.{KeepAnswer}
-use Rattle.keep.specs.declared.KeepAnswer.TheVariants as answer
-
--- what is refused once the program's text is taken
-pub data Refusal : Type 0 where
-  misnamed : Refusal
-  full : Refusal
+use Rattle.keep.specs.declared.Refusal.{Refusal}
+use Rattle.keep.specs.declared.Refusal.TheVariants.{Misnamed, Full as NoPlace}
 
 -- "Turned away, after any program text has been taken: 23 for a wrong name, 24 for keeping a new name where all eight places hold others"
 abbrev pub Refused : List ℕ → List ℕ → Refusal → Type 0
-Refused mem n misnamed = ValidName n → ⊥
-Refused mem n full = ValidName n × Full mem n
+Refused mem n Misnamed = ValidName n → ⊥
+Refused mem n NoPlace = ValidName n × Full mem n
 
 abbrev pub number : Refusal → ℕ
-number misnamed = name_number
-number full = 24
+number Misnamed = name_number
+number NoPlace = 24
 
 -- 1, then 2 to 5, then 23, then 24: the number of the first that applies
 abbrev pub KeepRefused : List ℕ → List ℕ → List ℕ → ℕ → Type 0
@@ -45,6 +41,6 @@ pub record KeepFinished (mem n t q : List ℕ) (told : ℕ) : Type 0 where
   pub holds : Holds q k n t
 
 -- "A refused call answers only its number and keeps all lent memory."
-abbrev pub KeepAnswers : List ℕ → List ℕ → List ℕ → List ℕ → KeepAnswer → Type 0
-KeepAnswers mem n t q (answer.Refused r) = KeepRefused mem n t r × (q ≡ mem)
-KeepAnswers mem n t q (answer.Kept k) = KeepFinished mem n t q k
+abbrev pub KeepAnswers : List ℕ → List ℕ → List ℕ → List ℕ → Result ℕ (call.Refusal Refusal) → Type 0
+KeepAnswers mem n t q (Ok k) = KeepFinished mem n t q k
+KeepAnswers mem n t q (Err r) = KeepRefused mem n t (number_of number r) × (q ≡ mem)

@@ -6,20 +6,31 @@ ghost use Rattle.std.proofs.lemmas.List.Edits.{sets};
 ghost use Rattle.program.specs.Program.{text_room};
 ghost use Rattle.stage_names.specs.Names.{name_bytes};
 ghost use Rattle.stages.specs.Stages.{places, stage_bytes, place_room, written};
-ghost use Rattle.keep.specs.Keep.{KeepAnswers};
+ghost use Rattle.keep.specs.Keep.{number, KeepAnswers};
 
-use calls::ROOM_NUMBER;
+use refusals::Numbered;
 use stage_names::NAME_NUMBER;
-use stages::{PLACE_ROOM, Place, STAGE_BYTES};
+use stages::{PLACE_ROOM, STAGE_BYTES};
 
-// The refusal of a new name where all places hold others.
+// The number of the refusal of a new name where all places hold others.
 pub const FULL_NUMBER: u8 = 24;
 
-// Refused: document 01's number, 23 or 24. Kept: the place, from 1 on.
+// What is refused once the program's text is taken: a wrong name, and a new one where all places hold others.
 #[derive(Clone, Copy)]
-pub enum KeepAnswer {
-    Refused(u8),
-    Kept(u32),
+pub enum Refusal {
+    Misnamed,
+    Full,
+}
+
+impl Numbered for Refusal {
+    ghost number = { number };
+
+    fn number(self) -> u8 {
+        match self {
+            Refusal::Misnamed => NAME_NUMBER,
+            Refusal::Full => FULL_NUMBER,
+        }
+    }
 }
 
 // Puts name, length and text at the front of place k.
@@ -35,27 +46,20 @@ fn write(stages: &mut [u8], k: usize, name: &[u8], program: &[u8])
     statement_writer::word(stages, high, program);
 }
 
-// Keeps the program under the name, in the place that holds the name or else in the first empty one.
-pub fn keep(stages: &mut [u8], name: &[u8], program: &[u8]) -> KeepAnswer
+// Keeps the program under the name, in the place that holds the name or else in the first empty one: the place, from 1 on.
+pub fn keep(stages: &mut [u8], name: &[u8], program: &[u8]) -> Result<u32, calls::Refusal<Refusal>>
     ensures { KeepAnswers stages.old name.now program.now stages.new result }
 {
     if stages.len() < STAGE_BYTES {
-        return KeepAnswer::Refused(ROOM_NUMBER);
+        return Err(calls::Refusal::Room);
     }
-    let reading = program::read(program);
-    let answer = reading.answer;
-    if let program::Answer::Refused(refusal) = answer {
-        return KeepAnswer::Refused(program::number_of(refusal));
-    }
+    program::read(program)?;
     if !stage_names::valid(name) {
-        return KeepAnswer::Refused(NAME_NUMBER);
+        return Err(calls::Refusal::Text(Refusal::Misnamed));
     }
-    let chosen = stages::choose(&*stages, name);
-    match chosen {
-        Place::At(k) => {
-            write(stages, k, name, program);
-            KeepAnswer::Kept(k as u32 + 1)
-        }
-        Place::Nowhere => KeepAnswer::Refused(FULL_NUMBER),
-    }
+    let Some(k) = stages::choose(&*stages, name) else {
+        return Err(calls::Refusal::Text(Refusal::Full));
+    };
+    write(stages, k, name, program);
+    Ok(k as u32 + 1)
 }

@@ -7,7 +7,7 @@ use native.Mathlib.Decide.{ℕ_discrete, dec_lt}
 use native.Mathlib.Numerals.{add-one}
 use native.Mathlib.Omega.{arith}
 use lib.Dec.{eqb}
-use lib.ListN.{length, get_or, set, length-set}
+use lib.ListN.{get_or, set, length-set}
 use lib.Seq.{get_or-set_same, get_or-set_other}
 use borrow.Author.Count.{below_more}
 use borrow.Author.Tests.{eqb-true, eqb-false, eq-eqb, ne_eqb}
@@ -15,7 +15,7 @@ use Rattle.base.specs.Pick.{pick}
 use Rattle.base.proofs.Bools.{last-or-below}
 use Rattle.bits.specs.Row.{Zeros}
 use Rattle.sharing.specs.Sharing.{most_tables}
-use Rattle.keys.specs.Store.{key_in, Formed, lists, hash_of, latest, hash_at, Store, Looked}
+use Rattle.keys.specs.Store.{key_in, Formed, lists, hash_of, latest, hash_at, Store, Keyed, Unkeyed}
 
 -- r is the last of the first n numbers at which f is h, counted from 1, or 0
 pub record Latest (f : ℕ → ℕ) (h n r : ℕ) : Type 0 where
@@ -140,8 +140,8 @@ module _ {u entries links heads : List ℕ} {count : ℕ} (s : Store u entries l
         at i c d e (no f) (yes z) = other (rw z at e)
         at i c d e (no f) (no z) = r.none i (omega arith) d e
 
-    pub search-found : key_in u (get_or entries (p - 1) 0) ≡ key_in u w → Looked u entries count w (p - 1)
-    search-found e = let b = place in record { within = omega arith; found = λ _. e; none = λ z. absurd (omega arith) }
+    pub search-found : key_in u (get_or entries (p - 1) 0) ≡ key_in u w → Keyed u entries count w (p - 1)
+    search-found e = record { inside = place; same = e }
 
-  pub search-none : {p : ℕ} → Search u entries count w p → p ≤ 0 → Looked u entries count w count
-  search-none r z = record { within = omega arith; found = λ l. absurd (omega arith); none = λ _ i l. r.none i (omega arith) l }
+  pub search-none : {p : ℕ} → Search u entries count w p → p ≤ 0 → Unkeyed u entries count w
+  search-none r z i l = r.none i (omega arith) l

@@ -1,42 +1,20 @@
 -- What entries tell, when two tell one key, and the hash of a text byte after byte. Assumes nothing.
 use mathlib.Core.Path.{◌≡◌, sym, ap, ◌∙◌}
-use mathlib.Core.List.{List, ◌∷◌, ◌++◌}
+use mathlib.Core.List.{List}
 use Prim.Native.Nat.{ℕ, suc, ◌+◌, ◌-◌, ◌*◌, ◌%◌, ◌≤◌, ◌<◌}
 use native.Mathlib.Decide.{ℕ_discrete}
 use native.Mathlib.Numerals.{add-one}
 use native.Mathlib.Omega.{arith}
-use lib.ListN.{length, get_or, take, drop, length-drop, take-append-drop}
-use lib.Seq.{drop-cons, length-take-le, take_at}
+use lib.ListN.{length, get_or, drop, length-drop}
+use lib.Seq.{drop-cons, length-take-le}
 use borrow.Author.Tests.{eq-eqb, ne_eqb}
-use Rattle.tokens.specs.Parsing.{found, misspelled, parse_word}
-use Rattle.tokens.proofs.Parse.{skip-sound}
 use Rattle.condition.specs.Words.{word, code_in, left_in, start_in, end_in}
-use Rattle.condition_reader.proofs.Spelling.{skip-complete}
 use Rattle.sharing.specs.Keys.{text, operator}
 use Rattle.keys.specs.Store.{span, key_in, Formed, hash_from}
-
--- ---- the bytes of two spans
 
 module _ (u : List ℕ) where
   pub span-length : (a b : ℕ) → b ≤ length u → length (span a b u) ≡ b - a
   span-length a b l = length-take-le (b - a) (drop a u) (rw (length-drop a u) (omega arith))
-
-  module _ (a b c d : ℕ) (l : b ≤ length u) (m : d ≤ length u) where
-    pub bytes_apart : (b - a ≡ d - c → ⊥) → span a b u ≡ span c d u → ⊥
-    bytes_apart n e = n (sym (span-length a b l) ∙ ap length e ∙ span-length c d m)
-
-    module _ (same : b - a ≡ d - c) where
-      pub bytes-found : {x : Unit} {t : List ℕ} → parse_word (span a b u) (drop c u) ≡ found x t → span a b u ≡ span c d u
-      bytes-found {t = t} e =
-          sym (ap (take (d - c)) (skip-sound (span a b u) (drop c u) e) ∙ take_at (span a b u) t (d - c) (span-length a b l ∙ same))
-
-      pub bytes-missing : parse_word (span a b u) (drop c u) ≡ misspelled → span a b u ≡ span c d u → ⊥
-      bytes-missing e s =
-          let f : parse_word (span a b u) (drop c u) ≡ found tt (drop (d - c) (drop c u)) =
-          ap (parse_word (span a b u)) (sym (take-append-drop (d - c) (drop c u)) ∙ ap (λ (x : List ℕ). x ++ drop (d - c) (drop c u)) (sym s))
-          ∙ skip-complete (span a b u) (drop (d - c) (drop c u)) in
-          let z : ◌≡◌ {A = ℕ} 0 1 = cc in
-          omega arith
 
   -- one byte more of a hash
   pub hash-step : (h i end : ℕ) → i < end → end ≤ length u

@@ -51,8 +51,11 @@ pub record Store (u entries links heads : List ℕ) (count : ℕ) : Type 0 where
   pub linked : (i : ℕ) → i < count → get_or links i 0 ≡ latest (hash_at u entries) (hash_at u entries i) i
   pub headed : (h : ℕ) → h < lists → get_or heads h 0 ≡ latest (hash_at u entries) h count
 
--- r is the number of the entry with the key of w, or `count` where none has it
-pub record Looked (u entries : List ℕ) (count w r : ℕ) : Type 0 where
-  pub within : r ≤ count
-  pub found : r < count → key_in u (get_or entries r 0) ≡ key_in u w
-  pub none : r ≡ count → (i : ℕ) → i < count → key_in u (get_or entries i 0) ≡ key_in u w → ⊥
+-- entry i has the key of w
+pub record Keyed (u entries : List ℕ) (count w i : ℕ) : Type 0 where
+  pub inside : i < count
+  pub same : key_in u (get_or entries i 0) ≡ key_in u w
+
+-- no entry has it
+abbrev pub Unkeyed : List ℕ → List ℕ → ℕ → ℕ → Type 0
+Unkeyed u entries count w = (i : ℕ) → i < count → key_in u (get_or entries i 0) ≡ key_in u w → ⊥

@@ -1,15 +1,14 @@
 // Keys of parts, each held once and looked up by its hash.
 #![tactic(auto)]
 
-ghost use Rattle.std.specs.Prelude.{◌≡◌, ◌+◌, ◌≤◌, ◌<◌, length, set};
+ghost use Rattle.std.specs.Prelude.{◌≡◌, ◌+◌, ◌≤◌, ◌<◌, length, set, MatchOption};
 ghost use Rattle.base.specs.Decides.{Decides};
 ghost use Rattle.bits.specs.Row.{Zeros};
 ghost use Rattle.sharing.specs.Sharing.{most_tables};
-ghost use Rattle.keys.specs.Store.{span, key_in, Formed, lists, hash_from, hash_of, Store, Looked};
+ghost use Rattle.keys.specs.Store.{span, key_in, Formed, lists, hash_from, hash_of, Store, Keyed, Unkeyed};
 
 use condition::{END, FIELD, LEFT, START};
 use sharing::MOST_TABLES;
-use tokens::WordRead;
 
 // Keys are listed by this many hashes.
 pub const LISTS: usize = 256;
@@ -32,22 +31,14 @@ pub fn blank_heads() -> [u16; LISTS]
     [0; LISTS]
 }
 
-fn wide(b: u8) -> usize
-    ensures { result ≡ b }
-{
-    b as usize
-}
-
 // The hash of the bytes from `start` to `end`.
 fn hash_text(text: &[u8], start: usize, end: usize) -> usize
     requires { (start ≤ end) × (end ≤ length text.now) }
     ensures { result ≡ hash_from 0 (span start end text.now) }
 {
     let mut h: usize = 0;
-    let mut i = start;
-    while i < end {
-        h = (h * 31 + wide(text[i])) % 65536;
-        i += 1;
+    for i in start..end {
+        h = (h * 31 + text[i] as usize) % 65536;
     }
     h
 }
@@ -73,13 +64,7 @@ fn same_bytes(text: &[u8], a: usize, b: usize, c: usize, d: usize) -> bool
     requires { (a ≤ b) × (b ≤ length text.now) × (c ≤ d) × (d ≤ length text.now) }
     ensures { Decides result (span a b text.now ≡ span c d text.now) }
 {
-    if b - a != d - c {
-        return false;
-    }
-    let WordRead::Found(_) = tokens::word(text, c, &text[a..b]) else {
-        return false;
-    };
-    true
+    text[a..b] == text[c..d]
 }
 
 // Whether two entries tell one key.
@@ -100,7 +85,7 @@ fn same_key(text: &[u8], v: u64, w: u64) -> bool
     same_bytes(text, a, b, c, d)
 }
 
-// The number of the entry that tells the key of w; `count` where none does.
+// The number of the entry that tells the key of w, if one does.
 pub fn find(
     text: &[u8],
     w: u64,
@@ -108,21 +93,21 @@ pub fn find(
     links: &[u16],
     heads: &[u16],
     count: usize,
-) -> usize
+) -> Option<usize>
     requires { Formed text.now w × Store text.now entries.now links.now heads.now count }
-    ensures { Looked text.now entries.now count w result }
+    ensures { MatchOption result (Unkeyed text.now entries.now count w) (Keyed text.now entries.now count w) }
 {
     let h = hash_of(text, w);
     let mut p = heads[h] as usize;
+    // Lists of numbers, not of boxes: the project allocates nothing.
     while 0 < p {
         let i = p - 1;
-        let e = entries[i];
-        if same_key(text, e, w) {
-            return i;
+        if same_key(text, entries[i], w) {
+            return Some(i);
         }
         p = links[i] as usize;
     }
-    count
+    None
 }
 
 // One entry more.

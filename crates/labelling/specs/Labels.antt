@@ -30,7 +30,3 @@ pub record Spare (n : ℕ) (places through out : List ℕ) : Type 0 where
   pub of_places : length places ≡ length out
   pub of_through : length through ≡ length out
   pub whole : (s : ℕ) → member places s ≡ ltb s n
-
--- a proof device: the code's FEW_PLACES
-abbrev pub few_places : ℕ
-few_places = 256

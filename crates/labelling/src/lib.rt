@@ -7,9 +7,9 @@ ghost use Rattle.ctl.specs.Paths.{Paths, quant, So};
 ghost use Rattle.ctl.specs.Tables.{Onto, Grown};
 ghost use Rattle.graph.specs.Lists.{step, Linked};
 ghost use Rattle.graph.specs.Graphs.{places, entries, edges_at, head_of, step_of, DirectionsAt};
-ghost use Rattle.labelling.specs.Labels.{Said, Labelled, Rows, Spare, few_places};
+ghost use Rattle.labelling.specs.Labels.{Said, Labelled, Rows, Spare};
 
-use graph::{EDGES, ENTRIES, PLACES};
+use graph::{Edges, PLACES};
 
 // The most places of a graph that is labelled in short rooms.
 const FEW_PLACES: usize = 256;
@@ -25,20 +25,15 @@ pub enum Operator {
 }
 
 // The places from which some step leads into p, or all steps do.
-fn preimage(all: bool, head: &[u16], link: &[u16], to: &[u16], p: &[u64], out: &mut [u64])
-    requires linked { Linked head.now link.now to.now }
-    requires head_in_bounds { (length head.now ≤ length p.now * 64) × (length head.now ≤ length out.old * 64) }
-    ensures { Labelled (length head.now) (member out.new) (Onto (quant all) (step head.now link.now to.now) (So (member p.now))) }
+fn preimage(all: bool, steps: Edges, p: &[u64], out: &mut [u64])
+    requires linked { Linked steps.head.now steps.link.now steps.to.now }
+    requires head_in_bounds { (length steps.head.now ≤ length p.now * 64) × (length steps.head.now ≤ length out.old * 64) }
+    ensures { Labelled (length steps.entry.head.now) (member out.new) (Onto (quant all) (step steps.entry.head.now steps.entry.link.now steps.entry.to.now) (So (member p.now))) }
 {
     bits::clear(out);
-    let n = head.len();
-    let mut s: usize = 0;
-    while s < n {
-        if graph::onto(all, head, link, to, s, p) {
+    for s in 0..steps.head.len() {
+        if steps.onto(all, s, p) {
             bits::insert(out, s);
-            s += 1;
-        } else {
-            s += 1;
         }
     }
 }
@@ -50,10 +45,7 @@ fn next(all: bool, n: usize, steps: &[u16], p: &[u64], out: &mut [u64])
     requires n_in_bounds { (n ≤ length p.now * 64) × (n ≤ length out.old * 64) }
     ensures { Labelled n (member out.new) (Onto (quant all) (step_of n (edges_at steps.now)) (So (member p.now))) }
 {
-    let head = &steps[..PLACES];
-    let link = &steps[PLACES..PLACES + EDGES];
-    let to = &steps[PLACES + EDGES..ENTRIES];
-    preimage(all, &head[..n], link, to, p, out);
+    preimage(all, Edges::of(n, steps), p, out);
 }
 
 // Room for a number for each place.
@@ -63,44 +55,29 @@ pub fn blank() -> [u16; PLACES]
     [0; PLACES]
 }
 
-// Room for a number for each place of a graph with few.
-fn short_blank() -> [u16; FEW_PLACES]
-    ensures { Zeros few_places result }
-{
-    [0; FEW_PLACES]
-}
-
-// `until` with lent rooms: what is left of each place's list, and the stack of the worklist.
-fn until_in(
+// `until` with rooms of N numbers: what is left of each place's list, and the stack of the worklist.
+fn until_in<const N: usize>(
     all: bool,
     n: usize,
     steps: &[u16],
     opposite: &[u16],
     p: &[u64],
     set: &mut [u64],
-    rest: &mut [u16],
-    stack: &mut [u16],
 )
     requires directions_at { DirectionsAt n steps.now opposite.now }
     requires n_in_bounds { (n ≤ length p.now * 64) × (n ≤ length set.old * 64) }
-    requires n_in_bounds_2 { (n ≤ length rest.old) × (n ≤ length stack.old) }
+    requires n_in_room { (n ≤ N) × (N ≤ places) }
     ensures { Grown (quant all) n (step_of n (edges_at steps.now)) (member p.now) (member set.old) (member set.new) }
 {
-    let head = &steps[..PLACES];
-    let link = &steps[PLACES..PLACES + EDGES];
-    let to = &steps[PLACES + EDGES..ENTRIES];
-    let entry = &opposite[..PLACES];
-    let chain = &opposite[PLACES..PLACES + EDGES];
-    let from = &opposite[PLACES + EDGES..ENTRIES];
-    graph::copy(&head[..n], &mut rest[..n]);
+    let mut rest = [0; N];
+    let mut stack = [0; N];
+    let steps = Edges::of(n, steps);
+    let opposite = Edges::of(n, opposite);
+    rest[..n].copy_from_slice(steps.head);
     worklist::close(
         all,
-        &head[..n],
-        link,
-        to,
-        &entry[..n],
-        chain,
-        from,
+        steps,
+        opposite,
         p,
         set,
         &mut rest[..n],
@@ -116,13 +93,9 @@ fn until(all: bool, n: usize, steps: &[u16], opposite: &[u16], p: &[u64], set: &
     ensures { Grown (quant all) n (step_of n (edges_at steps.now)) (member p.now) (member set.old) (member set.new) }
 {
     if n <= FEW_PLACES {
-        let mut rest = short_blank();
-        let mut stack = short_blank();
-        until_in(all, n, steps, opposite, p, set, &mut rest, &mut stack);
+        until_in::<FEW_PLACES>(all, n, steps, opposite, p, set);
     } else {
-        let mut rest = blank();
-        let mut stack = blank();
-        until_in(all, n, steps, opposite, p, set, &mut rest, &mut stack);
+        until_in::<PLACES>(all, n, steps, opposite, p, set);
     }
 }
 

@@ -17,13 +17,13 @@ pub const CONSTANT_ROOM: usize = 1 + NUMBER_DIGITS;
 
 pub const VARIABLE_ROOM: usize = 3;
 
-#[derive(Clone, Copy)]
+#[derive(Clone, Copy, PartialEq, Eq, Debug)]
 pub enum Operand {
     Variable(u8),
     Constant(u32),
 }
 
-#[derive(Clone, Copy)]
+#[derive(Clone, Copy, PartialEq, Eq, Debug)]
 pub enum Operator {
     Add,
     Subtract,
@@ -33,14 +33,14 @@ pub enum Operator {
     Divide,
 }
 
-#[derive(Clone, Copy)]
+#[derive(Clone, Copy, PartialEq, Eq, Debug)]
 pub enum Expression {
     Single(Operand),
     Binary(Operand, Operator, Operand),
 }
 
 // The targets of a branch are statement numbers, counted from 1.
-#[derive(Clone, Copy)]
+#[derive(Clone, Copy, PartialEq, Eq, Debug)]
 pub enum Statement {
     Read(u8),
     Write(u8),

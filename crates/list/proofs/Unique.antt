@@ -1,5 +1,5 @@
 -- A call of `list` has one answer, tells one count of each set, and leaves one list. Assumes nothing.
-use mathlib.Core.Path.{◌≡◌, refl, sym, ap, ◌∙◌, subst}
+use mathlib.Core.Path.{◌≡◌, sym, ap, ◌∙◌, subst}
 use mathlib.Core.Logic.{inl, inr}
 use mathlib.Core.List.{List}
 use Prim.Native.Nat.{ℕ, ◌≤◌, ◌<◌}
@@ -12,12 +12,13 @@ use Rattle.program.proofs.RoundTrip.{taken-unique}
 use Rattle.program.proofs.Unique.{refused-unique, taken_refused}
 use Rattle.program.specs.Program.{Taken}
 use Rattle.program.specs.Reading as program
-use Rattle.listing.proofs.Counts.{counted-unique, uncounted-unique}
+use Rattle.listing.proofs.Counts.{counted-unique}
 use Rattle.listing.proofs.Relisted.{Words, lists_agree}
 use Rattle.listing.specs.Listing.{list_words, ListOf, Counted}
-use Rattle.listing.specs.declared.ListAnswer.TheVariants as list
-use Rattle.listing.specs.declared.ListAnswer.{ListAnswer}
-use Rattle.list.specs.List.{ListRefused, ListMade, ListAnswers}
+use Rattle.std.specs.Prelude.{Result, Ok, Err}
+use Rattle.listing.specs.declared.Ones.{Ones}
+use Rattle.list.specs.declared.Refusal.{Refusal}
+use Rattle.list.specs.List.{number, ListRefused, ListMade, ListAnswers}
 
 module _ (t old : List ℕ) where
   number-unique : {n m : ℕ} → ListRefused t old n → ListRefused t old m → n ≡ m
@@ -48,10 +49,14 @@ module _ (t old : List ℕ) where
             go m (no l) = a.past m (omega arith) ∙ sym (b.past m (omega arith))
 
   -- a call of `list` has one answer, tells one count of each set, and leaves one list
-  pub list-unique : (a b : ListAnswer) (new other d u e v : List ℕ) → Words new → Words other
-      → ListAnswers t old new a d u → ListAnswers t old other b e v → (a ≡ b) × (new ≡ other) × (d ≡ e) × (u ≡ v)
-  list-unique (list.Refused n) (list.Refused m) new other d u e v w x p q =
-      let counts = uncounted-unique p.2 q.2 in (ap list.Refused (number-unique p.0 q.0), p.1 ∙ sym q.1, counts.0, counts.1)
-  list-unique (list.Refused n) list.Listed new other d u e v w x p q = absurd (never-refused p.0 q.room q.program)
-  list-unique list.Listed (list.Refused m) new other d u e v w x p q = absurd (never-refused q.0 p.room p.program)
-  list-unique list.Listed list.Listed new other d u e v w x p q = let s = list-made p q w x in (refl, s.0, s.1, s.2)
+  abbrev Same : Result Ones Refusal → Result Ones Refusal → Type 0
+  Same (Err r) (Err s) = number r ≡ number s
+  Same (Ok c) (Ok d) = (c.defined ≡ d.defined) × (c.used ≡ d.used)
+  Same a b = ⊥
+
+  pub list-unique : (a b : Result Ones Refusal) (new other : List ℕ) → Words new → Words other → ListAnswers t old new a → ListAnswers t old other b
+      → Same a b × (new ≡ other)
+  list-unique (Err r) (Err s) new other w x p q = (number-unique p.0 q.0, p.1 ∙ sym q.1)
+  list-unique (Err r) (Ok d) new other w x p q = absurd (never-refused p.0 q.room q.program)
+  list-unique (Ok c) (Err s) new other w x p q = absurd (never-refused q.0 p.room p.program)
+  list-unique (Ok c) (Ok d) new other w x p q = let s = list-made p q w x in ((s.1, s.2), s.0)

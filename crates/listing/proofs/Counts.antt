@@ -1,47 +1,23 @@
 -- The ones of each set, variable by variable. Assumes nothing.
 use mathlib.Core.Path.{◌≡◌, sym, ap, ◌∙◌}
 use mathlib.Core.List.{List}
-use Prim.Native.Nat.{ℕ, ◌+◌, ◌-◌, ◌*◌, ◌≤◌, ◌<◌}
+use Prim.Native.Nat.{ℕ, ◌+◌, ◌*◌, ◌≤◌, ◌<◌}
 use native.Mathlib.Omega.{arith}
-use lib.ListN.{length, get_or, set, take, drop, length-set}
-use lib.Seq.{get_or-set_same, get_or-set_other, ext_get_or}
-use borrow.Author.Count.{below_more}
+use lib.ListN.{length, get_or}
+use lib.Seq.{ext_get_or}
 use Rattle.language.specs.Spelling.{variables}
 use Rattle.program.specs.Program.{row_words}
 use Rattle.bits.proofs.Counts.{count-ext}
-use Rattle.bits.proofs.Tables.{part-row, part_length}
-use Rattle.bits.specs.Row.{member, row_of, count_below, Zeros}
+use Rattle.bits.specs.Row.{row_of}
 use Rattle.atoms.specs.Facts.{fact_rows, placed}
-use Rattle.listing.specs.Listing.{list_words, ones, Counted, Uncounted}
+use Rattle.listing.specs.Listing.{list_words, ones, Counted}
 use Rattle.listing.specs.Writing.{OnesFrom}
 use Rattle.listing.proofs.Sets.{placed_same}
-
--- the part of the list that is counted is a set
-pub ones-part : (l : List ℕ) (k : ℕ) → row_words * k + row_words ≤ length l
-    → let part = take (row_words * k + row_words - row_words * k) (drop (row_words * k) l) in count_below (member part) (length part * 64) ≡ ones (row_of row_words l k)
-ones-part l k fits =
-    ap (λ (n : ℕ). count_below (member (take (row_words * k + row_words - row_words * k) (drop (row_words * k) l))) (n * 64)) (part_length row_words l k fits)
-    ∙ ap ones (part-row row_words l k fits)
 
 -- the sets of the variables below v are counted
 pub record OnesBelow (k : ℕ) (l counts : List ℕ) (v : ℕ) : Type 0 where
   pub size : length counts ≡ variables
   pub each : (u : ℕ) → u < v → get_or counts u 0 ≡ ones (row_of row_words l (2 * u + k))
-
-pub ones_none : (k : ℕ) (l counts : List ℕ) → Zeros variables counts → OnesBelow k l counts 0
-ones_none k l counts z = record { size = z.size; each = λ u h. absurd (omega arith) }
-
-module _ (k : ℕ) (l counts : List ℕ) (v : ℕ) (o : OnesBelow k l counts v) where
-  pub ones-more : v < variables → (n : ℕ) → n ≡ ones (row_of row_words l (2 * v + k)) → OnesBelow k l (set counts v n) (v + 1)
-  ones-more h n e = record {
-    size = length-set counts v n ∙ o.size;
-    each = below_more (λ u. get_or (set counts v n) u 0 ≡ ones (row_of row_words l (2 * u + k))) v
-        (λ u i. get_or-set_other counts v u n 0 (omega arith) ∙ o.each u i)
-        (get_or-set_same counts v n 0 (omega (arith, o.size)) ∙ e);
-  }
-
-  pub ones-all : variables ≤ v → OnesFrom k l counts
-  ones-all h = record { size = o.size; each = λ u i. o.each u (omega arith) }
 
 -- both kinds of sets
 pub both-counted : (l defined used : List ℕ) → OnesFrom 0 l defined → OnesFrom 1 l used → Counted l defined used
@@ -59,12 +35,6 @@ module _ {d u e v : List ℕ} where
     ext_get_or 0 d e (a.sizes.0 ∙ sym b.sizes.0) (λ i h. let k : i < variables = omega (arith, a.sizes.0) in a.of_defined i k ∙ sym (b.of_defined i k)),
     ext_get_or 0 u v (a.sizes.1 ∙ sym b.sizes.1) (λ i h. let k : i < variables = omega (arith, a.sizes.1) in a.of_used i k ∙ sym (b.of_used i k)),
   )
-
-  pub uncounted-unique : Uncounted d u → Uncounted e v → (d ≡ e) × (u ≡ v)
-  uncounted-unique a b = (zeros-unique a.of_defined b.of_defined, zeros-unique a.of_used b.of_used)
-    where
-      zeros-unique : {n : ℕ} {x y : List ℕ} → Zeros n x → Zeros n y → x ≡ y
-      zeros-unique {x = x} {y = y} f g = ext_get_or 0 x y (f.size ∙ sym g.size) (λ i _. f.zero i ∙ sym (g.zero i))
 
 -- lists with the same words have the same counts
 pub counted_same : {a b d u : List ℕ} → list_words ≤ length a → list_words ≤ length b → ((m : ℕ) → m < list_words → get_or a m 0 ≡ get_or b m 0) → Counted b d u → Counted a d u

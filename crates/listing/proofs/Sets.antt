@@ -7,9 +7,8 @@ use native.Mathlib.Decide.{dec_lt}
 use native.Mathlib.Nat.{mod-lt, zero-lt-suc}
 use native.Mathlib.Omega.{arith}
 use lib.Bits.{bit_and, bit_or, bit_xor}
-use lib.ListN.{length, get_or, set, take, drop, length-set, get_or-append}
-use lib.Seq.{get_or-set_same, get_or-set_other, get_or-drop, get_or-append-add, length-take-le, length_front, take_at}
-use borrow.Author.Count.{below_more}
+use lib.ListN.{length, get_or, take, drop, get_or-append}
+use lib.Seq.{get_or-drop, get_or-append-add, length-take-le, length_front, take_at}
 use Rattle.base.specs.Pick.{pick}
 use Rattle.program.specs.Program.{row_words}
 use Rattle.bits.proofs.Rows.{member-beyond}
@@ -99,22 +98,7 @@ pub record MergedBelow (places fresh old new : List ℕ) (m : ℕ) : Type 0 wher
   pub done : (i : ℕ) → i < m → get_or new i 0 ≡ merged (get_or places (i % row_words) 0) (get_or fresh i 0) (get_or old i 0)
   pub rest : (i : ℕ) → m ≤ i → get_or new i 0 ≡ get_or old i 0
 
-pub merged-none : (places fresh old : List ℕ) → MergedBelow places fresh old old 0
-merged-none places fresh old = record { same = refl; done = λ i l. absurd (omega arith); rest = λ i l. refl }
-
 module _ (places fresh old new : List ℕ) (m : ℕ) (o : MergedBelow places fresh old new m) where
-  pub merged-more : m < length new → MergedBelow places fresh old (set new m (merged (get_or places (m % row_words) 0) (get_or fresh m 0) (get_or new m 0))) (m + 1)
-  merged-more l = record {
-    same = length-set new m _ ∙ o.same;
-    done = below_more (λ i. get_or (set new m word) i 0 ≡ merged (get_or places (i % row_words) 0) (get_or fresh i 0) (get_or old i 0)) m
-        (λ i h. get_or-set_other new m i word 0 (omega arith) ∙ o.done i h)
-        (get_or-set_same new m word 0 l ∙ ap (merged (get_or places (m % row_words) 0) (get_or fresh m 0)) (o.rest m (omega arith)));
-    rest = λ i h. get_or-set_other new m i word 0 (omega arith) ∙ o.rest i (omega arith);
-  }
-    where
-      word : ℕ
-      word = merged (get_or places (m % row_words) 0) (get_or fresh m 0) (get_or new m 0)
-
   pub merged-all : length places ≡ row_words → length fresh ≡ list_words → list_words ≤ length old → m ≡ list_words → Merged places fresh old new
   unfolding member
   merged-all few size room e = record {

@@ -3,7 +3,7 @@ use Rattle.std.specs.Prelude.{◌≡◌, true, ◌↔◌, List, ℕ, ◌+◌, �
 use Rattle.language.specs.Spelling.{variables}
 use Rattle.language.specs.declared.Statement.{Statement}
 use Rattle.program.specs.Program.{at, row_words}
-use Rattle.bits.specs.Row.{member, row_of, count_below, Zeros}
+use Rattle.bits.specs.Row.{member, row_of, count_below}
 use Rattle.labelling.specs.Labels.{Labelled}
 use Rattle.truth.specs.Truth.{Defines, Uses}
 
@@ -47,8 +47,3 @@ pub record Counted (l defined used : List ℕ) : Type 0 where
   pub sizes : (length defined ≡ variables) × (length used ≡ variables)
   pub of_defined : (v : ℕ) → v < variables → get_or defined v 0 ≡ ones (defined_row l v)
   pub of_used : (v : ℕ) → v < variables → get_or used v 0 ≡ ones (used_row l v)
-
--- what stands beside a refusal: zeros
-pub record Uncounted (defined used : List ℕ) : Type 0 where
-  pub of_defined : Zeros variables defined
-  pub of_used : Zeros variables used

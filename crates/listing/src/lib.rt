@@ -7,7 +7,7 @@ ghost use Rattle.program.specs.Reading.{statements, Held};
 ghost use Rattle.bits.specs.Row.{member, Zeros};
 ghost use Rattle.labelling.specs.Labels.{Labelled};
 ghost use Rattle.language.specs.Spelling.{variables};
-ghost use Rattle.listing.specs.Listing.{list_words, Updated, Counted, Uncounted};
+ghost use Rattle.listing.specs.Listing.{list_words, Updated, Counted};
 ghost use Rattle.listing.specs.Writing.{Merged, Made, OnesFrom};
 
 use program::{Program, ROW_WORDS};
@@ -18,17 +18,9 @@ pub const COUNTS: usize = language::VARIABLES as usize;
 // A variable has two sets, the statements that define it and then those that use it.
 pub const LIST_WORDS: usize = ROW_WORDS * 2 * COUNTS;
 
-// Refused: the number of documents 01 and 02.
+// For each variable how many ones its sets have.
 #[derive(Clone, Copy)]
-pub enum ListAnswer {
-    Refused(u8),
-    Listed,
-}
-
-// The answer of a call, and for each variable how many ones its sets have; zeros beside a refusal.
-#[derive(Clone, Copy)]
-pub struct Listing {
-    pub answer: ListAnswer,
+pub struct Ones {
     pub defined: [u32; COUNTS],
     pub used: [u32; COUNTS],
 }
@@ -38,19 +30,12 @@ fn changed(p: Program, q: Program) -> [u64; ROW_WORDS]
     requires { Held p × Held q × (q.count ≡ p.count) }
     ensures { (length result ≡ row_words) × Labelled p.count (member result) (λ s. at (statements q) s ≡ at (statements p) s → ⊥) }
 {
-    let n = p.count;
     let mut row = atoms::blank_row();
-    let mut s: usize = 0;
-    while s < n {
-        let e = p.entries[s];
-        let f = q.entries[s];
-        let i = encoding::statement_of(e);
-        let j = encoding::statement_of(f);
-        if codes::same_statement(j, i) {
-            s += 1;
-        } else {
+    for s in 0..p.count {
+        let i = encoding::statement_of(p.entries[s]);
+        let j = encoding::statement_of(q.entries[s]);
+        if !codes::same_statement(j, i) {
             bits::insert(&mut row, s);
-            s += 1;
         }
     }
     row
@@ -62,11 +47,9 @@ fn merge(places: &[u64], fresh: &[u64], list: &mut [u64])
     requires list_words_in_bounds { list_words ≤ length list.old }
     ensures { Merged places.now fresh.now list.old list.new }
 {
-    let mut m: usize = 0;
-    while m < LIST_WORDS {
+    for m in 0..LIST_WORDS {
         let w = places[m % ROW_WORDS];
         list[m] = (list[m] & (w ^ u64::MAX)) | (fresh[m] & w);
-        m += 1;
     }
 }
 
@@ -108,34 +91,20 @@ fn ones_from(first: usize, list: &[u64]) -> [u32; COUNTS]
     ensures { OnesFrom first list.now result }
 {
     let mut counts = no_counts();
-    let mut v: usize = 0;
-    while v < COUNTS {
+    for v in 0..COUNTS {
         let at = ROW_WORDS * (2 * v + first);
         let end = at + ROW_WORDS;
         counts[v] = bits::count(&list[at..end]);
-        v += 1;
     }
     counts
 }
 
-// The answer of a call that is refused.
-pub fn refused(number: u8) -> Listing
-    ensures { (result.answer ≡ ListAnswer.Refused number) × Uncounted result.defined result.used }
-{
-    Listing {
-        answer: ListAnswer::Refused(number),
-        defined: no_counts(),
-        used: no_counts(),
-    }
-}
-
-// The answer of a call that leaves this list.
-pub fn listed(list: &[u64]) -> Listing
+// The counts of this list.
+pub fn listed(list: &[u64]) -> Ones
     requires { list_words ≤ length list.now }
-    ensures { (result.answer ≡ ListAnswer.Listed) × Counted list.now result.defined result.used }
+    ensures { Counted list.now result.defined result.used }
 {
-    Listing {
-        answer: ListAnswer::Listed,
+    Ones {
         defined: ones_from(0, list),
         used: ones_from(1, list),
     }

@@ -1,7 +1,9 @@
 -- From the rows to the claim that live variables agree. Assumes nothing.
-use mathlib.Core.Path.{◌≡◌, sym, ◌∙◌}
+use mathlib.Core.Path.{◌≡◌, refl, sym, ◌∙◌}
 use mathlib.Core.Bool.{Bool, true, false, not, ◌&&◌}
-use mathlib.Core.Logic.{◌⊎◌, inl, inr}
+use mathlib.Core.Logic.{◌⊎◌, ◌↔◌, inl, inr}
+use Rattle.std.specs.Bool.{IsTrue}
+use Rattle.base.specs.Decides.{Decides}
 use mathlib.Core.List.{List}
 use Prim.Native.Nat.{ℕ, ◌≤◌, ◌<◌}
 use native.Mathlib.Decide.{dec_lt}
@@ -41,3 +43,13 @@ module _ {P : List Statement} {ws : List ℕ} (l : LiveRows P ws) {s : ℕ} (h :
       by : Dec (x < variables) → get_or vs x 0 ≡ get_or us x 0
       by (yes b) = same b (split (eqb (get_or vs x 0) (get_or us x 0)))
       by (no b) = get_or-eq_default vs 0 (omega arith) ∙ sym (get_or-eq_default us 0 (omega arith))
+
+  -- a test that no live variable differs
+  pub agreement : length vs ≡ variables → length us ≡ variables → (r : Bool) → IsTrue r ↔ ((x : ℕ) → x < variables → differing ws s vs us x ≡ false)
+      → Decides r (Agree P s vs us)
+  agreement m n true h = none-differs m n (h.0 refl)
+  agreement m n false h = λ agree. clash (h.1 (λ x b. alike agree x b (split (differing ws s vs us x)))) refl
+    where
+      alike : Agree P s vs us → (x : ℕ) → x < variables → (differing ws s vs us x ≡ true) ⊎ (differing ws s vs us x ≡ false) → differing ws s vs us x ≡ false
+      alike agree x b (inl e) = absurd (some-differs x b e agree)
+      alike agree x b (inr e) = e

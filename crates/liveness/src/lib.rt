@@ -2,7 +2,7 @@
 // where they stand.
 #![tactic(auto)]
 
-ghost use Rattle.std.specs.Prelude.{◌≡◌, ◌&&◌, not, List, ℕ, ◌<◌, eqb, length, get_or, replicate};
+ghost use Rattle.std.specs.Prelude.{◌≡◌, ◌↔◌, IsTrue, ◌&&◌, false, not, List, ℕ, ◌<◌, eqb, length, get_or, replicate};
 ghost use Rattle.base.specs.Decides.{Decides};
 ghost use Rattle.language.specs.Spelling.{variables, ValidVariable};
 ghost use Rattle.language.specs.declared.Statement.{Statement};
@@ -62,13 +62,11 @@ fn fill(n: usize, rows: &[u64], codes: &[[u64; CODE_WORDS]], flow: &[u16], live:
     requires live_len { length live.old ≡ live_words }
     ensures { (P : List Statement) → KnownIn P n rows.now codes.now flow.now → (x : ℕ) → x < variables → LiveAt (used_in rows.now) P live.new x }
 {
-    let mut x: usize = 0;
-    while x < VALUES {
+    for x in 0..VALUES {
         let row = live_row(x as u8, n, rows, codes, flow);
         let at = WORDS * x;
         let end = at + WORDS;
-        atoms::copy(&row, &mut live[at..end]);
-        x += 1;
+        live[at..end].copy_from_slice(&row);
     }
 }
 
@@ -77,12 +75,9 @@ pub fn find(program: &[u8]) -> [u64; LIVE_WORDS]
     ensures { LiveIn program.now result }
 {
     let mut live = blank();
-    let reading = program::read(program);
-    let answer = reading.answer;
-    let program::Answer::Taken = answer else {
+    let Ok(p) = program::read(program) else {
         return live;
     };
-    let p = reading.program;
     let mut rows = atoms::blank();
     let mut codes = atoms::blank_codes();
     atoms::find(p, &mut rows, &mut codes);
@@ -105,17 +100,18 @@ fn differs(live: &[u64], place: usize, x: usize, a: &[u32; VALUES], b: &[u32; VA
     bits::contains(&live[begin..end], place)
 }
 
+// Whether no variable that is live at the place differs.
+fn none_differs(live: &[u64], place: usize, a: &[u32; VALUES], b: &[u32; VALUES]) -> bool
+    requires { (place < most) × (length live.now ≡ live_words) }
+    ensures { IsTrue result ↔ ((x : ℕ) → x < variables → (not (eqb (get_or a.now x 0) (get_or b.now x 0)) && member (row_in live.now x) place) ≡ false) }
+{
+    (0..VALUES).all(|x| !differs(live, place, x, a, b))
+}
+
 // Whether every variable that is live at the place holds the same value in both.
 pub fn agree(live: &[u64], place: usize, a: &[u32; VALUES], b: &[u32; VALUES]) -> bool
     requires { (place < most) × (length live.now ≡ live_words) }
     ensures { (P : List Statement) → LiveRows P live.now → place < length P → length a.now ≡ variables → length b.now ≡ variables → Decides result (Agree P place a.now b.now) }
 {
-    let mut x: usize = 0;
-    while x < VALUES {
-        if differs(live, place, x, a, b) {
-            return false;
-        }
-        x += 1;
-    }
-    true
+    none_differs(live, place, a, b)
 }

@@ -21,8 +21,7 @@ use Rattle.language.specs.declared.Expression.TheVariants.{Single, Binary}
 use Rattle.language.specs.declared.Statement.{Statement}
 use Rattle.language.specs.declared.Statement.TheVariants.{Read, Write, Assign, Branch, Skip}
 use Rattle.language.proofs.Kept.{kept-agree}
-use Rattle.arithmetic.specs.declared.Evaluated.{Evaluated}
-use Rattle.arithmetic.specs.declared.Evaluated.TheVariants.{Value, Fault}
+use Rattle.std.specs.Prelude.{Option, None, Some}
 use Rattle.arithmetic.specs.Arithmetic.{apply, faults, given}
 use Rattle.machine.specs.Machine.{operand_value, value}
 use Rattle.truth.specs.Truth.{InOperand, In, Uses}
@@ -39,7 +38,7 @@ operand-self (Variable y) x vs e = ap (λ (z : ℕ). get_or vs z 0) (sym e)
 operand-self (Constant n) x vs e = absurd e
 
 -- what can't fault gives a value
-pub harmless-gives : (vs : List ℕ) (e : Expression) → Harmless e → (v : ℕ) × (value vs e ≡ Value v)
+pub harmless-gives : (vs : List ℕ) (e : Expression) → Harmless e → (v : ℕ) × (value vs e ≡ Some v)
 harmless-gives vs (Single a) h = (operand_value vs a, refl)
 harmless-gives vs (Binary a o b) h = let v = apply o (operand_value vs a) (operand_value vs b) in (v, ap (λ (x : Bool). given x v) (safe-operator o b h))
   where
@@ -72,7 +71,7 @@ module _ (vs ws : List ℕ) where
   operand_agrees (Constant n) h = refl
 
   pub value-agrees : (e : Expression) → ((y : ℕ) → In y e → Same vs ws y) → value vs e ≡ value ws e
-  value-agrees (Single a) h = ap Value (operand_agrees a h)
+  value-agrees (Single a) h = ap Some (operand_agrees a h)
   value-agrees (Binary a o b) h =
       ap₂ (λ (v w : ℕ). given (faults o w) (apply o v w)) (operand_agrees a (λ y u. h y (inl u))) (operand_agrees b (λ y u. h y (inr u)))
 
@@ -103,7 +102,7 @@ module _ (vs ws : List ℕ) where
         other e = rw e (h y refl)
 
     expression-like : (e : Expression) → ((y : ℕ) → In y e → Same vs ws y) → value vs e ≡ value ws (replace_in x a e)
-    expression-like (Single b) h = ap Value (operand-like b h)
+    expression-like (Single b) h = ap Some (operand-like b h)
     expression-like (Binary b o c) h =
         ap₂ (λ (v w : ℕ). given (faults o w) (apply o v w)) (operand-like b (λ y u. h y (inl u))) (operand-like c (λ y u. h y (inr u)))
 

@@ -21,8 +21,7 @@ use Rattle.language.specs.declared.Statement.{Statement}
 use Rattle.language.specs.declared.Statement.TheVariants.{Read, Assign, Branch, Skip}
 use Rattle.program.specs.Program.{at, InPlace, WellFormed}
 use Rattle.program.proofs.Held.{at-valid}
-use Rattle.arithmetic.specs.declared.Evaluated.{Evaluated}
-use Rattle.arithmetic.specs.declared.Evaluated.TheVariants.{Value, Fault}
+use Rattle.std.specs.Prelude.{Option, None, Some}
 use Rattle.machine.specs.Machine.{written, State, before, ended, after, stored, perform, step_from, operand_value, value}
 use Rattle.base.specs.Pick.{pick}
 use Rattle.flow.specs.Flow.{leads}
@@ -42,12 +41,12 @@ branch_leads false x n m s = or_left (eqb (n - 1) (n - 1)) (eqb (m - 1) (n - 1))
 
 -- after x := e, which gave v, each y := f that it may be read as gave what y holds
 assigned-gave :
-    (vs : List ℕ) (x : ℕ) (e : Expression) (v y : ℕ) (f : Expression) → value vs e ≡ Value v → x < length vs → Assign x e ≡ Assign y f
-    → value vs f ≡ Value (get_or (set vs x v) y 0)
+    (vs : List ℕ) (x : ℕ) (e : Expression) (v y : ℕ) (f : Expression) → value vs e ≡ Some v → x < length vs → Assign x e ≡ Assign y f
+    → value vs f ≡ Some (get_or (set vs x v) y 0)
 assigned-gave vs x e v y f is l q =
     let to : y ≡ x = cc in
     let from : f ≡ e = cc in
-    ap (value vs) from ∙ is ∙ ap (λ (n : ℕ). Value n) (sym (stored_here vs x v y l to))
+    ap (value vs) from ∙ is ∙ ap (λ (n : ℕ). Some n) (sym (stored_here vs x v y l to))
 
 -- what a copy and what a work say of the place
 made-copy : (U : ℕ → ℕ → Type 0) (P : List Statement) (x : ℕ) (a : Operand) (s : ℕ) → SatBy U P (copy x a) s ↔ (at P s ≡ Assign x (Single a))
@@ -75,7 +74,7 @@ module _ (U : ℕ → ℕ → Type 0) (P : List Statement) (w : WellFormed P) (w
     agree : (x : ℕ) → SatBy U P (live x) s → get_or vs x 0 ≡ get_or ws x 0
     copies : (x : ℕ) (a : Operand) → ¬ InOperand x a → SatBy U P (copied_before x a) s
         → (get_or vs x 0 ≡ operand_value vs a) × (get_or vs x 0 ≡ operand_value ws a)
-    computed : (t : ℕ) (e : Expression) → SatBy U P (computed_before t e) s → value vs e ≡ Value (get_or vs t 0)
+    computed : (t : ℕ) (e : Expression) → SatBy U P (computed_before t e) s → value vs e ≡ Some (get_or vs t 0)
 
   -- ---- the first statement
 
@@ -105,7 +104,7 @@ module _ (U : ℕ → ℕ → Type 0) (P : List Statement) (w : WellFormed P) (w
       (frame : (y : ℕ) → ¬ Defines i y → get_or vs' y 0 ≡ get_or vs y 0)
       (frame' : (y : ℕ) → ¬ Defines i y → get_or ws' y 0 ≡ get_or ws y 0)
       (stores : (y : ℕ) → Defines i y → SatBy U P (live y) t → get_or vs' y 0 ≡ get_or ws' y 0)
-      (gave : (x : ℕ) (e : Expression) → i ≡ Assign x e → value vs e ≡ Value (get_or vs' x 0)) where
+      (gave : (x : ℕ) (e : Expression) → i ≡ Assign x e → value vs e ≡ Some (get_or vs' x 0)) where
     there : leads (at P s) s t ≡ true
     there = rw is go
 
@@ -141,7 +140,7 @@ module _ (U : ℕ → ℕ → Type 0) (P : List Statement) (w : WellFormed P) (w
                 o (rw defined at u)
 
             new : get_or vs' x 0 ≡ operand_value vs a
-            new = let made : Value (operand_value vs a) ≡ Value (get_or vs' x 0) = gave x (Single a) (sym is ∙ e) in cc
+            new = let made : Some (operand_value vs a) ≡ Some (get_or vs' x 0) = gave x (Single a) (sym is ∙ e) in cc
 
             given : operand_value vs' a ≡ operand_value vs a
             given = operand_agrees vs' vs a (λ y u. frame y (kept y u))
@@ -166,7 +165,7 @@ module _ (U : ℕ → ℕ → Type 0) (P : List Statement) (w : WellFormed P) (w
             changed : operand_value ws' a ≡ operand_value ws a
             changed = operand_agrees ws' ws a (λ y u. frame' y (stays y (b.unchanged y u)))
 
-    computed-on : (x : ℕ) (e : Expression) → SatBy U P (computed_before x e) t → value vs' e ≡ Value (get_or vs' x 0)
+    computed-on : (x : ℕ) (e : Expression) → SatBy U P (computed_before x e) t → value vs' e ≡ Some (get_or vs' x 0)
     computed-on x e c =
         by (sure-cases P w U x e (work x e) s held.inside (decided-as (done-work U P x e s) (work-decided (at P s) x e)) t inside_on there c)
       where
@@ -174,9 +173,9 @@ module _ (U : ℕ → ℕ → Type 0) (P : List Statement) (w : WellFormed P) (w
         same : ((y : ℕ) → In y e → ¬ Defines (at P s) y) → value vs' e ≡ value vs e
         same clear = value-agrees vs' vs e (λ y u. frame y (stays y (clear y u)))
 
-        by : SatBy U P (work x e) s ⊎ (Between P w U x e s × SatBy U P (computed_before x e) s) → value vs' e ≡ Value (get_or vs' x 0)
+        by : SatBy U P (work x e) s ⊎ (Between P w U x e s × SatBy U P (computed_before x e) s) → value vs' e ≡ Some (get_or vs' x 0)
         by (inl h) = let done = (done-work U P x e s).0 h in same done.1 ∙ gave x e (sym is ∙ done.0)
-        by (inr (b, c')) = same b.unchanged ∙ held.computed x e c' ∙ ap (λ (n : ℕ). Value n) (sym (frame x (stays x b.undefined)))
+        by (inr (b, c')) = same b.unchanged ∙ held.computed x e c' ∙ ap (λ (n : ℕ). Some n) (sym (frame x (stays x b.undefined)))
 
     held_on : Held t vs' ws'
     held_on = record {
@@ -196,9 +195,9 @@ module _ (U : ℕ → ℕ → Type 0) (P : List Statement) (w : WellFormed P) (w
     next-line = eq-eqb (s + 1) (s + 1) refl
 
     -- the same is stored in both, or both fault
-    assigned-on : (x : ℕ) (e : Expression) → at P s ≡ Assign x e → (g : Evaluated) → value vs e ≡ g → Side Held (stored g x s vs) (stored g x s ws)
-    assigned-on x e is Fault gives = refl
-    assigned-on x e is (Value v) gives =
+    assigned-on : (x : ℕ) (e : Expression) → at P s ≡ Assign x e → (g : Option ℕ) → value vs e ≡ g → Side Held (stored g x s vs) (stored g x s ws)
+    assigned-on x e is None gives = refl
+    assigned-on x e is (Some v) gives =
         let below : x < variables = (valid (Assign x e) is).0 in (
           refl,
           held_on s (s + 1) vs ws (set vs x v) (set ws x v) held (Assign x e) is next-line
@@ -221,7 +220,7 @@ module _ (U : ℕ → ℕ → Type 0) (P : List Statement) (w : WellFormed P) (w
         )
     like-on i j is (writes same kept) = ap₂ written same kept
     like-on i j is (assigns {x} {e} {f} same) =
-        subst (λ (g : Evaluated). Side Held (stored (value vs e) x s vs) (stored g x s ws)) same (assigned-on x e is (value vs e) refl)
+        subst (λ (g : Option ℕ). Side Held (stored (value vs e) x s vs) (stored g x s ws)) same (assigned-on x e is (value vs e) refl)
     like-on i j is (branches {x} {y} {n} {m} same) = (
       ap (λ (v : ℕ). pick (eqb v 0) m n - 1) same,
       held_on s (pick (eqb (get_or vs x 0) 0) m n - 1) vs ws vs ws held (Branch x n m) is (branch_leads (eqb (get_or vs x 0) 0) x n m s)
@@ -240,7 +239,7 @@ module _ (U : ℕ → ℕ → Type 0) (P : List Statement) (w : WellFormed P) (w
         let below : x < variables = (valid (Assign x e) is).0 in
         let gives = harmless-gives vs e harmless in
         let v = gives.0 in
-        subst (λ (g : Evaluated). Side Held (stored g x s vs) (before (s + 1) ws)) (sym gives.1) (
+        subst (λ (g : Option ℕ). Side Held (stored g x s vs) (before (s + 1) ws)) (sym gives.1) (
           refl,
           held_on s (s + 1) vs ws (set vs x v) ws held (Assign x e) is next-line
               (length-set vs x v ∙ held.whole) held.whole'
@@ -262,7 +261,7 @@ module _ (U : ℕ → ℕ → Type 0) (P : List Statement) (w : WellFormed P) (w
 
     -- the changed run's t is what e gives, where t counts as used and is sure to hold e
     reused-same : (t : ℕ) (e : Expression) → U t s → SatBy U P (computed_before t e) s → value vs e ≡ value ws (Single (Variable t))
-    reused-same t e u c = held.computed t e c ∙ ap (λ (n : ℕ). Value n) (held.agree t (live-use P w U t s held.inside u))
+    reused-same t e u c = held.computed t e c ∙ ap (λ (n : ℕ). Some n) (held.agree t (live-use P w U t s held.inside u))
 
     change-on : (j : Statement) → Change U P s j → Side Held (perform (at P s) input s vs) (perform j input s ws)
     change-on j (inl e) = rw e (like-on (at P s) (at P s) refl (same-like vs ws held.whole held.whole' (at P s) used-same))

@@ -18,8 +18,7 @@ use Rattle.base.specs.Pick.{pick}
 use Rattle.pricing.specs.Prices.{price}
 use Rattle.machine.specs.Ticks.{cost, ticks}
 use Rattle.machine.specs.Answer.{state_of, Ends}
-use Rattle.arithmetic.specs.declared.Evaluated.{Evaluated}
-use Rattle.arithmetic.specs.declared.Evaluated.TheVariants.{Value, Fault}
+use Rattle.std.specs.Prelude.{Option, None, Some}
 use Rattle.machine.specs.declared.Next.{Next}
 use Rattle.machine.specs.declared.Next.TheVariants.{Goto}
 
@@ -45,9 +44,9 @@ perform-inside N s input t vs us (Read x) two p a e = let h : s + 1 ≡ t = cc i
 perform-inside N s input t vs us (Write x) two p a e = let z : ◌≡◌ {A = ℕ} 0 1 = cc in omega arith
 perform-inside N s input t vs us (Assign x v) two p a e = go (value vs v) e
   where
-    go : (g : Evaluated) → stored g x s vs ≡ before t us → t < N
-    go (Value w) f = let h : s + 1 ≡ t = cc in omega arith
-    go Fault f = absurd (let z : ◌≡◌ {A = ℕ} 0 1 = cc in omega arith)
+    go : (g : Option ℕ) → stored g x s vs ≡ before t us → t < N
+    go (Some w) f = let h : s + 1 ≡ t = cc in omega arith
+    go None f = absurd (let z : ◌≡◌ {A = ℕ} 0 1 = cc in omega arith)
 perform-inside N s input t vs us (Branch x n m) two p a e = go (eqb (get_or vs x 0) 0) e
   where
     go : (w : Bool) → before (pick w m n - 1) vs ≡ before t us → t < N
@@ -61,9 +60,9 @@ fault-here (Read y) input s t vs e = absurd (let z : ◌≡◌ {A = ℕ} 0 1 = c
 fault-here (Write y) input s t vs e = absurd (let z : ◌≡◌ {A = ℕ} 0 1 = cc in omega arith)
 fault-here (Assign y v) input s t vs e = go (value vs v) e
   where
-    go : (g : Evaluated) → stored g y s vs ≡ ended (faulted t) → t ≡ s
-    go (Value w) f = absurd (let z : ◌≡◌ {A = ℕ} 0 1 = cc in omega arith)
-    go Fault f = cc
+    go : (g : Option ℕ) → stored g y s vs ≡ ended (faulted t) → t ≡ s
+    go (Some w) f = absurd (let z : ◌≡◌ {A = ℕ} 0 1 = cc in omega arith)
+    go None f = cc
 fault-here (Branch y n m) input s t vs e = absurd (let z : ◌≡◌ {A = ℕ} 0 1 = cc in omega arith)
 fault-here Skip input s t vs e = absurd (let z : ◌≡◌ {A = ℕ} 0 1 = cc in omega arith)
 

@@ -1,5 +1,5 @@
 -- One step, and the state after every number of steps: document 01, "The statement language", its last paragraph.
-use Rattle.std.specs.Prelude.{List, ℕ, zero, suc, ◌+◌, ◌-◌, get_or, set, eqb}
+use Rattle.std.specs.Prelude.{List, ℕ, zero, suc, ◌+◌, ◌-◌, get_or, set, eqb, Option, None, Some}
 use Rattle.base.specs.Pick.{pick}
 use Rattle.language.specs.Kept.{kept_of}
 use Rattle.language.specs.declared.Operand.{Operand}
@@ -10,15 +10,13 @@ use Rattle.language.specs.declared.Statement.{Statement}
 use Rattle.language.specs.declared.Statement.TheVariants.{Read, Write, Assign, Branch, Skip}
 use Rattle.program.specs.Program.{at}
 use Rattle.arithmetic.specs.Arithmetic.{apply, faults, given}
-use Rattle.arithmetic.specs.declared.Evaluated.{Evaluated}
-use Rattle.arithmetic.specs.declared.Evaluated.TheVariants.{Value, Fault}
 
 abbrev pub operand_value : List ℕ → Operand → ℕ
 operand_value vs (Variable x) = get_or vs x 0
 operand_value vs (Constant n) = n
 
-abbrev pub value : List ℕ → Expression → Evaluated
-value vs (Single a) = Value (operand_value vs a)
+abbrev pub value : List ℕ → Expression → Option ℕ
+value vs (Single a) = Some (operand_value vs a)
 value vs (Binary a o b) = given (faults o (operand_value vs b)) (apply o (operand_value vs a) (operand_value vs b))
 
 -- how a run ends: a value is written, and the values of the kept variables stay; or the statement at a place faults. Document 02: "A run's outcome is
@@ -33,9 +31,9 @@ pub data State : Type 0 where
   ended : Final → State
 
 -- the value is stored in x and the next line follows, or the run ends with a fault at place s
-abbrev pub stored : Evaluated → ℕ → ℕ → List ℕ → State
-stored (Value v) x s vs = before (s + 1) (set vs x v)
-stored Fault x s vs = ended (faulted s)
+abbrev pub stored : Option ℕ → ℕ → ℕ → List ℕ → State
+stored (Some v) x s vs = before (s + 1) (set vs x v)
+stored None x s vs = ended (faulted s)
 
 -- "`read X` stores the input. `if` goes to n where X isn't 0, else to m. `write X` ends the run with X's value. All others go to the next line."
 abbrev pub perform : Statement → ℕ → ℕ → List ℕ → State

@@ -1,14 +1,13 @@
 // The machine: one step, and what a run answers.
 #![tactic(auto)]
 
-ghost use Rattle.std.specs.Prelude.{◌≡◌, ◌<◌, length};
+ghost use Rattle.std.specs.Prelude.{◌≡◌, ◌<◌};
 ghost use Rattle.language.specs.Spelling.{ValidOperand, ValidExpression, Valid};
 ghost use Rattle.program.specs.Program.{most, Targets};
-ghost use Rattle.language.specs.Kept.{kept_count, kept_of};
+ghost use Rattle.language.specs.Kept.{kept_of};
 ghost use Rattle.machine.specs.Machine.{operand_value, value, perform};
 ghost use Rattle.machine.specs.Answer.{state_of};
 
-use arithmetic::Evaluated;
 use language::{Expression, FIRST_KEPT, KEPT, Operand, Statement};
 
 // One value for each variable.
@@ -44,12 +43,12 @@ fn load(values: &[u32; VALUES], o: Operand) -> u32
     }
 }
 
-fn evaluate(values: &[u32; VALUES], e: Expression) -> Evaluated
+fn evaluate(values: &[u32; VALUES], e: Expression) -> Option<u32>
     requires { ValidExpression e }
     ensures { result ≡ value values.now e }
 {
     match e {
-        Expression::Single(a) => Evaluated::Value(load(values, a)),
+        Expression::Single(a) => Some(load(values, a)),
         Expression::Binary(a, o, b) => {
             let x = load(values, a);
             let y = load(values, b);
@@ -78,12 +77,12 @@ pub fn step(s: Statement, at: u32, input: u32, values: &mut [u32; VALUES]) -> Ne
         Statement::Assign(x, e) => {
             let given = evaluate(&*values, e);
             match given {
-                Evaluated::Value(v) => {
+                Some(v) => {
                     let i = x as usize;
                     values[i] = v;
                     Next::Goto(at + 1)
                 }
-                Evaluated::Fault => Next::Fault(at),
+                None => Next::Fault(at),
             }
         }
         Statement::Branch(x, n, m) => {
@@ -98,21 +97,11 @@ pub fn step(s: Statement, at: u32, input: u32, values: &mut [u32; VALUES]) -> Ne
     }
 }
 
-fn no_kept() -> [u32; KEPT]
-    ensures { length result ≡ kept_count }
-{
-    [0; KEPT]
-}
-
 // The values of the kept variables.
 pub fn kept_of(values: [u32; VALUES]) -> [u32; KEPT]
     ensures { result ≡ kept_of values }
 {
-    let mut kept = no_kept();
-    let mut k: usize = 0;
-    while k < KEPT {
-        kept[k] = values[FIRST_KEPT + k];
-        k += 1;
-    }
+    let mut kept = [0; KEPT];
+    kept.copy_from_slice(&values[FIRST_KEPT..FIRST_KEPT + KEPT]);
     kept
 }

@@ -11,15 +11,10 @@ use marks::Mark;
 fn replace_operand(x: u8, a: Operand, b: Operand) -> Operand
     ensures { result ≡ replace_operand x a b }
 {
-    match b {
-        Operand::Variable(y) => {
-            if x == y {
-                return a;
-            }
-            Operand::Variable(y)
-        }
-        Operand::Constant(n) => Operand::Constant(n),
+    if b == Operand::Variable(x) {
+        return a;
     }
+    b
 }
 
 fn replace_in(x: u8, a: Operand, e: Expression) -> Expression
@@ -39,26 +34,19 @@ fn replace_variable(x: u8, a: Operand, y: u8) -> u8
     ensures { result ≡ replace_variable x a y }
 {
     match a {
-        Operand::Variable(z) => {
-            if x == y {
-                return z;
-            }
-            y
-        }
-        Operand::Constant(_) => y,
+        Operand::Variable(z) if x == y => z,
+        Operand::Variable(_) | Operand::Constant(_) => y,
     }
 }
 
 fn replace(x: u8, a: Operand, i: Statement) -> Statement
     ensures { result ≡ replaceStatement x a i }
 {
-    let z = replace_variable(x, a, codes::variable_of(i));
     match i {
-        Statement::Read(y) => Statement::Read(y),
-        Statement::Write(_) => Statement::Write(z),
+        Statement::Write(y) => Statement::Write(replace_variable(x, a, y)),
         Statement::Assign(y, e) => Statement::Assign(y, replace_in(x, a, e)),
-        Statement::Branch(_, n, m) => Statement::Branch(z, n, m),
-        Statement::Skip => Statement::Skip,
+        Statement::Branch(y, n, m) => Statement::Branch(replace_variable(x, a, y), n, m),
+        Statement::Read(_) | Statement::Skip => i,
     }
 }
 
@@ -67,11 +55,9 @@ fn reuse(t: u8, i: Statement) -> Statement
     ensures { result ≡ reuseIn t i }
 {
     match i {
-        Statement::Read(y) => Statement::Read(y),
-        Statement::Write(y) => Statement::Write(y),
         Statement::Assign(z, _) => Statement::Assign(z, Expression::Single(Operand::Variable(t))),
-        Statement::Branch(y, n, m) => Statement::Branch(y, n, m),
-        Statement::Skip => Statement::Skip,
+        Statement::Read(_) | Statement::Write(_) | Statement::Branch(_, _, _) | Statement::Skip =>
+            i,
     }
 }
 

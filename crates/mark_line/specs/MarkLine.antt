@@ -1,10 +1,8 @@
 -- What `mark_line` answers, for every list's text and line.
-use Rattle.std.specs.Prelude.{◌≡◌, List, ℕ}
-use Rattle.marks.specs.Reading.{number, Refused, Taken, Lined, begin_of, end_of}
+use Rattle.std.specs.Prelude.{◌≡◌, List, ℕ, Result, Ok, Err}
+use Rattle.marks.specs.Reading.{Refused, Taken, Lined, begin_of, end_of}
 use Rattle.marks.specs.declared.Mark.{Mark}
 use Rattle.marks.specs.declared.Refusal.{Refusal}
-use Rattle.mark_line.specs.declared.MarkLineAnswer.{MarkLineAnswer}
-use Rattle.mark_line.specs.declared.MarkLineAnswer.TheVariants as answer
 
 -- the list is taken: line j begins at b and ends, its byte 10 included, at e
 pub record MarkLineFound (u : List ℕ) (j b e : ℕ) : Type 0 where
@@ -14,7 +12,7 @@ pub record MarkLineFound (u : List ℕ) (j b e : ℕ) : Type 0 where
   pub begins : b ≡ begin_of ms j
   pub ends : e ≡ end_of ms j
 
--- no memory is lent, so there is no refusal 1: "9 and 10", the number of the first that applies
-abbrev pub MarkLineAnswers : List ℕ → ℕ → MarkLineAnswer → Type 0
-MarkLineAnswers u j (answer.Refused n) = (r : Refusal) × Refused u r × (n ≡ number r)
-MarkLineAnswers u j (answer.Found b e) = MarkLineFound u j b e
+-- no memory is lent, so there is no refusal 1: "9 and 10", the first that applies
+abbrev pub MarkLineAnswers : List ℕ → ℕ → Result (ℕ × ℕ) Refusal → Type 0
+MarkLineAnswers u j (Ok r) = MarkLineFound u j r.0 r.1
+MarkLineAnswers u j (Err r) = Refused u r

@@ -4,12 +4,11 @@ use mathlib.Core.List.{List}
 use Prim.Native.Nat.{ℕ}
 use native.Mathlib.Omega.{arith}
 use lib.ListN.{length}
+use Rattle.std.specs.Prelude.{Result, Ok, Err}
 use Rattle.lines.proofs.Texts.{spells-unique}
 use Rattle.marks.specs.declared.Mark.{Mark}
 use Rattle.marks.specs.declared.Refusal.{Refusal}
 use Rattle.marks.specs.declared.Refusal.TheVariants.{Misspelled, LineCount}
-use Rattle.marks.specs.declared.Checked.{Checked}
-use Rattle.marks.specs.declared.Checked.TheVariants as checked
 use Rattle.marks.specs.Marks.{Spells}
 use Rattle.marks.specs.Reading.{Refused, Taken, ListRead}
 use Rattle.marks.proofs.Spelling.{marks-unambiguous}
@@ -35,6 +34,6 @@ refused-unique t LineCount Misspelled a b = absurd (b a.0 a.1)
 refused-unique t LineCount LineCount a b = refl
 
 -- whatever is answered of a list that is taken is its number of marks
-pub taken-checked : {t : List ℕ} {ms : List Mark} → Taken t ms → (c : Checked) → ListRead t c → c ≡ checked.Taken (length ms)
-taken-checked a (checked.Taken n) l = ap checked.Taken (l.2 ∙ ap length (taken-unique l.1 a))
-taken-checked a (checked.Refused r) l = absurd (taken_refused a r l)
+pub taken-checked : {t : List ℕ} {ms : List Mark} → Taken t ms → (c : Result ℕ Refusal) → ListRead t c → c ≡ Ok (length ms)
+taken-checked a (Ok n) l = ap Ok (l.2 ∙ ap length (taken-unique l.1 a))
+taken-checked a (Err r) l = absurd (taken_refused a r l)

@@ -18,11 +18,11 @@ use Rattle.tokens.proofs.Parse.{after-inv, pick_inv, skip-sound}
 use Rattle.statement_reader.proofs.Lines.{operand_sound, operand-complete, expression-sound, expression-complete}
 use Rattle.marks.specs.declared.Mark.{Mark}
 use Rattle.marks.specs.declared.Mark.TheVariants.{Rm, Rpl, Cse}
-use Rattle.marks.specs.declared.read.MarkRead.{MarkRead}
-use Rattle.marks.specs.declared.read.MarkRead.TheVariants.{Found, Misspelled}
 use Rattle.marks.specs.Marks.{mark_word, rm_word, rpl_word, cse_word, comma_word, spell_mark, ValidMark}
 use Rattle.marks.specs.Reading.{MarkLineRead}
-use Rattle.marks.specs.Parsing.{parse_front, end_word, parse_tail, computed_mark, parse_computed, parse_rpl, by_second, parse_kind, parse_mark_line, parsed_mark, mark_end}
+use Rattle.marks.specs.Parsing.{parse_front, end_word, parse_tail, parse_computed, parse_rpl, by_second, parse_kind, parse_mark_line}
+use Rattle.tokens.specs.Parsing.{parsed, parsed_end}
+use Rattle.std.specs.Prelude.{Option, Some, None}
 
 -- a mark's line after its `mark(`, with the word w and with y for E or A, and what follows it, grouped as it is read
 abbrev tail : List ℕ → ℕ → List ℕ → List ℕ → List ℕ
@@ -131,6 +131,6 @@ module _ (n : ℕ) (s : List ℕ) (k : ℕ) where
   kind-second h = rw (at_byte s k (omega arith), at_byte s (k + 1) h)
 
 -- the answer of `mark` means what it should
-pub line-right : (s : List ℕ) (at : ℕ) (r : MarkRead) → mark_end r ≤ length s → parsed_mark s r ≡ parse_mark_line (drop at s) → MarkLineRead s at r
-line-right s at (Found m k) w h = let i = line-sound (drop at s) m (drop k s) (sym h) in record { stands = i.0; within = w; valid = i.1 }
-line-right s at Misspelled w h = λ m rest v t. let z : ◌≡◌ {A = ℕ} 0 1 = cc (line-complete m rest v) in omega arith
+pub line-right : (s : List ℕ) (at : ℕ) (r : Option (Mark × ℕ)) → parsed_end r ≤ length s → parsed s r ≡ parse_mark_line (drop at s) → MarkLineRead s at r
+line-right s at (Some r) w h = let i = line-sound (drop at s) r.0 (drop r.1 s) (sym h) in record { stands = i.0; within = w; valid = i.1 }
+line-right s at None w h = λ m rest v t. let z : ◌≡◌ {A = ℕ} 0 1 = cc (line-complete m rest v) in omega arith

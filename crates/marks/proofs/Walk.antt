@@ -9,8 +9,7 @@ use Rattle.lines.proofs.Texts.{valid-at}
 use Rattle.lines.proofs.Walk as walk
 pub use Rattle.lines.proofs.Walk.{begins-first, text-line, text-done}
 use Rattle.marks.specs.declared.Mark.{Mark}
-use Rattle.marks.specs.declared.read.MarkRead.{MarkRead}
-use Rattle.marks.specs.declared.read.MarkRead.TheVariants.{Found, Misspelled}
+use Rattle.std.specs.Prelude.{Option, Some, None}
 use Rattle.marks.specs.Marks.{spell_mark, ValidMark, AllValid, Spells}
 use Rattle.marks.specs.Reading.{MarkLineRead, begin_of, Lined}
 use Rattle.marks.proofs.Spelling.{marks-unambiguous}
@@ -19,11 +18,11 @@ pub at-valid : (ms : List Mark) (j : ℕ) (d : Mark) → AllValid ms → j < len
 at-valid ms j d v h = valid-at ValidMark ms j d v h
 
 -- what the reader of a line told
-module _ (t : List ℕ) (at : ℕ) {r : MarkRead} where
-  pub no_line : r ≡ Misspelled → MarkLineRead t at r → NoLine spell_mark ValidMark (drop at t)
+module _ (t : List ℕ) (at : ℕ) {r : Option (Mark × ℕ)} where
+  pub no_line : r ≡ None → MarkLineRead t at r → NoLine spell_mark ValidMark (drop at t)
   no_line is l = rw is at l
 
-  module _ {m : Mark} {k : ℕ} (is : r ≡ Found m k) (l : MarkLineRead t at r) where
+  module _ {m : Mark} {k : ℕ} (is : r ≡ Some (m, k)) (l : MarkLineRead t at r) where
     pub line_of : LineOf spell_mark ValidMark t at m k
     line_of = rw is at l
 
@@ -34,11 +33,11 @@ module _ (t : List ℕ) (at : ℕ) {r : MarkRead} where
 abbrev pub Begins : List ℕ → List Mark → ℕ → ℕ → Type 0
 Begins t ms j at = walk.Begins spell_mark ValidMark t ms j at
 
-module _ {t : List ℕ} {ms : List Mark} {j at : ℕ} (b : Begins t ms j at) {r : MarkRead} where
-  pub line-found : r ≡ Misspelled → MarkLineRead t at r → j < length ms → ⊥
+module _ {t : List ℕ} {ms : List Mark} {j at : ℕ} (b : Begins t ms j at) {r : Option (Mark × ℕ)} where
+  pub line-found : r ≡ None → MarkLineRead t at r → j < length ms → ⊥
   line-found is l h = walk.line-found b (no_line t at is l) h
 
-  module _ {m : Mark} {k : ℕ} (is : r ≡ Found m k) (l : MarkLineRead t at r) where
+  module _ {m : Mark} {k : ℕ} (is : r ≡ Some (m, k)) (l : MarkLineRead t at r) where
     pub line-inside : j < length ms
     line-inside = walk.line-inside b (line_of t at is l)
 

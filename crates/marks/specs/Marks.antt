@@ -1,5 +1,5 @@
 -- Marks and how a list of them is spelled: document 01, "Marks", and document 02, Wish 6.
-use Rattle.std.specs.Prelude.{List, [], ◌∷◌, ◌++◌, ℕ, get_or}
+use Rattle.std.specs.Prelude.{List, ◌++◌, ℕ, get_or}
 use Rattle.base.specs.Bytes.{bytes}
 use Rattle.lines.specs.Lines as lines
 use Rattle.language.specs.Spelling.{spell_statement_number, ValidStatementNumber, spell_variable, ValidVariable, spell_operand, ValidOperand, spell_expression, ValidExpression}

@@ -1,6 +1,6 @@
 -- A proof device: what each reader of marks finds at the front of a text, the readers' common language. It promises nothing by itself:
 -- proofs/Spelling.antt holds it to the spelling, both ways round.
-use Rattle.std.specs.Prelude.{Bool, true, false, List, [], ◌∷◌, ℕ, eqb, drop}
+use Rattle.std.specs.Prelude.{Bool, true, false, List, [], ◌∷◌, ℕ, eqb}
 use Rattle.base.specs.Bytes.{byte}
 use Rattle.base.specs.Pick.{pick}
 use Rattle.language.specs.declared.Expression.{Expression}
@@ -9,8 +9,6 @@ use Rattle.statement_reader.specs.Parsing.{parse_operand, parse_expression}
 use Rattle.marks.specs.Marks.{mark_word, rm_word, rpl_word, cse_word, comma_word}
 use Rattle.marks.specs.declared.Mark.{Mark}
 use Rattle.marks.specs.declared.Mark.TheVariants.{Rm, Rpl, Cse}
-use Rattle.marks.specs.declared.read.MarkRead.{MarkRead}
-use Rattle.marks.specs.declared.read.MarkRead.TheVariants.{Found, Misspelled}
 
 -- the word w, a variable and `, `
 unfoldable pub parse_front : List ℕ → List ℕ → Parsed ℕ
@@ -58,13 +56,3 @@ parse_mark_line l =
     after (parse_statement_number l) λ n t.
     after (parse_word mark_word t) λ _ u.
     parse_kind n u
-
--- what a reader's answer says of the text
-abbrev pub parsed_mark : List ℕ → MarkRead → Parsed Mark
-parsed_mark s (Found m k) = found m (drop k s)
-parsed_mark s Misspelled = misspelled
-
--- the position after the mark
-abbrev pub mark_end : MarkRead → ℕ
-mark_end (Found m k) = k
-mark_end Misspelled = 0

@@ -1,21 +1,15 @@
 -- Which refusal a list of marks gets, and what it means that a line and that a list were read right.
-use Rattle.std.specs.Prelude.{◌≡◌, List, ℕ, suc, ◌≤◌, ◌<◌, length, take, drop}
+use Rattle.std.specs.Prelude.{◌≡◌, List, ℕ, suc, ◌≤◌, ◌<◌, length, take, drop, Option, Some, None, Result, Ok, Err}
 use Rattle.lines.specs.Lines as lines
 use Rattle.marks.specs.Marks.{spell_mark, ValidMark, text, Spells, mark_at}
 use Rattle.marks.specs.declared.Mark.{Mark}
 use Rattle.marks.specs.declared.Refusal.{Refusal}
 use Rattle.marks.specs.declared.Refusal.TheVariants.{Misspelled, LineCount}
-use Rattle.marks.specs.declared.Checked.{Checked}
-use Rattle.marks.specs.declared.Checked.TheVariants as checked
-use Rattle.marks.specs.declared.Span.{Span}
-use Rattle.marks.specs.declared.Span.TheVariants as span
-use Rattle.marks.specs.declared.read.MarkRead.{MarkRead}
-use Rattle.marks.specs.declared.read.MarkRead.TheVariants as markRead
 
--- found: the valid mark m has the line from `at` to k; misspelled: no valid mark's line stands there
-abbrev pub MarkLineRead : List ℕ → ℕ → MarkRead → Type 0
-MarkLineRead s at (markRead.Found m k) = lines.LineOf spell_mark ValidMark s at m k
-MarkLineRead s at markRead.Misspelled = lines.NoLine spell_mark ValidMark (drop at s)
+-- `Some`: the valid mark r.0 has the line from `at` to r.1; `None`: no valid mark's line stands there
+abbrev pub MarkLineRead : List ℕ → ℕ → Option (Mark × ℕ) → Type 0
+MarkLineRead s at (Some r) = lines.LineOf spell_mark ValidMark s at r.0 r.1
+MarkLineRead s at None = lines.NoLine spell_mark ValidMark (drop at s)
 
 -- "Zero to 256 lines" of document 01, "marks 1,024 lines" of document 02
 abbrev pub most : ℕ
@@ -51,11 +45,11 @@ pub record Lined (t : List ℕ) (ms : List Mark) : Type 0 where
   pub last : begin_of ms (length ms) ≡ length t
 
 -- each answer, and what it says of the text: n is the number of marks, and each has its line
-abbrev pub ListRead : List ℕ → Checked → Type 0
-ListRead t (checked.Taken n) = (ms : List Mark) × Taken t ms × (n ≡ length ms) × Lined t ms
-ListRead t (checked.Refused r) = Refused t r
+abbrev pub ListRead : List ℕ → Result ℕ Refusal → Type 0
+ListRead t (Ok n) = (ms : List Mark) × Taken t ms × (n ≡ length ms) × Lined t ms
+ListRead t (Err r) = Refused t r
 
--- the same for one line: it begins at b and ends at e
-abbrev pub SpanRead : List ℕ → ℕ → Span → Type 0
-SpanRead t j (span.Found b e) = (ms : List Mark) × Taken t ms × Lined t ms × (b ≡ begin_of ms j) × (e ≡ end_of ms j)
-SpanRead t j (span.Refused r) = Refused t r
+-- the same for one line: where it begins and ends
+abbrev pub SpanRead : List ℕ → ℕ → Result (ℕ × ℕ) Refusal → Type 0
+SpanRead t j (Ok r) = (ms : List Mark) × Taken t ms × Lined t ms × (r.0 ≡ begin_of ms j) × (r.1 ≡ end_of ms j)
+SpanRead t j (Err r) = Refused t r

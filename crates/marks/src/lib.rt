@@ -5,6 +5,7 @@ ghost use Rattle.std.specs.Prelude.{◌≡◌};
 ghost use Rattle.marks.specs.Reading.{number};
 
 use language::{Expression, Operand};
+use refusals::Numbered;
 
 pub mod read;
 
@@ -26,25 +27,13 @@ pub enum Refusal {
     LineCount,
 }
 
-// The number of marks of a list that is taken, or why it is not.
-#[derive(Clone, Copy)]
-pub enum Checked {
-    Taken(u32),
-    Refused(Refusal),
-}
+impl Numbered for Refusal {
+    ghost number = { number };
 
-// Where a line of a list that is taken begins and ends, its byte 10 included, or why the list is not.
-#[derive(Clone, Copy)]
-pub enum Span {
-    Found(usize, usize),
-    Refused(Refusal),
-}
-
-pub fn number_of(r: Refusal) -> u8
-    ensures { result ≡ number r }
-{
-    match r {
-        Refusal::Misspelled => 9,
-        Refusal::LineCount => 10,
+    fn number(self) -> u8 {
+        match self {
+            Refusal::Misspelled => 9,
+            Refusal::LineCount => 10,
+        }
     }
 }

@@ -13,9 +13,9 @@ use Rattle.condition.specs.Texts.{most_parts}
 use Rattle.condition.proofs.Parts.{parts-few, parts_last}
 use Rattle.sharing.specs.Sharing.{most_tables, part, number_of, firsts}
 use Rattle.sharing.specs.Keys.{Known, key_of, Postfix}
-use Rattle.sharing.proofs.Firsts.{part_stays, firsts-one-each, firsts-begin, number-kept}
+use Rattle.sharing.proofs.Firsts.{firsts-one-each, firsts-begin, number-kept}
 use Rattle.sharing.proofs.Keys.{key-stays, postfix-front, part-ready, step-found, step-new, keys_kept}
-use Rattle.keys.specs.Store.{key_in, Formed, Store, Looked}
+use Rattle.keys.specs.Store.{key_in, Formed, Store, Keyed, Unkeyed}
 use Rattle.numbering.specs.Numbering.{entry_of, Usable, Shares, Sharing, Line, SoFar, LineNumbered}
 use Rattle.numbering.specs.declared.LineNumber.{LineNumber}
 use Rattle.numbering.proofs.Entries.{entry-usable, entry-told}
@@ -86,20 +86,17 @@ module _ {u : List ℕ} {base m : ℕ} {ws : List ℕ} {ps : List Condition} {c 
       few : length (parts c) ≤ most_parts
       few = x.held.taken.few
 
-  module _ (e : ℕ) (key : key_in u e ≡ key_of (firsts seen) p) (r : ℕ) (looked : Looked u entries count e r) where
-    pub part-found : r < count → SoFar u ps c (set ns k r) entries links heads count (k + 1)
-    part-found b = record {
+  module _ (e : ℕ) (key : key_in u e ≡ key_of (firsts seen) p) where
+    pub part-found : (r : ℕ) → Keyed u entries count e r → SoFar u ps c (set ns k r) entries links heads count (k + 1)
+    part-found r looked = record {
       within = omega arith;
       room = length-set ns k r ∙ s.room;
       store = s.store;
-      shares = rw seen_more (shares-found s.shares p (drop (suc k) (parts c)) seen-whole e key r b (looked.found b));
-      numbers = numbers_more r (found s.shares p (drop (suc k) (parts c)) seen-whole e key r b (looked.found b)).1;
+      shares = rw seen_more (shares-found s.shares p (drop (suc k) (parts c)) seen-whole e key r looked.inside looked.same);
+      numbers = numbers_more r (found s.shares p (drop (suc k) (parts c)) seen-whole e key r looked.inside looked.same).1;
     }
 
-    module _ (b : count ≤ r) where
-      none : (i : ℕ) → i < count → key_in u (get_or entries i 0) ≡ key_in u e → ⊥
-      none = looked.none (let a = looked.within in omega arith)
-
+    module _ (none : Unkeyed u entries count e) where
       pub part-new : count < most_tables → {entries' links' heads' : List ℕ} → entries' ≡ set entries count e → Store u entries' links' heads' (count + 1)
           → SoFar u ps c (set ns k count) entries' links' heads' (count + 1) (k + 1)
       part-new d is t = record {

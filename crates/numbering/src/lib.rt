@@ -64,14 +64,11 @@ pub fn number_line(
     }
     let mut numbers = blank_numbers();
     let mut n = count;
-    let mut k: usize = 0;
-    while k < parts {
-        let w = words[k];
-        let e = entry_of(w, base, &numbers, k);
-        let i = keys::find(text, e, &*entries, &*links, &*heads, n);
-        if i < n {
+    for k in 0..parts {
+        let e = entry_of(words[k], base, &numbers, k);
+        let found = keys::find(text, e, &*entries, &*links, &*heads, n);
+        if let Some(i) = found {
             numbers[k] = i as u32;
-            k += 1;
         } else {
             if MOST_TABLES <= n {
                 return LineNumber {
@@ -82,7 +79,6 @@ pub fn number_line(
             keys::add(text, e, entries, links, heads, n);
             numbers[k] = n as u32;
             n += 1;
-            k += 1;
         }
     }
     let last = parts - 1;

@@ -1,18 +1,16 @@
 -- A proof device: what each reader of operators finds at the front of a text. It promises nothing by itself: proofs/Spelling.antt holds it
 -- to the spelling, both ways round.
-use Rattle.std.specs.Prelude.{List, [], ◌∷◌, ℕ, eqb, drop, get_or}
+use Rattle.std.specs.Prelude.{List, [], ◌∷◌, ℕ, eqb, get_or}
 use Rattle.base.specs.Bytes.{bytes, byte}
 use Rattle.tokens.specs.Parsing.{Parsed, found, misspelled, after, parse_word}
 use Rattle.base.specs.Pick.{pick}
 use Rattle.ctl.specs.Paths.{Quant, E, A, forward, backward}
 use Rattle.condition.specs.Condition.{next, finally, globally, until, weak, Unary, negation, Binary, conjunction, disjunction, prefix, middle}
 use Rattle.atom_reader.specs.Parsing.{parse_ended}
-use Rattle.operator_reader.specs.declared.OperatorRead.{OperatorRead}
-use Rattle.operator_reader.specs.declared.OperatorRead.TheVariants as operatorRead
 use Rattle.operator_reader.specs.declared.Bracket.{Bracket}
 use Rattle.operator_reader.specs.declared.Bracket.TheVariants.{Round, Some, All}
-use Rattle.operator_reader.specs.declared.BracketRead.{BracketRead}
-use Rattle.operator_reader.specs.declared.BracketRead.TheVariants as bracketRead
+use Rattle.operator_reader.specs.declared.Quantifier.{Quantifier}
+use Rattle.operator_reader.specs.declared.Quantifier.TheVariants as quantifier
 
 -- of the operators os, with words w, the one whose second byte is c, and then a space
 unfoldable pub by_letter : {O : Type 0} → (O → List ℕ) → List O → ℕ → List ℕ → Parsed O
@@ -61,14 +59,6 @@ parse_opening (c ∷ l) =
     (pick (eqb c (byte "E")) (parse_ended (bytes "[") Some l)
     (pick (eqb c (byte "A")) (parse_ended (bytes "[") All l) misspelled))
 
-abbrev pub parsed_bracket : List ℕ → BracketRead → Parsed Bracket
-parsed_bracket s (bracketRead.Found b k) = found b (drop k s)
-parsed_bracket s bracketRead.Misspelled = misspelled
-
-abbrev pub bracket_end : BracketRead → ℕ
-bracket_end (bracketRead.Found b k) = k
-bracket_end bracketRead.Misspelled = 0
-
 unfoldable pub parse_middle : Bracket → List ℕ → Parsed Binary
 parse_middle b l = after (parse_word (bytes " ") l) λ _ t. parse_letter middle (opened b) t
 
@@ -77,13 +67,10 @@ abbrev pub coded : {O : Type 0} → (O → ℕ) → Parsed O → Parsed ℕ
 coded code (found o t) = found (code o) t
 coded code misspelled = misspelled
 
-abbrev pub parsed_operator : List ℕ → OperatorRead → Parsed ℕ
-parsed_operator s (operatorRead.Found n k) = found n (drop k s)
-parsed_operator s operatorRead.Misspelled = misspelled
-
-abbrev pub operator_end : OperatorRead → ℕ
-operator_end (operatorRead.Found n k) = k
-operator_end operatorRead.Misspelled = 0
+-- the quantifier that the letter `E` or `A` spells
+abbrev pub quant_of : Quantifier → Quant
+quant_of quantifier.Some = E
+quant_of quantifier.All = A
 
 -- the codes of the operators with A are one more than those with E
 abbrev pub all_of : Quant → ℕ

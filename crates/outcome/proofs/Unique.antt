@@ -17,10 +17,7 @@ use Rattle.blame.proofs.Unique.{blames-unique}
 use Rattle.run.specs.Run.{budget_number, RunRefused}
 use Rattle.run.proofs.Unique.{number-unique, never-refused}
 use Rattle.desk.specs.Refusals.{refusal_text}
-use Rattle.start.specs.Start.{StartRead}
-use Rattle.start.specs.declared.Answer.{Answer}
-use Rattle.start.specs.declared.Answer.TheVariants as start
-use Rattle.start.proofs.Unique.{answer-unique, start-unique}
+use Rattle.start.proofs.Unique.{wrong-unique, taken_wrong, start-unique}
 use Rattle.start_refusal.specs.StartRefusal.{start_text}
 use Rattle.outcome.specs.Outcome.{answer_text, RunResult, RunRefusal, Runs, Result, Refusal, Output}
 
@@ -28,12 +25,9 @@ module _ {t u : List ℕ} {P : List Statement} {vs : List ℕ} {input budget : �
   pub runs-unique : {Q : List Statement} {ws : List ℕ} {j n : ℕ} → Runs t u Q ws j n → (P ≡ Q) × (vs ≡ ws) × (input ≡ j) × (budget ≡ n)
   runs-unique b = let s = start-unique a.start b.start in (taken-unique a.taken b.taken, s.2, s.0, s.1)
 
-  pub runs-start : (b : Answer) (j n : ℕ) (ws : List ℕ) → StartRead u b j n ws → b ≡ start.Taken
-  runs-start b j n ws s = answer-unique u b start.Taken j input n budget ws vs s a.start
-
   -- it isn't refused
   pub runs-refused : {w : List ℕ} → Refusal t u w → ⊥
-  runs-refused (inl x) = x.wrong (runs-start x.answer x.input x.budget x.values x.read)
+  runs-refused (inl x) = taken_wrong a.start x.wrong x.read
   runs-refused (inr x) =
       let same = (start-unique x.3 a.start).1 in
       never-refused t budget (rw same at x.4.refused) a.allowed a.taken
@@ -75,12 +69,9 @@ refusal-run t budget a b =
     a.tells ∙ ap₂ refusal_text n l ∙ sym b.tells
 
 pub refusal-unique : (t u : List ℕ) {w x : List ℕ} → Refusal t u w → Refusal t u x → w ≡ x
-refusal-unique t u (inl a) (inl b) =
-    a.tells ∙ ap start_text (answer-unique u a.answer b.answer a.input b.input a.budget b.budget a.values b.values a.read b.read) ∙ sym b.tells
-refusal-unique t u (inl a) (inr b) =
-    absurd (a.wrong (answer-unique u a.answer start.Taken a.input b.0 a.budget b.1 a.values b.2 a.read b.3))
-refusal-unique t u (inr a) (inl b) =
-    absurd (b.wrong (answer-unique u b.answer start.Taken b.input a.0 b.budget a.1 b.values a.2 b.read a.3))
+refusal-unique t u (inl a) (inl b) = a.tells ∙ ap start_text (wrong-unique u a.wrong b.wrong a.read b.read) ∙ sym b.tells
+refusal-unique t u (inl a) (inr b) = absurd (taken_wrong b.3 a.wrong a.read)
+refusal-unique t u (inr a) (inl b) = absurd (taken_wrong a.3 b.wrong b.read)
 refusal-unique t u (inr a) (inr b) = refusal-run t b.1 (rw (start-unique a.3 b.3).1 at a.4) b.4
 
 pub output-unique : (t u : List ℕ) {w x : List ℕ} → Output t u w → Output t u x → w ≡ x

@@ -1,5 +1,6 @@
 -- What is printed of a run: its outcome, or the refusal in words, for every program text and start text.
-use Rattle.std.specs.Prelude.{◌≡◌, ◌⊎◌, List, [], ◌∷◌, ◌++◌, ℕ, zero, suc, ◌+◌, ◌*◌, ◌≤◌, ◌<◌, length, get_or}
+use Rattle.std.specs.Prelude.{◌≡◌, ◌⊎◌, List, [], ◌∷◌, ◌++◌, ℕ, zero, suc, ◌+◌, ◌*◌, ◌≤◌, ◌<◌, length, get_or, Ok, Err}
+use Rattle.std.specs.Prelude as std
 use Rattle.language.specs.Spelling.{variables}
 use Rattle.statement_writer.specs.Writing.{Put}
 use Rattle.language.specs.declared.Statement.{Statement}
@@ -10,15 +11,14 @@ use Rattle.machine.specs.declared.Answer.{Answer}
 use Rattle.machine.specs.declared.Answer.TheVariants.{Ended, Fault, Spent}
 use Rattle.run.specs.Run.{most_steps, RunRefused, RunFinished}
 use Rattle.desk.specs.Refusals.{refusal_text}
-use Rattle.start.specs.Start.{StartTaken, StartRead}
-use Rattle.start.specs.declared.Answer as start
-use Rattle.start.specs.declared.Answer.TheVariants.{Taken}
+use Rattle.desk.specs.declared.Failure.{Failure}
+use Rattle.desk.specs.declared.Failure.TheVariants.{Refused, NoRoom}
+use Rattle.start.specs.Start.{StartTaken, StartWrong}
+use Rattle.start.specs.declared.Wrong.{Wrong}
 use Rattle.start_refusal.specs.StartRefusal.{start_text}
 use Rattle.trace.specs.Trace.{value_text}
 use Rattle.trace.specs.Stepping.{value_room}
 use Rattle.answer_line.specs.AnswerLine.{line_of_answer, spent_room}
-use Rattle.outcome.specs.declared.Told.{Told}
-use Rattle.outcome.specs.declared.Told.TheVariants.{Written, Refused, NoRoom}
 
 -- a line `i0 = 2` for each of the first n variables
 unfoldable pub value_lines : ℕ → List ℕ → List ℕ
@@ -53,13 +53,9 @@ pub record RunRefusal (t : List ℕ) (budget : ℕ) (w : List ℕ) : Type 0 wher
 
 -- the start text u is wrong, and w says what is
 pub record StartRefusal (u w : List ℕ) : Type 0 where
-  pub answer : start.Answer
-  pub input : ℕ
-  pub budget : ℕ
-  pub values : List ℕ
-  pub read : StartRead u answer input budget values
-  pub wrong : answer ≡ Taken → ⊥
-  pub tells : w ≡ start_text answer
+  pub wrong : Wrong
+  pub read : StartWrong u wrong
+  pub tells : w ≡ start_text wrong
 
 -- w tells how the run of the program text t from the start text u went
 pub record Result (t u w : List ℕ) : Type 0 where
@@ -98,13 +94,13 @@ pub record Printed (Claim : List ℕ → Type 0) (o q : List ℕ) (n : ℕ) : Ty
   pub put : Put o 0 w q n
 
 -- too few bytes are kept as they are
-abbrev pub Prints : List ℕ → List ℕ → List ℕ → List ℕ → Told → Type 0
-Prints t u o q (Written n) = Printed (Result t u) o q n
-Prints t u o q (Refused n) = Printed (Refusal t u) o q n
-Prints t u o q NoRoom = (length o < outcome_room) × (q ≡ o)
+abbrev pub Prints : List ℕ → List ℕ → List ℕ → List ℕ → std.Result ℕ Failure → Type 0
+Prints t u o q (Ok n) = Printed (Result t u) o q n
+Prints t u o q (Err (Refused n)) = Printed (Refusal t u) o q n
+Prints t u o q (Err NoRoom) = (length o < outcome_room) × (q ≡ o)
 
 -- the same of the part that tells the run, for which there is room
-abbrev pub RunPrints : List ℕ → List ℕ → ℕ → ℕ → List ℕ → List ℕ → Told → Type 0
-RunPrints t vs input budget o q (Written n) = Printed (RunResult t vs input budget) o q n
-RunPrints t vs input budget o q (Refused n) = Printed (RunRefusal t budget) o q n
-RunPrints t vs input budget o q NoRoom = ⊥
+abbrev pub RunPrints : List ℕ → List ℕ → ℕ → ℕ → List ℕ → List ℕ → std.Result ℕ Failure → Type 0
+RunPrints t vs input budget o q (Ok n) = Printed (RunResult t vs input budget) o q n
+RunPrints t vs input budget o q (Err (Refused n)) = Printed (RunRefusal t budget) o q n
+RunPrints t vs input budget o q (Err NoRoom) = ⊥

@@ -7,9 +7,10 @@ ghost use Rattle.statement_writer.specs.Writing.{Put};
 ghost use Rattle.outcome.specs.Outcome.{value_lines, answer_text, value_line_room, outcome_room, Prints, RunPrints};
 
 use answer_line::SPENT_ROOM;
+use desk::Failure;
 use language::KEPT;
 use machine::{Answer, VALUES};
-use run::RunAnswer;
+use refusals::Numbered;
 use trace::VALUE_ROOM;
 
 // The line of a value has room in this many bytes, and every outcome in this many.
@@ -17,25 +18,15 @@ const VALUE_LINE_ROOM: usize = VALUE_ROOM + 1;
 
 pub const OUTCOME_ROOM: usize = SPENT_ROOM + VALUES * VALUE_LINE_ROOM;
 
-// The number of bytes: Written, of a result; Refused, of a refusal's text. NoRoom: under OUTCOME_ROOM bytes are lent.
-#[derive(Clone, Copy)]
-pub enum Told {
-    Written(usize),
-    Refused(usize),
-    NoRoom,
-}
-
 // A line `i0 = 2` for each variable.
 fn value_lines(out: &mut [u8], at: usize, values: &[u32; VALUES]) -> usize
     requires { at + variables * value_line_room ≤ length out.old }
     ensures { Put out.old at (value_lines variables values.now) out.new result }
 {
     let mut to = at;
-    let mut x: usize = 0;
-    while x < VALUES {
+    for x in 0..VALUES {
         let k = trace::value(out, to, x as u8, values[x]);
         to = statement_writer::byte(out, k, 10);
-        x += 1;
     }
     to
 }
@@ -60,40 +51,37 @@ fn run_outcome(
     values: [u32; VALUES],
     input: u32,
     budget: u32,
-) -> Told
+) -> Result<usize, Failure>
     requires { outcome_room ≤ length out.old }
     ensures { RunPrints program.now values input budget out.old out.new result }
 {
-    let ran = run::run(program, values, input, budget, pricing::ours());
-    let left = ran.values;
-    let kept = ran.kept;
-    let answer = ran.answer;
-    match answer {
-        RunAnswer::Refused(n) => {
-            let line = blame::line_of_number(program, n);
-            Told::Refused(desk::refusals::refusal(out, 0, n, line))
+    match run::run(program, values, input, budget, pricing::ours()) {
+        Ok(ran) => {
+            let left = ran.values;
+            let kept = ran.kept;
+            Ok(answer_text(out, ran.answer, &left, &kept))
         }
-        RunAnswer::Finished(a) => Told::Written(answer_text(out, a, &left, &kept)),
+        Err(refusal) => {
+            let n = refusal.number();
+            let line = blame::line_of_number(program, n);
+            Err(Failure::Refused(desk::refusals::refusal(out, 0, n, line)))
+        }
     }
 }
 
-// Puts what is printed of the run of the program's text from the start's text at the front of the lent bytes.
-pub fn outcome(program: &[u8], start: &[u8], out: &mut [u8]) -> Told
+// Puts what is printed of the run of the program's text from the start's text at the front of the lent bytes, and answers its length; NoRoom:
+// under OUTCOME_ROOM bytes are lent.
+pub fn outcome(program: &[u8], start: &[u8], out: &mut [u8]) -> Result<usize, Failure>
     ensures { Prints program.now start.now out.old out.new result }
 {
     if out.len() < OUTCOME_ROOM {
-        return Told::NoRoom;
+        return Err(Failure::NoRoom);
     }
-    let read = start::read(start);
-    let answer = read.answer;
-    match answer {
-        start::Answer::Taken => {
-            let values = read.values;
-            run_outcome(out, program, values, read.input, read.budget)
+    match start::read(start) {
+        Ok(taken) => {
+            let values = taken.values;
+            run_outcome(out, program, values, taken.input, taken.budget)
         }
-        start::Answer::Few => Told::Refused(start_refusal::write(out, answer)),
-        start::Answer::Many => Told::Refused(start_refusal::write(out, answer)),
-        start::Answer::Line(_) => Told::Refused(start_refusal::write(out, answer)),
-        start::Answer::Unended(_) => Told::Refused(start_refusal::write(out, answer)),
+        Err(wrong) => Err(Failure::Refused(start_refusal::write(out, Some(wrong)))),
     }
 }

@@ -10,10 +10,11 @@ use Rattle.base.specs.Bytes.{byte}
 use Rattle.base.specs.Pick.{pick}
 use Rattle.statement_writer.specs.Writing.{Put}
 use Rattle.statement_writer.proofs.Puts.{put_front, put-within}
-use Rattle.view.specs.View.{PrintsView, PrintsRefusal, view_room, Printed, Views}
+use Rattle.view.specs.View.{PrintsView, PrintsRefusal, view_room, Printed}
 use Rattle.page.specs.Page.{escape_byte, escape, page_room, PagePrinted, Pages}
-use Rattle.view.specs.declared.Viewed.{Viewed}
-use Rattle.view.specs.declared.Viewed.TheVariants.{Written, Refused, NoRoom}
+use Rattle.std.specs.Prelude.{Result, Ok, Err}
+use Rattle.desk.specs.declared.Failure.{Failure}
+use Rattle.desk.specs.declared.Failure.TheVariants.{Refused}
 use Rattle.view.proofs.Texts.{upto-most}
 
 pick-most : (b : Bool) (xs ys : List ℕ) (m : ℕ) → length xs ≤ m → length ys ≤ m → length (pick b xs ys) ≤ m
@@ -28,10 +29,6 @@ escape-most : (s : List ℕ) → length (escape s) ≤ length s * 5
 unfolding escape
 escape-most s = upto-most (λ i. escape_byte (get_or s i 0)) 5 (length s) (λ i h. byte-most (get_or s i 0))
 
--- the plain bytes have room
-pub never : (t u p v : List ℕ) {r : Viewed} → Views t u p v r → length p ≡ view_room → r ≡ NoRoom → ⊥
-never t u p v a l is = let h = (rw is at a).0 in omega arith
-
 -- what the viewer left in the plain bytes p, now v
 module _ {Says : List ℕ → Type 0} {p v : List ℕ} {n : ℕ} (a : Printed Says p v n) (l : length p ≡ view_room) where
   plain-text : take n v ≡ a.w
@@ -45,9 +42,9 @@ module _ {Says : List ℕ → Type 0} {p v : List ℕ} {n : ℕ} (a : Printed Sa
       record { room = room; w = a.w; says = a.says; fits = rw plain-text at (page-fits (length o) room); written = rw plain-text at put }
 
 -- what stands at the front of the lent bytes ends within them
-module _ (t u o q : List ℕ) {r : Viewed} {n : ℕ} (h : Pages t u o q r) where
-  pub view-within : r ≡ Written n → n ≤ length q
+module _ (t u o q : List ℕ) {r : Result ℕ Failure} {n : ℕ} (h : Pages t u o q r) where
+  pub view-within : r ≡ Ok n → n ≤ length q
   view-within is = let p : PagePrinted (PrintsView t u) o q n = rw is at h in put-within p.written p.fits
 
-  pub refusal-within : r ≡ Refused n → n ≤ length q
+  pub refusal-within : r ≡ Err (Refused n) → n ≤ length q
   refusal-within is = let p : PagePrinted (PrintsRefusal t u) o q n = rw is at h in put-within p.written p.fits

@@ -1,11 +1,11 @@
 -- The view within a page of HTML.
-use Rattle.std.specs.Prelude.{◌≡◌, List, [], ◌∷◌, ℕ, ◌*◌, ◌≤◌, ◌<◌, eqb, length, get_or}
+use Rattle.std.specs.Prelude.{◌≡◌, List, [], ◌∷◌, ℕ, ◌*◌, ◌≤◌, ◌<◌, eqb, length, get_or, Result, Ok, Err}
 use Rattle.base.specs.Bytes.{byte, bytes}
 use Rattle.base.specs.Pick.{pick}
 use Rattle.statement_writer.specs.Writing.{Put}
+use Rattle.desk.specs.declared.Failure.{Failure}
+use Rattle.desk.specs.declared.Failure.TheVariants.{Refused, NoRoom}
 use Rattle.view.specs.View.{up_to, PrintsView, PrintsRefusal, view_room}
-use Rattle.view.specs.declared.Viewed.{Viewed}
-use Rattle.view.specs.declared.Viewed.TheVariants.{Written, Refused, NoRoom}
 
 -- `&`, `<` and `>` as HTML asks for them in a text
 unfoldable pub escape_byte : ℕ → List ℕ
@@ -27,7 +27,7 @@ pub record PagePrinted (Says : List ℕ → Type 0) (o q : List ℕ) (n : ℕ) :
   pub written : Put o 0 (escape w) q n
 
 -- what the viewer prints; too few bytes are kept as they are
-abbrev pub Pages : List ℕ → List ℕ → List ℕ → List ℕ → Viewed → Type 0
-Pages t u o q (Written n) = PagePrinted (PrintsView t u) o q n
-Pages t u o q (Refused n) = PagePrinted (PrintsRefusal t u) o q n
-Pages t u o q NoRoom = (length o < page_room) × (q ≡ o)
+abbrev pub Pages : List ℕ → List ℕ → List ℕ → List ℕ → Result ℕ Failure → Type 0
+Pages t u o q (Ok n) = PagePrinted (PrintsView t u) o q n
+Pages t u o q (Err (Refused n)) = PagePrinted (PrintsRefusal t u) o q n
+Pages t u o q (Err NoRoom) = (length o < page_room) × (q ≡ o)

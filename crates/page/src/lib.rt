@@ -6,7 +6,8 @@ ghost use Rattle.statement_writer.specs.Writing.{Put};
 ghost use Rattle.view.specs.View.{view_room};
 ghost use Rattle.page.specs.Page.{escape_byte, escape as escaped, Pages, page_room};
 
-use view::{VIEW_ROOM, Viewed};
+use desk::Failure;
+use view::VIEW_ROOM;
 
 // Every page's text has room in this many bytes.
 pub const PAGE_ROOM: usize = VIEW_ROOM * 5;
@@ -28,10 +29,8 @@ fn escape(out: &mut [u8], text: &[u8]) -> usize
     ensures { Put out.old 0 (escaped text.now) out.new result }
 {
     let mut to: usize = 0;
-    let mut i: usize = 0;
-    while i < text.len() {
-        to = escape_byte(out, to, text[i]);
-        i += 1;
+    for b in text {
+        to = escape_byte(out, to, *b);
     }
     to
 }
@@ -50,16 +49,16 @@ pub fn buffer() -> [u8; PAGE_ROOM]
 }
 
 // Puts what the viewer prints, escaped, at the front of the lent bytes.
-pub fn page(program: &[u8], condition: &[u8], out: &mut [u8]) -> Viewed
+pub fn page(program: &[u8], condition: &[u8], out: &mut [u8]) -> Result<usize, Failure>
     ensures { Pages program.now condition.now out.old out.new result }
 {
     if out.len() < PAGE_ROOM {
-        return Viewed::NoRoom;
+        return Err(Failure::NoRoom);
     }
     let mut plain = plain_buffer();
     match view::view(program, condition, &mut plain) {
-        Viewed::Written(n) => Viewed::Written(escape(out, &plain[..n])),
-        Viewed::Refused(n) => Viewed::Refused(escape(out, &plain[..n])),
-        Viewed::NoRoom => Viewed::NoRoom,
+        Ok(n) => Ok(escape(out, &plain[..n])),
+        Err(Failure::Refused(n)) => Err(Failure::Refused(escape(out, &plain[..n]))),
+        Err(Failure::NoRoom) => Err(Failure::NoRoom),
     }
 }

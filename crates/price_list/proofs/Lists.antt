@@ -1,34 +1,25 @@
--- Texts that are taken read as their programs; differences that have room in 32 bits; and the totals are the sums of the columns. Assumes nothing.
+-- Differences that have room in 32 bits; and the totals are the sums of the columns. Assumes nothing.
 use mathlib.Core.Path.{◌≡◌, refl, sym, ap, ◌∙◌}
 use mathlib.Core.Bool.{Bool, true, false}
 use mathlib.Core.List.{List, [], ◌∷◌}
-use Prim.Native.Nat.{ℕ, zero, suc, ◌+◌, ◌-◌, ◌*◌, ◌^◌, ◌≤◌, ◌<◌}
+use Prim.Native.Nat.{ℕ, zero, suc, ◌*◌, ◌^◌, ◌≤◌, ◌<◌}
 use native.Mathlib.Omega.{arith}
 use lib.Dec.{ltb}
-use lib.IntN.{ℤ, pos, negsuc}
+use lib.IntN.{ℤ, pos}
 use lib.ListN.{length, take}
 use lib.Signed.{mag}
 use mir.Syntax.{w32}
 use mir.Val.{to_z}
-use borrow.Author.Tests.{ltb-true, ltb-false, lt-ltb}
+use borrow.Author.Tests.{lt-ltb}
 use Rattle.language.specs.declared.Statement.{Statement}
-use Rattle.program.specs.Program.{most, Taken}
-use Rattle.program.specs.Reading.{statements, Held, ProgramRead}
+use Rattle.program.specs.Program.{most}
+use Rattle.program.specs.Reading.{statements, Held}
 use Rattle.program.specs.declared.Program.{Program}
-use Rattle.program.specs.declared.Answer as program
-use Rattle.program.specs.declared.Answer.TheVariants as answer
 use Rattle.program.proofs.Held.{length-held}
-use Rattle.program.proofs.RoundTrip.{taken-unique}
-use Rattle.program.proofs.Unique.{taken_refused}
 use Rattle.pricing.specs.Prices.{AtMost, column, sum, total}
 use Rattle.pricing.proofs.Columns.{column-total}
 use Rattle.price_list.specs.PriceList.{less, Lists}
 use Rattle.price_list.specs.declared.PriceList.{PriceList}
-
--- reading a text that is taken gives its program
-pub read_taken : {t : List ℕ} {P : List Statement} (a : program.Answer) (p : Program) → ProgramRead t a p → Taken t P → (statements p ≡ P) × Held p
-read_taken answer.Taken p r taken = (taken-unique r.0 taken, r.1)
-read_taken {t} (answer.Refused n) p r taken = absurd (taken_refused t taken n r.0)
 
 -- a word of the lower half stands for itself
 pub low_word : (a : ℕ) → a < 2 ^ 31 → to_z w32 a ≡ pos a

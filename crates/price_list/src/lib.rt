@@ -28,8 +28,10 @@ fn read_taken(text: &[u8]) -> Program
     requires { SomeProgram text.now }
     ensures { ((P : List Statement) → Taken text.now P → statements result ≡ P) × Held result }
 {
-    let reading = program::read(text);
-    reading.program
+    let Ok(program) = program::read(text) else {
+        unreachable!()
+    };
+    program
 }
 
 // The first less the second.

@@ -41,11 +41,9 @@ fn lines(out: &mut [u8], at: usize, n: u32, before: &[u32; MOST], after: &[u32; 
     ensures { Put out.old at (price_lines n before.now after.now) out.new result × (result ≤ at + n * price_room) }
 {
     let mut to = at;
-    let mut s: u32 = 0;
-    while s < n {
+    for s in 0..n {
         let i = s as usize;
         to = line(out, to, s + 1, before[i], after[i]);
-        s += 1;
     }
     to
 }

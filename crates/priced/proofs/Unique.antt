@@ -1,4 +1,4 @@
--- A report has one answer, and one list beside it. Assumes nothing.
+-- A report has one answer: one list, or refusals of one number. Assumes nothing.
 use mathlib.Core.Path.{◌≡◌, sym, ap, ◌∙◌}
 use mathlib.Core.List.{List}
 use Prim.Native.Nat.{ℕ}
@@ -13,8 +13,10 @@ use Rattle.pricing.specs.Prices.{in_force}
 use Rattle.price_list.specs.PriceList.{Lists}
 use Rattle.price_list.specs.declared.PriceList.{PriceList}
 use Rattle.priced.specs.Priced.{ReportRefused, ReportListed, ReportAnswers}
-use Rattle.priced.specs.declared.PriceAnswer.{PriceAnswer}
-use Rattle.priced.specs.declared.PriceAnswer.TheVariants.{Refused, Listed}
+use Rattle.std.specs.Prelude.{Result, Ok, Err}
+use Rattle.marks.specs.declared.Refusal as marks-refusal
+use Rattle.calls.specs.Refusals.{number_of}
+use Rattle.calls.specs.declared.Refusal.{Refusal}
 
 -- two programs have one list
 lists-unique : {ps : List ℕ} {P Q : List Statement} {l m : PriceList} → Lists ps P Q l → Lists ps P Q m → l ≡ m
@@ -45,8 +47,15 @@ module _ (ps t u : List ℕ) where
   report-not : (n : ℕ) {l : PriceList} → ReportRefused t u n → ReportListed ps t u l → ⊥
   report-not n r f = refuses-not (λ s e. s) t (marks.Refused u) marks.number n r tt f.program (marks-lists.taken_refused f.marks)
 
-  pub report-unique : (a b : PriceAnswer) (l m : PriceList) → ReportAnswers ps t u a l → ReportAnswers ps t u b m → (a ≡ b) × (l ≡ m)
-  report-unique (Refused n) (Refused k) l m x y = (ap Refused (report-refused n k x.0 y.0), x.1 ∙ sym y.1)
-  report-unique (Refused n) Listed l m x y = absurd (report-not n x.0 y)
-  report-unique Listed (Refused k) l m x y = absurd (report-not k y.0 x)
-  report-unique Listed Listed l m x y = (λ i. Listed, listed-unique x y)
+  -- the answers are one: the same list, or refusals of one number
+  abbrev pub Same : Result PriceList (Refusal marks-refusal.Refusal) → Result PriceList (Refusal marks-refusal.Refusal) → Type 0
+  Same (Ok l) (Ok m) = l ≡ m
+  Same (Err r) (Err s) = number_of marks.number r ≡ number_of marks.number s
+  Same (Ok l) (Err s) = ⊥
+  Same (Err r) (Ok m) = ⊥
+
+  pub report-unique : (a b : Result PriceList (Refusal marks-refusal.Refusal)) → ReportAnswers ps t u a → ReportAnswers ps t u b → Same a b
+  report-unique (Err r) (Err s) x y = report-refused _ _ x y
+  report-unique (Err r) (Ok m) x y = absurd (report-not _ x y)
+  report-unique (Ok l) (Err s) x y = absurd (report-not _ y x)
+  report-unique (Ok l) (Ok m) x y = listed-unique x y

@@ -1,16 +1,16 @@
 -- What the report of a program and a list of marks answers, for every two texts and every table of prices: document 02, Wishes 7 and 8.
-use Rattle.std.specs.Prelude.{◌≡◌, List, ℕ, pos, replicate}
+use Rattle.std.specs.Prelude.{List, ℕ, Result, Ok, Err}
 use Rattle.language.specs.declared.Statement.{Statement}
-use Rattle.program.specs.Program.{most, Taken}
+use Rattle.program.specs.Program.{Taken}
 use Rattle.marks.specs.Reading as marks
 use Rattle.marks.specs.declared.Mark.{Mark}
 use Rattle.rewriting.specs.Verdicts.{Verdicts, Rewritten}
 use Rattle.pricing.specs.Prices.{in_force}
 use Rattle.price_list.specs.PriceList.{Lists}
 use Rattle.price_list.specs.declared.PriceList.{PriceList}
-use Rattle.calls.specs.Refusals.{CallRefused}
-use Rattle.priced.specs.declared.PriceAnswer.{PriceAnswer}
-use Rattle.priced.specs.declared.PriceAnswer.TheVariants.{Refused, Listed}
+use Rattle.marks.specs.declared.Refusal as marks-refusal
+use Rattle.calls.specs.Refusals.{CallRefused, number_of}
+use Rattle.calls.specs.declared.Refusal.{Refusal}
 
 -- "Order: .. 2 to 5, then .. 9 and 10": the number of the first that applies. Nothing is lent, so 1 never does
 abbrev pub ReportRefused : List ℕ → List ℕ → ℕ → Type 0
@@ -29,10 +29,6 @@ pub record ReportListed (ps t u : List ℕ) (l : PriceList) : Type 0 where
   pub rewritten : Rewritten P ms vs Q
   pub listed : Lists (in_force ps) P Q l
 
--- the list beside a refusal: of no statement
-abbrev pub nothing : PriceList
-nothing = record { count = 0; given = 0; rewritten = 0; saved = pos 0; before = replicate most 0; after = replicate most 0 }
-
-abbrev pub ReportAnswers : List ℕ → List ℕ → List ℕ → PriceAnswer → PriceList → Type 0
-ReportAnswers ps t u (Refused n) l = ReportRefused t u n × (l ≡ nothing)
-ReportAnswers ps t u Listed l = ReportListed ps t u l
+abbrev pub ReportAnswers : List ℕ → List ℕ → List ℕ → Result PriceList (Refusal marks-refusal.Refusal) → Type 0
+ReportAnswers ps t u (Err r) = ReportRefused t u (number_of marks.number r)
+ReportAnswers ps t u (Ok l) = ReportListed ps t u l

@@ -9,10 +9,10 @@ use Rattle.statement_writer.proofs.Puts.{sets-append}
 use Rattle.lines.specs.Lines.{LineOf}
 use Rattle.lines.proofs.Reading as lines
 use Rattle.lines.proofs.Walk.{line-further}
-use Rattle.tokens.specs.declared.NumberRead.{NumberRead}
-use Rattle.tokens.specs.declared.NumberRead.TheVariants.{Found, Misspelled}
+use Rattle.std.specs.Prelude.{Option, Some, None}
+use Rattle.prices.specs.declared.Refusal.TheVariants.{WrongLine, LineCount}
 use Rattle.pricing.specs.Prices.{kinds, ValidPrice}
-use Rattle.prices.specs.Prices.{spell_price, wrong_line, line_count, Refused, Taken, PriceLineRead}
+use Rattle.prices.specs.Prices.{spell_price, Refused, Taken, PriceLineRead}
 use Rattle.prices.proofs.Spelling.{prices-unambiguous}
 
 -- k lines are read, up to the position, and the table held has their prices at its front, as far as it has room
@@ -28,11 +28,11 @@ module _ {t os held : List ℕ} {at k : ℕ} (i : SoFar t os held at k) where
   pub held-length : length held ≡ length os
   held-length = ap length i.kept ∙ length-sets os 0 i.lines.read
 
-  module _ {r : NumberRead} where
-    pub wrong : at < length t → r ≡ Misspelled → PriceLineRead t at r → Refused t wrong_line
+  module _ {r : Option (ℕ × ℕ)} where
+    pub wrong : at < length t → r ≡ None → PriceLineRead t at r → Refused t WrongLine
     wrong h is l = lines.no_lines i.lines prices-unambiguous (rw is at l) h
 
-    module _ {n next : ℕ} (is : r ≡ Found n next) (l : PriceLineRead t at r) where
+    module _ {n next : ℕ} (is : r ≡ Some (n, next)) (l : PriceLineRead t at r) where
       here : LineOf spell_price ValidPrice t at n next
       here = rw is at l
 
@@ -50,7 +50,7 @@ module _ {t os held : List ℕ} {at k : ℕ} (i : SoFar t os held at k) where
 
   -- no text is left
   module _ (h : length t ≤ at) where
-    pub miscounted : (k ≡ kinds → ⊥) → Refused t line_count
+    pub miscounted : (k ≡ kinds → ⊥) → Refused t LineCount
     miscounted m = (i.lines.read, lines.whole i.lines h, λ e. m (i.lines.counted ∙ e))
 
     pub taken : k ≡ kinds → length os ≡ kinds → Taken t held

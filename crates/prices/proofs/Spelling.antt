@@ -7,9 +7,8 @@ use lib.Dec.{leb}
 use lib.ListN.{length, drop}
 use borrow.Author.Tests.{leb-true, le-leb}
 use Rattle.lines.proofs.Texts.{Unambiguous}
-use Rattle.tokens.specs.Parsing.{found, misspelled, after, where?, parse_word, digit_of, parse_number, parsed_number, number_end}
-use Rattle.tokens.specs.declared.NumberRead.{NumberRead}
-use Rattle.tokens.specs.declared.NumberRead.TheVariants.{Found, Misspelled}
+use Rattle.tokens.specs.Parsing.{found, misspelled, after, where?, parse_word, digit_of, parse_number, parsed, parsed_end}
+use Rattle.std.specs.Prelude.{Option, Some, None}
 use Rattle.tokens.proofs.Numbers.{number-sound, number-complete}
 use Rattle.tokens.proofs.Parse.{after-inv, where-inv, skip-sound}
 use Rattle.pricing.specs.Prices.{most_price, ValidPrice}
@@ -33,9 +32,9 @@ unfolding parse_price parse_word digit_of
 price-complete v rest h = rw (number-complete v (10 ∷ rest) (omega (arith, h.1)) refl, le-leb 1 v h.0, le-leb v most_price h.1)
 
 -- a reader that finds what `parse_price` finds reads the line right
-pub line-right : (s : List ℕ) (at : ℕ) (r : NumberRead) → number_end r ≤ length s → parsed_number s r ≡ parse_price (drop at s) → PriceLineRead s at r
-line-right s at (Found v next) b e = let l = price-sound (drop at s) v (drop next s) (sym e) in record { stands = l.0; within = b; valid = l.1 }
-line-right s at Misspelled b e = λ v u w p.
+pub line-right : (s : List ℕ) (at : ℕ) (r : Option (ℕ × ℕ)) → parsed_end r ≤ length s → parsed s r ≡ parse_price (drop at s) → PriceLineRead s at r
+line-right s at (Some r) b e = let l = price-sound (drop at s) r.0 (drop r.1 s) (sym e) in record { stands = l.0; within = b; valid = l.1 }
+line-right s at None b e = λ v u w p.
     let f : misspelled ≡ found v u = e ∙ ap parse_price p ∙ price-complete v u w in
     let z : ◌≡◌ {A = ℕ} 0 1 = cc in
     omega arith

@@ -1,13 +1,13 @@
 -- A text gets one answer, and leaves one table in force. Assumes nothing.
-use mathlib.Core.Path.{◌≡◌, refl, ap, sym, ◌∙◌}
+use mathlib.Core.Path.{◌≡◌, refl, ap, ◌∙◌}
 use mathlib.Core.List.{List}
 use Prim.Native.Nat.{ℕ}
 use lib.ListN.{length}
 use Rattle.lines.proofs.Texts.{spells-unique}
-use Rattle.pricing.specs.Prices.{kinds}
-use Rattle.prices.specs.Prices.{Spells, Refusal, wrong_line, line_count, number, Refused, Taken, PricesAnswers}
-use Rattle.prices.specs.declared.PricesAnswer.{PricesAnswer}
-use Rattle.prices.specs.declared.PricesAnswer.TheVariants as answer
+use Rattle.prices.specs.Prices.{Spells, Refused, Taken, PricesAnswers}
+use Rattle.std.specs.Prelude.{Result, Ok, Err}
+use Rattle.prices.specs.declared.Refusal.{Refusal}
+use Rattle.prices.specs.declared.Refusal.TheVariants.{WrongLine, LineCount}
 use Rattle.prices.proofs.Spelling.{prices-unambiguous}
 
 -- a text is the lines of one list of valid prices only
@@ -16,19 +16,18 @@ prices-unique a b = spells-unique prices-unambiguous a b
 
 -- a table that is taken gets no refusal
 pub taken_refused : {t ps : List ℕ} → Taken t ps → (r : Refusal) → Refused t r → ⊥
-taken_refused {ps = ps} a wrong_line f = f ps a.spells
-taken_refused a line_count f = f.2 (ap length (prices-unique f.1 a.spells) ∙ a.counted)
+taken_refused {ps = ps} a WrongLine f = f ps a.spells
+taken_refused a LineCount f = f.2 (ap length (prices-unique f.1 a.spells) ∙ a.counted)
 
 -- a text gets one refusal only
-refused-unique : (t : List ℕ) (r s : Refusal) → Refused t r → Refused t s → number r ≡ number s
-refused-unique t wrong_line wrong_line a b = refl
-refused-unique t wrong_line line_count a b = absurd (a b.0 b.1)
-refused-unique t line_count wrong_line a b = absurd (b a.0 a.1)
-refused-unique t line_count line_count a b = refl
+refused-unique : (t : List ℕ) (r s : Refusal) → Refused t r → Refused t s → r ≡ s
+refused-unique t WrongLine WrongLine a b = refl
+refused-unique t WrongLine LineCount a b = absurd (a b.0 b.1)
+refused-unique t LineCount WrongLine a b = absurd (b a.0 a.1)
+refused-unique t LineCount LineCount a b = refl
 
-pub answer-unique : (t os : List ℕ) (a b : PricesAnswer) (ps qs : List ℕ) → PricesAnswers t os a ps → PricesAnswers t os b qs → (a ≡ b) × (ps ≡ qs)
-answer-unique t os answer.Taken answer.Taken ps qs x y = (refl, prices-unique x.spells y.spells)
-answer-unique t os answer.Taken (answer.Refused n) ps qs x y = absurd (taken_refused x y.0 y.1)
-answer-unique t os (answer.Refused n) answer.Taken ps qs x y = absurd (taken_refused y x.0 x.1)
-answer-unique t os (answer.Refused n) (answer.Refused m) ps qs x y =
-    (ap answer.Refused (x.2 ∙ refused-unique t x.0 y.0 x.1 y.1 ∙ sym y.2), x.3 ∙ sym y.3)
+pub answer-unique : (t : List ℕ) (a b : Result (List ℕ) Refusal) → PricesAnswers t a → PricesAnswers t b → a ≡ b
+answer-unique t (Ok ps) (Ok qs) x y = ap Ok (prices-unique x.spells y.spells)
+answer-unique t (Ok ps) (Err r) x y = absurd (taken_refused x r y)
+answer-unique t (Err r) (Ok ps) x y = absurd (taken_refused y r x)
+answer-unique t (Err r) (Err s) x y = ap Err (refused-unique t r s x y)

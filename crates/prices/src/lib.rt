@@ -2,54 +2,50 @@
 #![tactic(auto)]
 
 ghost use Rattle.std.specs.Prelude.{◌≡◌, ◌≤◌, length, drop, set};
-ghost use Rattle.tokens.specs.Parsing.{parsed_number, number_end};
-ghost use Rattle.prices.specs.Prices.{PricesAnswers, PriceLineRead};
+ghost use Rattle.tokens.specs.Parsing.{parsed, parsed_end};
+ghost use Rattle.prices.specs.Prices.{number, PricesAnswers, PriceLineRead};
 ghost use Rattle.prices.specs.Parsing.{parse_price};
 
 use pricing::{KINDS, MOST_PRICE};
-use tokens::{NumberRead, WordRead};
+use refusals::Numbered;
 
 // The refusals of a text: some line is wrong, or there are other than eleven.
-pub const LINE_NUMBER: u8 = 19;
-
-pub const COUNT_NUMBER: u8 = 20;
-
-// Refused: document 02's number.
 #[derive(Clone, Copy)]
-pub enum PricesAnswer {
-    Taken,
-    Refused(u8),
+pub enum Refusal {
+    WrongLine,
+    LineCount,
 }
 
-// The table that the caller holds afterwards stands beside the answer.
-#[derive(Clone, Copy)]
-pub struct PricesRead {
-    pub answer: PricesAnswer,
-    pub prices: [u32; KINDS],
+impl Numbered for Refusal {
+    ghost number = { number };
+
+    fn number(self) -> u8 {
+        match self {
+            Refusal::WrongLine => 19,
+            Refusal::LineCount => 20,
+        }
+    }
 }
 
 // A price with its byte 10.
-fn price(s: &[u8], at: usize) -> NumberRead
-    ensures result_value { parsed_number s.now result ≡ parse_price (drop at s.now) }
-    ensures result_in_bounds { number_end result ≤ length s.now }
+#[tactic(auto, using(std::proofs::lemmas::Grind::common_steps), unfolding(crate::specs::Parsing::parse_price))]
+fn price(s: &[u8], at: usize) -> Option<(u32, usize)>
+    ensures result_value { parsed s.now result ≡ parse_price (drop at s.now) }
+    ensures result_in_bounds { parsed_end result ≤ length s.now }
 {
-    let NumberRead::Found(n, end) = tokens::number(s, at) else {
-        return NumberRead::Misspelled;
-    };
+    let (n, end) = tokens::number(s, at)?;
     if n < 1 {
-        return NumberRead::Misspelled;
+        return None;
     }
     if MOST_PRICE < n {
-        return NumberRead::Misspelled;
+        return None;
     }
-    let WordRead::Found(next) = tokens::word(s, end, b"\n") else {
-        return NumberRead::Misspelled;
-    };
-    NumberRead::Found(n, next)
+    let next = tokens::word(s, end, b"\n")?;
+    Some((n, next))
 }
 
 // The line of a price at the position.
-fn line(s: &[u8], at: usize) -> NumberRead
+fn line(s: &[u8], at: usize) -> Option<(u32, usize)>
     ensures { PriceLineRead s.now at result }
 {
     price(s, at)
@@ -64,35 +60,24 @@ fn store(table: &mut [u32], k: usize, n: u32)
     }
 }
 
-fn refused(number: u8, prices: [u32; KINDS]) -> PricesRead
-    ensures { (result.answer ≡ PricesAnswer.Refused number) × (result.prices ≡ prices) }
+// The table that the text spells, once all of it has been read.
+pub fn read_prices(text: &[u8]) -> Result<[u32; KINDS], Refusal>
+    ensures { PricesAnswers text.now result }
 {
-    PricesRead {
-        answer: PricesAnswer::Refused(number),
-        prices: prices,
-    }
-}
-
-// The table that the text spells, once all of it has been read; where it is refused, the table that was handed in.
-pub fn read_prices(text: &[u8], prices: [u32; KINDS]) -> PricesRead
-    ensures { PricesAnswers text.now prices result.answer result.prices }
-{
-    let mut table = prices;
+    let mut table = [0; KINDS];
     let mut at: usize = 0;
     let mut k: usize = 0;
+    // A `while`: each line tells where the next one begins, so no slice or range has the lines that a `for` would go over.
     while at < text.len() {
-        let NumberRead::Found(n, next) = line(text, at) else {
-            return refused(LINE_NUMBER, prices);
+        let Some((n, next)) = line(text, at) else {
+            return Err(Refusal::WrongLine);
         };
         store(&mut table, k, n);
         k += 1;
         at = next;
     }
     if k != KINDS {
-        return refused(COUNT_NUMBER, prices);
+        return Err(Refusal::LineCount);
     }
-    PricesRead {
-        answer: PricesAnswer::Taken,
-        prices: table,
-    }
+    Ok(table)
 }

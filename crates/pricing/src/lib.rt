@@ -26,13 +26,10 @@ pub const MOST_PRICE: u32 = 65535;
 fn counted(price: u32, our: u32) -> u32
     ensures { result ≡ countedIs price our }
 {
-    if price < 1 {
-        return our;
+    match price {
+        1..=MOST_PRICE => price,
+        _ => our,
     }
-    if MOST_PRICE < price {
-        return our;
-    }
-    price
 }
 
 // The prices in force where a caller hands the table.
@@ -40,10 +37,8 @@ pub fn in_force(table: [u32; KINDS]) -> [u32; KINDS]
     ensures { result ≡ in_force table }
 {
     let mut prices = ours();
-    let mut k: usize = 0;
-    while k < KINDS {
+    for k in 0..KINDS {
         prices[k] = counted(table[k], prices[k]);
-        k += 1;
     }
     prices
 }
@@ -87,14 +82,7 @@ fn kind_of(s: Statement) -> usize
 pub fn price_of(s: Statement, table: &[u32; KINDS]) -> u32
     ensures { result ≡ price table.now s }
 {
-    let k = kind_of(s);
-    table[k]
-}
-
-fn blank() -> [u32; MOST]
-    ensures { result ≡ replicate most 0 }
-{
-    [0; MOST]
+    table[kind_of(s)]
 }
 
 // The price of each statement, found once.
@@ -102,15 +90,9 @@ pub fn prices_of(p: Program, table: &[u32; KINDS]) -> [u32; MOST]
     requires { Held p }
     ensures { result ≡ column table.now (statements p) }
 {
-    let entries = p.entries;
-    let n = p.count;
-    let mut prices = blank();
-    let mut s: usize = 0;
-    while s < n {
-        let e = entries[s];
-        let t = encoding::statement_of(e);
-        prices[s] = price_of(t, table);
-        s += 1;
+    let mut prices = [0; MOST];
+    for s in 0..p.count {
+        prices[s] = price_of(encoding::statement_of(p.entries[s]), table);
     }
     prices
 }
@@ -121,10 +103,8 @@ pub fn total(prices: &[u32; MOST], n: usize) -> u32
     ensures { result ≡ sum (take n prices.now) }
 {
     let mut sum: u32 = 0;
-    let mut s: usize = 0;
-    while s < n {
-        sum = sum + prices[s];
-        s += 1;
+    for s in 0..n {
+        sum += prices[s];
     }
     sum
 }

@@ -4,8 +4,7 @@ use mathlib.Core.List.{List}
 use Prim.Native.Nat.{ℕ}
 use Rattle.lines.proofs.Texts.{text-unique}
 use Rattle.language.specs.declared.Statement.{Statement}
-use Rattle.program.specs.declared.Answer.{Answer}
-use Rattle.program.specs.declared.Answer.TheVariants as answer
+use Rattle.std.specs.Prelude.{Result, Ok, Err}
 use Rattle.program.specs.declared.Program.{Program}
 use Rattle.program.specs.declared.Refusal.{Refusal}
 use Rattle.program.specs.declared.Refusal.TheVariants.{Misspelled, LineCount, Placement, Target}
@@ -25,6 +24,6 @@ program-taken {P = P} w Placement f = f.3 (rw (text-unique statements-unambiguou
 program-taken {P = P} w Target f = f.4 (rw (text-unique statements-unambiguous P f.0 w.valid f.1.valid f.1.lines) at w.aimed)
 
 -- whatever is read from the text of a program is that program
-pub read-written : {P : List Statement} → WellFormed P → (a : Answer) (p : Program) → ProgramRead (text P) a p → (a ≡ answer.Taken) × (statements p ≡ P)
-read-written w answer.Taken p r = (refl, taken-unique r.0 (record { lines = refl; program = w }))
-read-written w (answer.Refused f) p r = absurd (program-taken w f r.0)
+pub read-written : {P : List Statement} → WellFormed P → (r : Result Program Refusal) → ProgramRead (text P) r → (p : Program) × (r ≡ Ok p) × (statements p ≡ P)
+read-written w (Ok p) r = (p, refl, taken-unique r.0 (record { lines = refl; program = w }))
+read-written w (Err f) r = absurd (program-taken w f r)

@@ -1,47 +1,24 @@
 -- A program's text is lines, each told by the reader of a line, and what is known once all are read. Assumes nothing.
 use mathlib.Core.Path.{◌≡◌, refl, ap, sym, ◌∙◌}
 use mathlib.Core.List.{List, [], ◌∷◌, ◌++◌, map}
-use mathlib.Core.Bool.{Bool, true, false}
 use Prim.Native.Nat.{ℕ, ◌+◌, ◌≤◌, ◌<◌}
 use native.Mathlib.Omega.{arith}
 use native.Mathlib.Numerals.{add-one}
-use lib.ListN.{length, take, drop, set, length-append}
+use lib.ListN.{length, take, set, length-append}
 use lib.Seq.{take_all, take-suc-set, take-append-le}
-use Rattle.lines.specs.Lines.{LineOf, NoLine}
 use Rattle.lines.proofs.Texts.{Unambiguous}
 use Rattle.language.specs.Spelling.{spell, Valid}
-use Rattle.tokens.specs.Parsing.{parse_word, parsed_word, word_end}
-use Rattle.tokens.specs.declared.WordRead.{WordRead}
-use Rattle.tokens.specs.declared.WordRead.TheVariants as word
-use Rattle.statement_reader.specs.Parsing.{parsed_statement, parse_statement, parse_line}
 use Rattle.language.specs.declared.Statement.{Statement}
-use Rattle.statement_reader.specs.declared.StatementRead.{StatementRead}
-use Rattle.statement_reader.specs.declared.StatementRead.TheVariants.{Found, Misspelled}
-use Rattle.statement_reader.proofs.Lines.{line-unique, line-right}
+use Rattle.statement_reader.proofs.Lines.{line-unique}
 use Rattle.encoding.specs.declared.Entry.{Entry}
 use Rattle.encoding.specs.Encoding.{statement_in}
 use Rattle.program.specs.declared.Refusal.{Refusal}
 use Rattle.program.specs.Program.{Spells, fewest, most, Counted, Placed, Aimed, Taken}
-use Rattle.program.specs.Reading.{Refused, Kept, LinesRead}
+use Rattle.program.specs.Reading.{Refused, Kept}
 
 -- the line of a statement at the front of a text is that of one valid statement only
 pub statements-unambiguous : Unambiguous spell Valid
 statements-unambiguous = record { same = line-unique }
-
--- what the readers of a statement and of its byte 10 told
-module _ (t : List ℕ) (at : ℕ) {r : StatementRead} (told : parsed_statement t r ≡ parse_statement (drop at t)) where
-  pub no-statement : r ≡ Misspelled → NoLine spell Valid (drop at t)
-  unfolding parse_line
-  no-statement is = line-right t at Misspelled (omega arith) (rw (← told, is))
-
-  module _ {e : Statement} {k : ℕ} (is : r ≡ Found e k) {w : WordRead} (ended : parsed_word t w ≡ parse_word (10 ∷ []) (drop k t)) where
-    pub no_end : w ≡ word.Misspelled → NoLine spell Valid (drop at t)
-    unfolding parse_line
-    no_end nothing = line-right t at Misspelled (omega arith) (rw (← told, is, ← ended, nothing))
-
-    pub line_of : {j : ℕ} → w ≡ word.Found j → word_end w ≤ length t → LineOf spell Valid t at e j
-    unfolding parse_line
-    line_of {j} ends h = line-right t at (Found e j) (rw ends at h) (rw (← told, is, ← ended, ends))
 
 map-append : (es fs : List Entry) → map statement_in (es ++ fs) ≡ map statement_in es ++ map statement_in fs
 map-append [] fs = refl
@@ -60,13 +37,6 @@ module _ (es : List Entry) (n : ℕ) (P : List Statement) (s : Statement) (l : l
   kept_same h =
       let b : most ≤ length P = omega arith in
       ap (map statement_in) (take_all (n + 1) es (omega arith) ∙ sym (take_all n es (omega arith))) ∙ k ∙ sym (take-append-le most P (s ∷ []) b)
-
--- what reading all lines told, by whether they are spelled right
-pub lines-spelled : (t : List ℕ) (b : Bool) (n : ℕ) (es : List Entry) → b ≡ true → LinesRead t b n es → Kept t n es
-lines-spelled t b n es e l = rw e at l
-
-pub lines-misspelled : (t : List ℕ) (b : Bool) (n : ℕ) (es : List Entry) → b ≡ false → LinesRead t b n es → Refused t Refusal.Misspelled
-lines-misspelled t b n es e l = rw e at l
 
 module _ {t : List ℕ} {n : ℕ} {es : List Entry} (k : Kept t n es) where
   pub count-refused : (fewest ≤ n → n ≤ most → ⊥) → Refused t Refusal.LineCount

@@ -1,5 +1,5 @@
 -- Which refusal a text gets, what the code's value of a program stands for, and what it means that a program was read right.
-use Rattle.std.specs.Prelude.{◌≡◌, List, map, Bool, true, false, ℕ, ◌≤◌, length, take}
+use Rattle.std.specs.Prelude.{◌≡◌, List, map, Option, Some, None, Result, Ok, Err, ℕ, ◌≤◌, length, take}
 use Rattle.language.specs.declared.Statement.{Statement}
 use Rattle.program.specs.Program.{Spells, Counted, Placed, Aimed, Taken, most}
 use Rattle.encoding.specs.declared.Entry.{Entry}
@@ -7,8 +7,6 @@ use Rattle.encoding.specs.Encoding.{statement_in}
 use Rattle.program.specs.declared.Program.{Program}
 use Rattle.program.specs.declared.Refusal.{Refusal}
 use Rattle.program.specs.declared.Refusal.TheVariants.{Misspelled, LineCount, Placement, Target}
-use Rattle.program.specs.declared.Answer.{Answer}
-use Rattle.program.specs.declared.Answer.TheVariants as answer
 
 -- "2: some line isn't spelled as above, or the last lacks its byte 10. 3: under 2 or over 256 lines [1,024 by document 02]. 4: `read` or `write` missing from
 -- its place or standing elsewhere. 5: a target outside 2 to N."
@@ -34,10 +32,10 @@ pub record Held (p : Program) : Type 0 where
   pub room : length p.entries ≡ most
   pub few : p.count ≤ most
 
--- each answer, and what it says of the text and of the program beside it
-abbrev pub ProgramRead : List ℕ → Answer → Program → Type 0
-ProgramRead t answer.Taken p = Taken t (statements p) × Held p
-ProgramRead t (answer.Refused r) p = Refused t r × (p.count ≡ 0)
+-- the program that the text is taken as, or its refusal
+abbrev pub ProgramRead : List ℕ → Result Program Refusal → Type 0
+ProgramRead t (Ok p) = Taken t (statements p) × Held p
+ProgramRead t (Err r) = Refused t r
 
 -- the text t is that of n valid statements, of which the first `most` stand in es
 pub record Kept (t : List ℕ) (n : ℕ) (es : List Entry) : Type 0 where
@@ -47,7 +45,7 @@ pub record Kept (t : List ℕ) (n : ℕ) (es : List Entry) : Type 0 where
   pub kept : map statement_in (take n es) ≡ take most P
   pub room : length es ≡ most
 
--- what reading all lines tells, by whether they are spelled right
-abbrev pub LinesRead : List ℕ → Bool → ℕ → List Entry → Type 0
-LinesRead t true n es = Kept t n es
-LinesRead t false n es = (P : List Statement) → Spells t P → ⊥
+-- what reading all lines tells: their number, unless one is misspelled
+abbrev pub LinesRead : List ℕ → Option ℕ → List Entry → Type 0
+LinesRead t (Some n) es = Kept t n es
+LinesRead t None es = (P : List Statement) → Spells t P → ⊥

@@ -1,7 +1,7 @@
 // Programs: a text read whole, with refusals 2 to 5, and a program written back.
 #![tactic(auto)]
 
-ghost use Rattle.std.specs.Prelude.{◌≡◌, false, ◌≤◌, ◌+◌, length};
+ghost use Rattle.std.specs.Prelude.{◌≡◌, ◌≤◌, ◌+◌, length};
 ghost use Rattle.program.specs.Program.{text, most, Inner, InPlace, IsTarget, Targets};
 ghost use Rattle.base.specs.Decides.{Decides};
 ghost use Rattle.program.specs.Reading.{statements, Held, LinesRead, ProgramRead, number};
@@ -9,8 +9,7 @@ ghost use Rattle.statement_writer.specs.Writing.{Put};
 
 use encoding::Entry;
 use language::Statement;
-use statement_reader::StatementRead;
-use tokens::WordRead;
+use refusals::Numbered;
 
 // A program has 2 to 1,024 statements.
 pub const FEWEST: usize = 2;
@@ -41,25 +40,17 @@ pub enum Refusal {
     Target,
 }
 
-#[derive(Clone, Copy)]
-pub enum Answer {
-    Taken,
-    Refused(Refusal),
-}
+impl Numbered for Refusal {
+    ghost number = { number };
 
-// The program is what was read where the answer is `Taken`.
-#[derive(Clone, Copy)]
-pub struct Reading {
-    pub answer: Answer,
-    pub program: Program,
-}
-
-// All lines of a text are counted; the first MOST are kept.
-#[derive(Clone, Copy)]
-struct Lines {
-    spelled: bool,
-    count: usize,
-    entries: [Entry; MOST],
+    fn number(self) -> u8 {
+        match self {
+            Refusal::Misspelled => 2,
+            Refusal::LineCount => 3,
+            Refusal::Placement => 4,
+            Refusal::Target => 5,
+        }
+    }
 }
 
 // An array to be filled.
@@ -73,42 +64,23 @@ fn blank() -> [Entry; MOST]
     }; MOST]
 }
 
-// What is told of a text with a misspelled line, however many lines stand before it.
-fn misspelled(before: usize, entries: [Entry; MOST]) -> Lines
-    ensures { result.spelled ≡ false }
+// The number of lines, unless one is misspelled. The first MOST are kept, and every line is read, also beyond those.
+fn read_lines(s: &[u8], entries: &mut [Entry; MOST]) -> Option<usize>
+    requires { length entries.old ≡ most }
+    ensures { LinesRead s.now result entries.new }
 {
-    Lines {
-        spelled: false,
-        count: before,
-        entries: entries,
-    }
-}
-
-// Every line is read, also beyond those that are kept.
-fn read_lines(s: &[u8]) -> Lines
-    ensures { LinesRead s.now result.spelled result.count result.entries }
-{
-    let mut entries = blank();
     let mut count: usize = 0;
     let mut at: usize = 0;
+    // A `while`: each line tells where the next one begins, so no slice or range has the lines that a `for` would go over.
     while at < s.len() {
-        let StatementRead::Found(e, k) = statement_reader::statement(s, at) else {
-            return misspelled(count, entries);
-        };
-        let WordRead::Found(next) = tokens::word(s, k, b"\n") else {
-            return misspelled(count, entries);
-        };
+        let (e, next) = statement_reader::line(s, at)?;
         if count < MOST {
             entries[count] = encoding::entry_of(e);
         }
         count += 1;
         at = next;
     }
-    Lines {
-        spelled: true,
-        count: count,
-        entries: entries,
-    }
+    Some(count)
 }
 
 // Place s is the last of n.
@@ -174,73 +146,34 @@ pub fn is_aimed(e: Statement, n: usize) -> bool
     }
 }
 
-// A refusal, beside a program without statements.
-fn refused(r: Refusal, entries: [Entry; MOST]) -> Reading
-    ensures answer_value { result.answer ≡ Answer.Refused r }
-    ensures count_value { result.program.count ≡ 0 }
-{
-    Reading {
-        answer: Answer::Refused(r),
-        program: Program {
-            count: 0,
-            entries: entries,
-        },
-    }
-}
-
 // The program whose lines the text is, or the first refusal that applies. Placements and targets are looked at here, where the entries are:
 // lent to a function they would be copied.
-pub fn read(s: &[u8]) -> Reading
-    ensures { ProgramRead s.now result.answer result.program }
+pub fn read(s: &[u8]) -> Result<Program, Refusal>
+    ensures { ProgramRead s.now result }
 {
-    let lines = read_lines(s);
-    let entries = lines.entries;
-    let count = lines.count;
-    if !lines.spelled {
-        return refused(Refusal::Misspelled, entries);
-    }
+    let mut entries = blank();
+    let Some(count) = read_lines(s, &mut entries) else {
+        return Err(Refusal::Misspelled);
+    };
     if count < FEWEST {
-        return refused(Refusal::LineCount, entries);
+        return Err(Refusal::LineCount);
     }
     if MOST < count {
-        return refused(Refusal::LineCount, entries);
+        return Err(Refusal::LineCount);
     }
-    let mut i: usize = 0;
-    while i < count {
-        let e = entries[i];
-        let t = encoding::statement_of(e);
+    for i in 0..count {
+        let t = encoding::statement_of(entries[i]);
         if !in_place(t, i, count) {
-            return refused(Refusal::Placement, entries);
+            return Err(Refusal::Placement);
         }
-        i += 1;
     }
-    let mut j: usize = 0;
-    while j < count {
-        let e = entries[j];
-        let t = encoding::statement_of(e);
+    for j in 0..count {
+        let t = encoding::statement_of(entries[j]);
         if !is_aimed(t, count) {
-            return refused(Refusal::Target, entries);
+            return Err(Refusal::Target);
         }
-        j += 1;
     }
-    Reading {
-        answer: Answer::Taken,
-        program: Program {
-            count: count,
-            entries: entries,
-        },
-    }
-}
-
-pub fn number_of(r: Refusal) -> u8
-    ensures { result ≡ number r }
-{
-    match r {
-        Refusal::Misspelled => 2,
-        Refusal::LineCount => 3,
-        Refusal::Placement => 4,
-        Refusal::Target => 5,
-    }
+    Ok(Program { count, entries })
 }
 
 // Puts the program's text at the front of the lent bytes, and answers its length.
@@ -249,14 +182,10 @@ pub fn write(p: Program, out: &mut [u8]) -> usize
     requires p_in_bounds { length (text (statements p)) ≤ length out.old }
     ensures { Put out.old 0 (text (statements p)) out.new result }
 {
-    let n = p.count;
     let mut at: usize = 0;
-    let mut s: usize = 0;
-    while s < n {
-        let e = p.entries[s];
-        let t = encoding::statement_of(e);
+    for s in 0..p.count {
+        let t = encoding::statement_of(p.entries[s]);
         at = statement_writer::line(out, at, t);
-        s += 1;
     }
     at
 }

@@ -8,15 +8,15 @@ use lib.Seq.{length-take-le}
 use Rattle.language.specs.declared.Statement.{Statement}
 use Rattle.bits.specs.Row.{member}
 use Rattle.labelling.specs.Labels.{Labelled}
-use Rattle.condition_reader.specs.declared.Answer.{Answer}
-use Rattle.condition_reader.specs.declared.Answer.TheVariants as answer
+use Rattle.std.specs.Prelude.{Result, Ok, Err}
+use Rattle.condition_reader.specs.declared.Reading.{Reading}
 use Rattle.condition_reader.specs.declared.Refusal.{Refusal}
 use Rattle.condition.specs.Condition.{Condition, parts, spell_condition}
 use Rattle.condition.specs.Texts.{Taken}
 use Rattle.condition_reader.specs.Reading.{ConditionRead}
 use Rattle.truth.specs.Truth.{SatBy}
 use Rattle.condition_reader.proofs.Spelling.{condition-unique}
-use Rattle.condition_reader.proofs.Answers.{read_back}
+use Rattle.condition_reader.proofs.Unique.{taken-unique, taken_refused}
 use Rattle.atoms.specs.Facts.{used_in}
 use Rattle.table.specs.Table.{part_words, row}
 use Rattle.table.specs.Known.{KnownBy}
@@ -46,21 +46,12 @@ pub row_by :
     → (m : Mark) → ValidMark m → (r : List ℕ) → RowFor (used_in rows) P m r → RowFor U P m r
 row_by x m v r l = (labelled_by x (published m) (published-taken m v).spells.valid l.0, l.1)
 
-tells : (a b : ℕ) → answer.Taken a ≡ answer.Taken b → a ≡ b
-tells a b e = cc
-
-clash : (a : ℕ) (r : Refusal) → answer.Taken a ≡ answer.Refused r → ⊥
-clash a r e = let z : ◌≡◌ {A = ℕ} 0 1 = cc in omega arith
-
 module _ {t : List ℕ} (small : SmallTaken t) where
-  pub read_held : (a : Answer) (ws : List ℕ) → ConditionRead t a ws → (m : ℕ) → a ≡ answer.Taken m → HeldOf t small.c m ws
-  read_held a ws h m e =
-      let b = read_back t small.c small.taken a ws h in
-      let n : length (parts small.c) ≡ m = tells (length (parts small.c)) m (sym b.0 ∙ e) in
-      record { taken = small.taken; held = rw n at b.1 }
+  pub read_held : (r : Reading) → ConditionRead t (Ok r) → HeldOf t small.c r.count r.words
+  read_held r h = let e : h.0 ≡ small.c = taken-unique h.1 small.taken in record { taken = small.taken; held = rw e at h.2 }
 
-  pub not-refused : (a : Answer) (ws : List ℕ) → ConditionRead t a ws → (r : Refusal) → a ≡ answer.Refused r → ⊥
-  not-refused a ws h r e = clash (length (parts small.c)) r (sym (read_back t small.c small.taken a ws h).0 ∙ e)
+  pub not-refused : (f : Refusal) → ConditionRead t (Err f) → ⊥
+  not-refused f h = taken_refused small.taken f h
 
   module _ {m : ℕ} {ws : List ℕ} (h : HeldOf t small.c m ws) where
     pub held-room : part_words * m ≤ published_words

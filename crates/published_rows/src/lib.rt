@@ -49,15 +49,21 @@ pub fn row_of(
     requires small_taken { SmallTaken text.now }
     ensures { (P : List Statement) → KnownIn P n rows.now codes.now flow.now → RowOf (used_in rows.now) P text.now result }
 {
-    let reading = condition_reader::read(text);
-    let answer = reading.answer;
-    let condition_reader::Answer::Taken(parts) = answer else {
+    let Ok(reading) = condition_reader::read(text) else {
         return atoms::blank_row();
     };
-    let words = reading.words;
-    let count = parts as usize;
+    let count = reading.count as usize;
     let mut parts_table = blank_rows();
-    table::fill(text, words, count, n, rows, codes, flow, &mut parts_table);
+    table::fill(
+        text,
+        reading.words,
+        count,
+        n,
+        rows,
+        codes,
+        flow,
+        &mut parts_table,
+    );
     let last = count - 1;
     table::row_of(&parts_table, last)
 }

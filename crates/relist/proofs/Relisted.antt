@@ -11,8 +11,9 @@ use Rattle.program.specs.Program.{Taken}
 use Rattle.listing.proofs.Counts.{counted-unique, counted_same}
 use Rattle.listing.proofs.Relisted.{Words, list-updated, lists_agree}
 use Rattle.listing.specs.Listing.{list_words, ListOf, Updated}
-use Rattle.listing.specs.declared.ListAnswer.TheVariants as list
-use Rattle.listing.specs.declared.ListAnswer.{ListAnswer}
+use Rattle.std.specs.Prelude.{Result, Ok, Err}
+use Rattle.listing.specs.declared.Ones.{Ones}
+use Rattle.list.specs.declared.Refusal.{Refusal}
 use Rattle.marks.proofs.Lists as marks-unique
 use Rattle.marks.specs.declared.Mark.{Mark}
 use Rattle.lockstep.proofs.Changed.{changed-wellformed}
@@ -61,7 +62,7 @@ module _ {t u : List ℕ} {o q : Lent} {marks accepted bytes : ℕ} (j : JudgeFi
     same-counts = counted-unique r.counted (counted_same (r.afresh given).room f.made.room same-words f.counted)
 
   -- `list`, lent enough words, is not refused, and leaves the same words and tells the same counts
-  pub relisted-as-list : (a : ListAnswer) (old' new' e v : List ℕ) → list_words ≤ length old' → Words new → Words new' → ListAnswers (take bytes q.new) old' new' a e v
-      → (a ≡ list.Listed) × ((m : ℕ) → m < list_words → get_or new m 0 ≡ get_or new' m 0) × (d ≡ e) × (c ≡ v)
-  relisted-as-list (list.Refused n) old' new' e v room w x h = absurd (never-refused (take bytes q.new) old' h.0 room new-taken)
-  relisted-as-list list.Listed old' new' e v room w x h = let s = same-counts h w x in (refl, same-words h w x, s.0, s.1)
+  pub relisted-as-list : (a : Result Ones Refusal) (old' new' : List ℕ) → list_words ≤ length old' → Words new → Words new' → ListAnswers (take bytes q.new) old' new' a
+      → (f : Ones) × (a ≡ Ok f) × ((m : ℕ) → m < list_words → get_or new m 0 ≡ get_or new' m 0) × (d ≡ f.defined) × (c ≡ f.used)
+  relisted-as-list (Err n) old' new' room w x h = absurd (never-refused (take bytes q.new) old' h.0 room new-taken)
+  relisted-as-list (Ok f) old' new' room w x h = let s = same-counts h w x in (f, refl, same-words h w x, s.0, s.1)

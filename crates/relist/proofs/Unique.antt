@@ -1,15 +1,18 @@
 -- A call of `relist` has one answer, tells one count of each set, and leaves one list. Assumes nothing.
-use mathlib.Core.Path.{◌≡◌, refl, sym, ap, ◌∙◌, subst}
+use mathlib.Core.Path.{◌≡◌, sym, ◌∙◌, subst}
 use mathlib.Core.List.{List}
 use Prim.Native.Nat.{ℕ, ◌≤◌, ◌<◌}
 use native.Mathlib.Omega.{arith}
 use lib.ListN.{length}
 use Rattle.program.proofs.RoundTrip.{taken-unique}
-use Rattle.listing.proofs.Counts.{counted-unique, uncounted-unique}
+use Rattle.listing.proofs.Counts.{counted-unique}
 use Rattle.listing.proofs.Relisted.{Words, updated-unique}
 use Rattle.listing.specs.Listing.{list_words, Updated, Counted}
-use Rattle.listing.specs.declared.ListAnswer.TheVariants as list
-use Rattle.listing.specs.declared.ListAnswer.{ListAnswer}
+use Rattle.std.specs.Prelude.{Result, Ok, Err}
+use Rattle.listing.specs.declared.Ones.{Ones}
+use Rattle.marks.specs.declared.Refusal as marks-refusal
+use Rattle.calls.specs.Refusals.{number_of}
+use Rattle.calls.specs.declared.Refusal.{Refusal}
 use Rattle.marks.proofs.Lists as marks-unique
 use Rattle.marks.specs.Reading as marks
 use Rattle.rewriting.proofs.Unique.{rewritten-agree}
@@ -52,10 +55,14 @@ module _ (t u old : List ℕ) where
   relist-not n r f = refuses-not words-apart t (marks.Refused u) marks.number n r f.room f.program (marks-unique.taken_refused f.marks)
 
   -- a call of `relist` has one answer, tells one count of each set, and leaves one list
-  pub relist-unique : (a b : ListAnswer) (new other d c e v : List ℕ) → Words new → Words other
-      → RelistAnswers t u old new a d c → RelistAnswers t u old other b e v → (a ≡ b) × (new ≡ other) × (d ≡ e) × (c ≡ v)
-  relist-unique (list.Refused n) (list.Refused m) new other d c e v w x p q =
-      let counts = uncounted-unique p.2 q.2 in (ap list.Refused (relist-refused n m p.0 q.0), p.1 ∙ sym q.1, counts.0, counts.1)
-  relist-unique (list.Refused n) list.Listed new other d c e v w x p q = absurd (relist-not n p.0 q)
-  relist-unique list.Listed (list.Refused m) new other d c e v w x p q = absurd (relist-not m q.0 p)
-  relist-unique list.Listed list.Listed new other d c e v w x p q = let s = relist-made p q w x in (refl, s.0, s.1, s.2)
+  abbrev Same : Result Ones (Refusal marks-refusal.Refusal) → Result Ones (Refusal marks-refusal.Refusal) → Type 0
+  Same (Err r) (Err s) = number_of marks.number r ≡ number_of marks.number s
+  Same (Ok c) (Ok d) = (c.defined ≡ d.defined) × (c.used ≡ d.used)
+  Same a b = ⊥
+
+  pub relist-unique : (a b : Result Ones (Refusal marks-refusal.Refusal)) (new other : List ℕ) → Words new → Words other
+      → RelistAnswers t u old new a → RelistAnswers t u old other b → Same a b × (new ≡ other)
+  relist-unique (Err r) (Err s) new other w x p q = (relist-refused _ _ p.0 q.0, p.1 ∙ sym q.1)
+  relist-unique (Err r) (Ok d) new other w x p q = absurd (relist-not _ p.0 q)
+  relist-unique (Ok c) (Err s) new other w x p q = absurd (relist-not _ q.0 p)
+  relist-unique (Ok c) (Ok d) new other w x p q = let s = relist-made p q w x in ((s.1, s.2), s.0)

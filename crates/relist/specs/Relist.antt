@@ -1,14 +1,15 @@
 -- What `relist` answers, and what it leaves in the lent list, for every program text, list of marks and list.
-use Rattle.std.specs.Prelude.{◌≡◌, List, ℕ, ◌≤◌, ◌<◌, length}
+use Rattle.std.specs.Prelude.{◌≡◌, List, ℕ, ◌≤◌, ◌<◌, length, Result, Ok, Err}
 use Rattle.language.specs.declared.Statement.{Statement}
 use Rattle.program.specs.Program.{Taken}
-use Rattle.listing.specs.Listing.{list_words, ListOf, Updated, Counted, Uncounted}
-use Rattle.listing.specs.declared.ListAnswer.TheVariants.{Refused, Listed}
-use Rattle.listing.specs.declared.ListAnswer.{ListAnswer}
+use Rattle.listing.specs.Listing.{list_words, ListOf, Updated, Counted}
+use Rattle.listing.specs.declared.Ones.{Ones}
 use Rattle.marks.specs.Reading as marks
 use Rattle.marks.specs.declared.Mark.{Mark}
 use Rattle.rewriting.specs.Verdicts.{Verdicts, Rewritten}
-use Rattle.calls.specs.Refusals.{CallRefused}
+use Rattle.marks.specs.declared.Refusal as marks-refusal
+use Rattle.calls.specs.Refusals.{CallRefused, number_of}
+use Rattle.calls.specs.declared.Refusal.{Refusal}
 
 -- "of 256 (fewer: refusal 1)", 2,048 by Wish 13, then 2 to 5, then 9 and 10: the number of the first that applies
 abbrev pub RelistRefused : List ℕ → List ℕ → List ℕ → ℕ → Type 0
@@ -32,7 +33,7 @@ pub record RelistMade (t u old new defined used : List ℕ) : Type 0 where
   -- "how many ones each set has, counted in the list as the call leaves it"
   pub counted : Counted new defined used
 
--- "A refused call answers only its number and keeps all lent memory": the counts beside it are zeros.
-abbrev pub RelistAnswers : List ℕ → List ℕ → List ℕ → List ℕ → ListAnswer → List ℕ → List ℕ → Type 0
-RelistAnswers t u old new (Refused n) defined used = RelistRefused t u old n × (new ≡ old) × Uncounted defined used
-RelistAnswers t u old new Listed defined used = RelistMade t u old new defined used
+-- "A refused call answers only its number and keeps all lent memory."
+abbrev pub RelistAnswers : List ℕ → List ℕ → List ℕ → List ℕ → Result Ones (Refusal marks-refusal.Refusal) → Type 0
+RelistAnswers t u old new (Err r) = RelistRefused t u old (number_of marks.number r) × (new ≡ old)
+RelistAnswers t u old new (Ok c) = RelistMade t u old new c.defined c.used

@@ -10,8 +10,8 @@ ghost use Rattle.verdicts.specs.Judging.{SomeTaken};
 ghost use Rattle.relist.specs.Relist.{RelistAnswers};
 ghost use Rattle.relist.specs.Rounds.{Round};
 
-use calls::ROOM_NUMBER;
-use listing::{LIST_WORDS, Listing};
+use calls::Refusal;
+use listing::{LIST_WORDS, Ones};
 use program::Program;
 use verdicts::Rewriting;
 
@@ -33,29 +33,27 @@ fn rewritten(p: Program, marks: &[u8]) -> Rewriting
 }
 
 // Judges each mark of the list on the program, and writes the bits of the statements that the accepted ones change: none where none is accepted.
-pub fn relist(program: &[u8], marks: &[u8], list: &mut [u64]) -> Listing
-    ensures { RelistAnswers program.now marks.now list.old list.new result.answer result.defined result.used }
+pub fn relist(
+    program: &[u8],
+    marks: &[u8],
+    list: &mut [u64],
+) -> Result<Ones, Refusal<marks::Refusal>>
+    ensures { RelistAnswers program.now marks.now list.old list.new result }
 {
     if list.len() < LIST_WORDS {
-        return listing::refused(ROOM_NUMBER);
+        return Err(Refusal::Room);
     }
-    let reading = program::read(program);
-    let answer = reading.answer;
-    if let program::Answer::Refused(refusal) = answer {
-        return listing::refused(program::number_of(refusal));
-    }
-    let p = reading.program;
-    let checked = marks::read::check(marks);
-    match checked {
-        marks::Checked::Refused(refusal) => listing::refused(marks::number_of(refusal)),
-        marks::Checked::Taken(_) => {
+    let p = program::read(program)?;
+    match marks::read::check(marks) {
+        Err(refusal) => Err(Refusal::Text(refusal)),
+        Ok(_) => {
             let made = rewritten(p, marks);
             if made.accepted == 0 {
-                return listing::listed(&*list);
+                return Ok(listing::listed(&*list));
             }
             let q = made.program;
             listing::update(p, q, list);
-            listing::listed(&*list)
+            Ok(listing::listed(&*list))
         }
     }
 }

@@ -21,8 +21,10 @@ use Rattle.marks.specs.declared.Refusal as marks-refusal
 use Rattle.marks.specs.declared.Refusal.TheVariants as of-marks
 use Rattle.statement_writer.proofs.Puts.{put_front, put-within, put_then, put-length}
 use Rattle.judge.specs.Judge.{text_bytes, Room, Lent, JudgeRefused, JudgeFinished, JudgeAnswers}
-use Rattle.judge.specs.declared.JudgeAnswer.{JudgeAnswer}
-use Rattle.judge.specs.declared.JudgeAnswer.TheVariants.{Refused, Finished}
+use Rattle.judge.specs.declared.Judged.{Judged}
+use Rattle.calls.specs.Refusals.{number_of}
+use Rattle.calls.specs.declared.Refusal.{Refusal}
+use Rattle.std.specs.Prelude.{Result, Ok, Err}
 use Rattle.pricing.specs.Prices.{ours, most_price, Fair}
 use Rattle.pricing.proofs.Fair.{column-most, ours-fair}
 use Rattle.priced.proofs.Reports.{new-taken}
@@ -45,11 +47,11 @@ refused-refuses vs w r (inr (inl h)) = inl (h.1, h.2, h.3)
 refused-refuses vs w r (inr (inr h)) = inr (h.1, h.2, h.3, h.4, h.5)
 
 -- what each of the two answers says
-module _ (t u : List ℕ) (o q : Lent) {r : JudgeAnswer} (a : JudgeAnswers t u o q r) where
-  pub answer-refused : {n : ℕ} → r ≡ Refused n → Room o.verdicts o.new → Refuses t u n
-  answer-refused is h = refused-refuses o.verdicts o.new h (rw is at a).0
+module _ (t u : List ℕ) (o q : Lent) {r : Result Judged (Refusal marks-refusal.Refusal)} (a : JudgeAnswers t u o q r) where
+  pub answer-refused : {f : Refusal marks-refusal.Refusal} {n : ℕ} → r ≡ Err f → n ≡ number_of marks.number f → Room o.verdicts o.new → Refuses t u n
+  answer-refused is e h = rw e (refused-refuses o.verdicts o.new h (rw is at a).0)
 
-  pub answer-finished : {count accepted bytes : ℕ} → r ≡ Finished count accepted bytes → JudgeFinished t u o q count accepted bytes
+  pub answer-finished : {j : Judged} → r ≡ Ok j → JudgeFinished t u o q j.marks j.accepted j.bytes
   answer-finished is = rw is at a
 
 program-number : (r : program-refusal.Refusal) → program.number r < 10 ^ verdict_digits

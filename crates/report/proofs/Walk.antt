@@ -8,8 +8,7 @@ use lib.Seq.{take_all, length-sets}
 use Rattle.statement_writer.specs.Writing.{Put}
 use Rattle.statement_writer.proofs.Puts.{put_then, room}
 use Rattle.marks.specs.declared.Mark.{Mark}
-use Rattle.marks.specs.declared.read.MarkRead.{MarkRead}
-use Rattle.marks.specs.declared.read.MarkRead.TheVariants.{Found, Misspelled}
+use Rattle.std.specs.Prelude.{Option, Some, None}
 use Rattle.marks.specs.Marks.{names, mark_at}
 use Rattle.marks.specs.Reading.{MarkLineRead, Taken}
 use Rattle.marks.proofs.Lists.{marks-unique}
@@ -42,10 +41,10 @@ module _ {u vs o : List ℕ} {at : ℕ} {q : List ℕ} {to from j : ℕ} (i : Wr
   written-length = ap length i.put.text ∙ length-sets o at (verdict_lines (take j i.ms) vs)
 
   -- where text is left a line is found
-  pub line-there : {r : MarkRead} → r ≡ Misspelled → MarkLineRead u from r → from < length u → ⊥
+  pub line-there : {r : Option (Mark × ℕ)} → r ≡ None → MarkLineRead u from r → from < length u → ⊥
   line-there is l h = line-found i.begins is l (text-line i.begins h)
 
-  module _ {r : MarkRead} {m : Mark} {k : ℕ} (is : r ≡ Found m k) (l : MarkLineRead u from r) where
+  module _ {r : Option (Mark × ℕ)} {m : Mark} {k : ℕ} (is : r ≡ Some (m, k)) (l : MarkLineRead u from r) where
     -- which has its verdict
     pub verdict-there : j < length vs
     verdict-there = omega (arith, line-inside i.begins is l, i.judged)

@@ -10,10 +10,10 @@ ghost use Rattle.report.specs.Words.{words_line, Words};
 ghost use Rattle.report.specs.Writing.{VerdictsFit, ReportFits};
 
 use desk::refusals::REFUSAL_ROOM;
-use judge::{JudgeAnswer, TEXT_BYTES};
+use judge::TEXT_BYTES;
 use language::NUMBER_DIGITS;
-use marks::read::MarkRead;
 use price_text::PRICE_TEXT_ROOM;
+use refusals::Numbered;
 
 // The digits of the number of marks, and of a verdict.
 const COUNT_DIGITS: usize = 4;
@@ -83,11 +83,13 @@ fn write_verdicts(out: &mut [u8], at: usize, list: &[u8], verdicts: &[u8]) -> us
     requires { VerdictsFit list.now verdicts.now at (length out.old) }
     ensures { (ms : List Mark) → Taken list.now ms → Put out.old at (verdict_lines ms verdicts.now) out.new result }
 {
+    // A `while`: each line tells where the next one begins, so no slice or range has the lines that a `for` would go over.
     let mut to = at;
     let mut from: usize = 0;
     let mut j: usize = 0;
+    // A `while`: each line tells where the next one begins, so no slice or range has the lines that a `for` would go over.
     while from < list.len() {
-        let MarkRead::Found(m, k) = marks::read::line(list, from) else {
+        let Some((m, k)) = marks::read::line(list, from) else {
             return to;
         };
         to = write_verdict(out, to, rewriting::statement_of(m), verdicts[j]);
@@ -125,10 +127,20 @@ pub fn report(given: &[u8], marks: &[u8], out: &mut [u8]) -> Reported
     let mut text = judge::text_buffer();
     let answer = judge::judge(given, marks, &mut verdicts, &mut text);
     match answer {
-        JudgeAnswer::Refused(n) => Reported::Refused(write_refused(out, n)),
-        JudgeAnswer::Finished(count, accepted, bytes) => {
-            let end = bytes as usize;
-            let k = write_report(out, count, accepted, marks, &verdicts, &text[..end]);
+        Err(refusal) => {
+            let n = refusal.number();
+            Reported::Refused(write_refused(out, n))
+        }
+        Ok(judged) => {
+            let end = judged.bytes as usize;
+            let k = write_report(
+                out,
+                judged.marks,
+                judged.accepted,
+                marks,
+                &verdicts,
+                &text[..end],
+            );
             let table = pricing::ours();
             let list = price_list::list(given, &text[..end], &table);
             Reported::Written(price_text::write(out, k, list))
@@ -157,10 +169,11 @@ pub fn words(given: &[u8], marks: &[u8], out: &mut [u8]) -> Worded
     let mut text = judge::text_buffer();
     let answer = judge::judge(given, marks, &mut verdicts, &mut text);
     match answer {
-        JudgeAnswer::Refused(n) => {
+        Err(refusal) => {
+            let n = refusal.number();
             let line = refusal_line::line_of_number(given, marks, n);
             Worded::Written(write_words(out, n, line))
         }
-        JudgeAnswer::Finished(_, _, _) => Worded::Nothing,
+        Ok(_) => Worded::Nothing,
     }
 }

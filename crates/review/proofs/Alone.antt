@@ -22,8 +22,11 @@ use Rattle.sharing.proofs.Lines.{line_known, line-own}
 use Rattle.calls.proofs.Unique.{refuses-not}
 use Rattle.review_reader.proofs.Taken.{taken-valid, taken_at}
 use Rattle.tabulate.specs.Tabulate.{table_words, TabulateFilled, TabulateAnswers}
-use Rattle.tabulate.specs.declared.TabulateAnswer.{TabulateAnswer}
-use Rattle.tabulate.specs.declared.TabulateAnswer.TheVariants as tabulate
+use Rattle.tabulate.specs.declared.Filled as tabulate
+use Rattle.std.specs.Prelude.{Result, Ok, Err}
+use Rattle.calls.specs.Refusals.{number_of as number_of_refusal}
+use Rattle.calls.specs.declared.Refusal.{Refusal}
+use Rattle.condition_reader.specs.declared.Refusal as condition-refusal
 use Rattle.tabulate.proofs.Unique.{Words, word_same}
 use Rattle.review.specs.Review.{Told, ReviewFilled}
 
@@ -93,8 +96,8 @@ module _ {t u old new : List ℕ} {tables lines : ℕ} {o : Told} (f : ReviewFil
     }
 
   -- `tabulate` on the line alone, with a table that is large enough, is not refused, and answers the same
-  pub review-alone : (a : TabulateAnswer) (old' new' : List ℕ) → table_words ≤ length old' → Words new → Words new' → TabulateAnswers t line old' new' a
-      → (count : ℕ) × (satisfied : ℕ) × (first : ℕ) × (a ≡ tabulate.Filled count satisfied first) × Same new' count satisfied first
-  review-alone (tabulate.Refused n) old' new' room x y h =
-      absurd (refuses-not (λ s e. omega arith) t (condition-reading.Refused line) condition-reading.number n h.0 room f.program (condition-unique.taken_refused taken))
-  review-alone (tabulate.Filled count satisfied first) old' new' room x y h = (count, satisfied, first, refl, filled-alone h x y)
+  pub review-alone : (a : Result tabulate.Filled (Refusal condition-refusal.Refusal)) (old' new' : List ℕ) → table_words ≤ length old' → Words new → Words new'
+      → TabulateAnswers t line old' new' a → (r : tabulate.Filled) × (a ≡ Ok r) × Same new' r.parts r.satisfied r.first
+  review-alone (Err r) old' new' room x y h =
+      absurd (refuses-not (λ s e. omega arith) t (condition-reading.Refused line) condition-reading.number (number_of_refusal condition-reading.number r) h.0 room f.program (condition-unique.taken_refused taken))
+  review-alone (Ok r) old' new' room x y h = (r, refl, filled-alone h x y)

@@ -1,12 +1,14 @@
 -- From the rows of the tables to the bits that `review` promises. Assumes nothing.
-use mathlib.Core.Path.{subst}
+use mathlib.Core.Path.{◌≡◌, sym, subst}
+use mathlib.Core.Bool.{true, true≢false}
 use mathlib.Core.List.{List}
 use Prim.Native.Nat.{ℕ, ◌+◌, ◌*◌, ◌≤◌, ◌<◌}
 use native.Mathlib.Omega.{arith}
 use lib.ListN.{length, get_or}
+use Rattle.std.specs.Prelude.{Result, Ok, Err, MatchResult, is_ok}
 use Rattle.language.specs.declared.Statement.{Statement}
 use Rattle.program.specs.Program.{Taken}
-use Rattle.bits.specs.Row.{member, Zeros}
+use Rattle.bits.specs.Row.{member}
 use Rattle.labelling.specs.Labels.{Labelled}
 use Rattle.condition.specs.Condition.{Condition}
 use Rattle.truth.specs.Truth.{uses_of, Sat}
@@ -18,11 +20,16 @@ use Rattle.review_reader.specs.Walking.{Held}
 use Rattle.review_reader.proofs.Taken.{taken-valid, taken-length}
 use Rattle.review_tables.specs.Filling.{TablesOf, Rowed, CountedLines}
 use Rattle.tabulate.proofs.Tabulates.{labelled-bit, row-bit}
-use Rattle.review.specs.Review.{review_words, Told, Rest, ReviewFilled}
+use Rattle.review.specs.Review.{review_words, Told, ReviewFilled}
 
-pub all-zeros : {a b c d : List ℕ} → Zeros most_lines a → Zeros most_lines b → Zeros most_lines c → Zeros most_lines d
-    → Rest (record { tables = a; parts = b; satisfied = c; first = d }) most_lines 0
-all-zeros a b c d = record { sizes = (a.size, b.size, c.size, d.size); zeros = λ j _. (a.zero j, b.zero j, c.zero j, d.zero j) }
+-- what holds of a result holds of its value too where its refusal is told as another
+abbrev InOk : {A E F : Type 0} → (Result A E → Type 0) → Result A F → Type 0
+InOk P (Ok x) = P (Ok x)
+InOk P (Err e) = Unit
+
+pub ok-holds : {A E : Type 0} (F : Type 0) (P : Result A E → Type 0) (Q : E → Type 0) {c : A} (r : Result A E) → P r → MatchResult r (λ x. ◌≡◌ {A = Result A F} (Ok c) (Ok x)) Q → true ≡ is_ok r → P (Ok c)
+ok-holds F P Q (Ok x) h e t = subst (InOk P) (sym e) h
+ok-holds F P Q (Err d) h q t = absurd (true≢false t)
 
 taken-few : {u : List ℕ} {cs : List Condition} → reading.Taken u cs → length cs ≤ most_lines
 taken-few {cs = cs} t = omega (arith, taken-length t.spelled.ls cs t.spelled.taken, t.spelled.countable)

@@ -1,6 +1,6 @@
 -- A call of `review` has one answer, tells one thing of each line, and leaves one table. Assumes nothing.
-use mathlib.Core.Path.{◌≡◌, sym, ap, ◌∙◌, subst}
-use mathlib.Core.List.{List}
+use mathlib.Core.Path.{◌≡◌, refl, sym, ap, ◌∙◌, subst}
+use mathlib.Core.List.{List, [], ◌∷◌}
 use Prim.Native.Nat.{ℕ, ◌*◌, ◌≤◌, ◌<◌}
 use native.Mathlib.Decide.{dec_lt}
 use native.Mathlib.Omega.{arith}
@@ -14,13 +14,20 @@ use Rattle.truth.specs.Truth.{Sat}
 use Rattle.table.specs.Table.{part_words}
 use Rattle.table.proofs.Summaries.{counts-unique}
 use Rattle.sharing.specs.Sharing.{most_lines, part, firsts, parts_of}
+use Rattle.std.specs.Prelude.{Result, Ok, Err}
+use Rattle.calls.specs.Refusals.{number_of as number_of_refusal}
+use Rattle.calls.specs.declared.Refusal.{Refusal}
+use Rattle.calls.specs.declared.Refusal.TheVariants.{Room, Program, Text}
+use Rattle.program.specs.declared.Refusal.TheVariants as program
+use Rattle.condition_reader.specs.declared.Refusal.TheVariants as condition-reader
+use Rattle.review_reader.specs.declared.Refusal.TheVariants as review-reader
 use Rattle.calls.proofs.Unique.{refuses-unique, refuses-not}
 use Rattle.review_reader.specs.Reading as reading
+use Rattle.review_reader.specs.declared.Refusal as reading-refusal
 use Rattle.review_reader.proofs.Unique as reading-unique
 use Rattle.tabulate.proofs.Unique.{Words, Filled, filled-unique}
-use Rattle.review.specs.Review.{review_words, ReviewRefused, Told, LineTold, Rest, ReviewFilled, ReviewAnswers}
-use Rattle.review.specs.declared.ReviewAnswer.{ReviewAnswer}
-use Rattle.review.specs.declared.ReviewAnswer.TheVariants as review
+use Rattle.review.specs.Review.{review_words, ReviewRefused, Told, LineTold, Rest, ReviewFilled, told_of, ReviewAnswers}
+use Rattle.review.specs.declared.Reviewed.{Reviewed}
 
 -- what is told of a line is one thing
 line-unique : {P : List Statement} {ds : List Condition} {c : Condition} {a b d e i j k l : ℕ} → LineTold P ds c a b d e → LineTold P ds c i j k l → (a ≡ i) × (b ≡ j) × (d ≡ k) × (e ≡ l)
@@ -54,6 +61,31 @@ module _ {o q : Told} {lines : ℕ} (a : Rest o most_lines lines) (b : Rest q mo
           → ◌≡◌ {A = Told} (record { tables = a; parts = b; satisfied = c; first = d }) (record { tables = i; parts = j; satisfied = k; first = l })
       record_same a b c d i j k l e f g h = rw (e, f, g, h)
 
+-- the refusal that has a number
+abbrev by_number : ℕ → Refusal reading-refusal.Refusal
+by_number n = get_or (Room ∷ Room ∷ Program program.Misspelled ∷ Program program.LineCount ∷ Program program.Placement ∷ Program program.Target
+    ∷ Text (review-reader.Line condition-reader.Length) ∷ Text (review-reader.Line condition-reader.Misspelled) ∷ Text (review-reader.Line condition-reader.PartCount)
+    ∷ Room ∷ Room ∷ Room ∷ Room ∷ Room ∷ Room ∷ Room ∷ Text review-reader.LineCount ∷ Text review-reader.TableCount ∷ []) n Room
+
+by_its_number : (r : Refusal reading-refusal.Refusal) → by_number (number_of_refusal reading.number r) ≡ r
+by_its_number Room = refl
+by_its_number (Program program.Misspelled) = refl
+by_its_number (Program program.LineCount) = refl
+by_its_number (Program program.Placement) = refl
+by_its_number (Program program.Target) = refl
+by_its_number (Text review-reader.LineCount) = refl
+by_its_number (Text (review-reader.Line condition-reader.Length)) = refl
+by_its_number (Text (review-reader.Line condition-reader.Misspelled)) = refl
+by_its_number (Text (review-reader.Line condition-reader.PartCount)) = refl
+by_its_number (Text review-reader.TableCount) = refl
+
+reviewed-same : (a b : Reviewed) → a.tables ≡ b.tables → a.lines ≡ b.lines → told_of a ≡ told_of b → a ≡ b
+reviewed-same a b e f g = same a.tables a.lines a.table_of a.parts a.satisfied a.first b.tables b.lines b.table_of b.parts b.satisfied b.first e f (ap (λ (o : Told). o.tables) g) (ap (λ (o : Told). o.parts) g) (ap (λ (o : Told). o.satisfied) g) (ap (λ (o : Told). o.first) g)
+  where
+    same : (m n : ℕ) (a b c d : List ℕ) (m' n' : ℕ) (i j k l : List ℕ) → m ≡ m' → n ≡ n' → a ≡ i → b ≡ j → c ≡ k → d ≡ l
+        → ◌≡◌ {A = Reviewed} (record { tables = m; lines = n; table_of = a; parts = b; satisfied = c; first = d }) (record { tables = m'; lines = n'; table_of = i; parts = j; satisfied = k; first = l })
+    same m n a b c d m' n' i j k l p q e f g h = rw (p, q, e, f, g, h)
+
 -- what the tables of the conditions cs hold
 abbrev Truth : List Statement → List Condition → ℕ → ℕ → Type 0
 Truth P cs k s = (s < length P) × Sat P (part (firsts (parts_of cs)) k) s
@@ -85,7 +117,7 @@ module _ (t u old : List ℕ) where
         (λ l h. line-unique (a.each l h)
         (subst (λ (cs : List Condition). OfLine a.P cs q l) same-conditions (subst (λ (P : List Statement). OfLine P b.cs q l) same-program (b.each l (omega (arith, same_lines))))))
 
-    review-filled : Words new → Words other → (review.Filled m n ≡ review.Filled i j) × (new ≡ other) × (o ≡ q)
+    review-filled : Words new → Words other → ((m ≡ i) × (n ≡ j)) × (new ≡ other) × (o ≡ q)
     review-filled w v =
         let x : Filled old new m (Truth a.P a.cs) = record { same = a.same; bits = a.bits; kept = a.kept } in
         let y : Filled old other i (Truth b.P b.cs) = record { same = b.same; bits = b.bits; kept = b.kept } in
@@ -93,7 +125,7 @@ module _ (t u old : List ℕ) where
         subst (λ (cs : List Condition). Filled old other m (Truth a.P cs)) same-conditions
         (subst (λ (P : List Statement). Filled old other m (Truth P b.cs)) same-program
         (subst (λ (k : ℕ). Filled old other k (Truth b.P b.cs)) (sym same_tables) y)) in
-        (cc (same_tables, same_lines), filled-unique x z w v, same-told)
+        ((same_tables, same_lines), filled-unique x z w v, same-told)
 
   review-refused : (n m : ℕ) → ReviewRefused t u old n → ReviewRefused t u old m → n ≡ m
   review-refused = refuses-unique table-apart t (reading.Refused u) reading.number (reading-unique.refused-unique u)
@@ -102,10 +134,13 @@ module _ (t u old : List ℕ) where
   review-not n r f = refuses-not table-apart t (reading.Refused u) reading.number n r f.room f.program (reading-unique.taken_refused f.conditions)
 
   -- a call of `review` has one answer, tells one thing of each line, and leaves one table
-  pub review-unique : (a b : ReviewAnswer) (new other : List ℕ) (o q : Told) → Words new → Words other
-      → ReviewAnswers t u old new a o → ReviewAnswers t u old other b q → (a ≡ b) × (new ≡ other) × (o ≡ q)
-  review-unique (review.Refused n) (review.Refused m) new other o q w v x y =
-      (ap review.Refused (review-refused n m x.0 y.0), x.1 ∙ sym y.1, told_same x.2 y.2 (λ j l. absurd (omega arith)))
-  review-unique (review.Refused n) (review.Filled i j) new other o q w v x y = absurd (review-not n x.0 y)
-  review-unique (review.Filled i j) (review.Refused m) new other o q w v x y = absurd (review-not m y.0 x)
-  review-unique (review.Filled i j) (review.Filled k l) new other o q w v x y = review-filled x y w v
+  pub review-unique : (a b : Result Reviewed (Refusal reading-refusal.Refusal)) (new other : List ℕ) → Words new → Words other
+      → ReviewAnswers t u old new a → ReviewAnswers t u old other b → (a ≡ b) × (new ≡ other)
+  review-unique (Err r) (Err s) new other w v x y =
+      let same = review-refused (number_of_refusal reading.number r) (number_of_refusal reading.number s) x.0 y.0 in
+      (ap Err (sym (by_its_number r) ∙ ap by_number same ∙ by_its_number s), x.1 ∙ sym y.1)
+  review-unique (Err r) (Ok b) new other w v x y = absurd (review-not (number_of_refusal reading.number r) x.0 y)
+  review-unique (Ok a) (Err s) new other w v x y = absurd (review-not (number_of_refusal reading.number s) y.0 x)
+  review-unique (Ok a) (Ok b) new other w v x y =
+      let f = review-filled x y w v in
+      (ap Ok (reviewed-same a b f.0.0 f.0.1 f.2), f.1)

@@ -1,5 +1,5 @@
 -- What `review` answers, and what it leaves in the lent table, for every program text, conditions text and table.
-use Rattle.std.specs.Prelude.{◌≡◌, Bool, true, ◌↔◌, List, ℕ, ◌+◌, ◌*◌, ◌≤◌, ◌<◌, length, get_or}
+use Rattle.std.specs.Prelude.{◌≡◌, Bool, true, ◌↔◌, List, ℕ, ◌+◌, ◌*◌, ◌≤◌, ◌<◌, length, get_or, Result, Ok, Err}
 use Rattle.language.specs.declared.Statement.{Statement}
 use Rattle.program.specs.Program.{Taken}
 use Rattle.bits.specs.Row.{bit}
@@ -10,9 +10,10 @@ use Rattle.table.specs.Table.{part_words}
 use Rattle.table.specs.Summary.{Counts}
 use Rattle.sharing.specs.Sharing.{most_lines, most_tables, part, number_of, firsts, parts_of}
 use Rattle.review_reader.specs.Reading as reading
-use Rattle.calls.specs.Refusals.{CallRefused}
-use Rattle.review.specs.declared.ReviewAnswer.{ReviewAnswer}
-use Rattle.review.specs.declared.ReviewAnswer.TheVariants.{Refused, Filled}
+use Rattle.review_reader.specs.declared.Refusal as reading-refusal
+use Rattle.calls.specs.Refusals.{CallRefused, number_of as number_of_refusal}
+use Rattle.calls.specs.declared.Refusal.{Refusal}
+use Rattle.review.specs.declared.Reviewed.{Reviewed}
 
 -- "The lent table has 512 words, else refusal 1": as many tables as there can be
 abbrev pub review_words : ℕ
@@ -63,7 +64,11 @@ pub record ReviewFilled (t u old new : List ℕ) (tables lines : ℕ) (told : To
       → LineTold P (firsts (parts_of cs)) (part cs j) (get_or told.tables j 0) (get_or told.parts j 0) (get_or told.satisfied j 0) (get_or told.first j 0)
   pub rest : Rest told most_lines lines
 
+-- what a finished call tells of each line
+abbrev pub told_of : Reviewed → Told
+told_of r = record { tables = r.table_of; parts = r.parts; satisfied = r.satisfied; first = r.first }
+
 -- "A refused call answers only its number and keeps all lent memory."
-abbrev pub ReviewAnswers : List ℕ → List ℕ → List ℕ → List ℕ → ReviewAnswer → Told → Type 0
-ReviewAnswers t u old new (Refused n) told = ReviewRefused t u old n × (new ≡ old) × Rest told most_lines 0
-ReviewAnswers t u old new (Filled tables lines) told = ReviewFilled t u old new tables lines told
+abbrev pub ReviewAnswers : List ℕ → List ℕ → List ℕ → List ℕ → Result Reviewed (Refusal reading-refusal.Refusal) → Type 0
+ReviewAnswers t u old new (Err r) = ReviewRefused t u old (number_of_refusal reading.number r) × (new ≡ old)
+ReviewAnswers t u old new (Ok r) = ReviewFilled t u old new r.tables r.lines (told_of r)

@@ -4,7 +4,7 @@ use mathlib.Core.List.{List, [], ◌∷◌, ◌++◌, append_assoc, append-nil}
 use Prim.Native.Nat.{ℕ, suc, ◌+◌, ◌-◌, ◌≤◌, ◌<◌}
 use native.Mathlib.Numerals.{add-one}
 use native.Mathlib.Omega.{arith}
-use lib.ListN.{length, get_or, take, drop, length-append, length-drop, length-take, take-append-drop}
+use lib.ListN.{length, get_or, drop, length-append, length-drop, length-take, take-append-drop}
 use lib.Seq.{get_or-append_seam, get_or-take, get_or-drop, drop-cons, drop-drop}
 use Rattle.lines.specs.Lines.{text, AllValid, LineOf, NoLine}
 use Rattle.lines.proofs.Texts.{Unambiguous, front-unique, front_rest}

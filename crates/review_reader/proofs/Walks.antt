@@ -1,12 +1,12 @@
 -- The loop over the lines: what is known before each, and what is told at the end. Assumes nothing.
-use mathlib.Core.Path.{◌≡◌, refl, sym, ap, ◌∙◌, subst}
+use mathlib.Core.Path.{◌≡◌, refl, sym, ap, ◌∙◌}
 use mathlib.Core.List.{List, [], ◌∷◌, ◌++◌, append-nil}
 use mathlib.Core.Logic.{inl, inr}
 use Prim.Native.Nat.{ℕ, ◌+◌, ◌-◌, ◌*◌, ◌≤◌, ◌<◌}
 use native.Mathlib.Decide.{dec_lt}
 use native.Mathlib.Omega.{arith}
 use borrow.Author.Count.{below_more}
-use lib.ListN.{length, get_or, set, take, drop, length-append, length-drop, length-set}
+use lib.ListN.{length, get_or, set, drop, length-append, length-drop, length-set}
 use lib.Seq.{get_or-append_seam, get_or-set_same, get_or-set_other}
 use Rattle.bits.specs.Row.{Zeros}
 use Rattle.lines.specs.Lines.{text}
@@ -17,17 +17,16 @@ use Rattle.condition.specs.Texts as condition
 use Rattle.condition.specs.Words as words
 use Rattle.condition_reader.specs.Reading as condition-reading
 use Rattle.condition_reader.specs.declared.Refusal as condition-refusal
-use Rattle.condition_reader.specs.declared.Refusal.TheVariants.{Length, Misspelled}
 use Rattle.sharing.specs.Sharing.{most_lines, most_tables, part, number_of, firsts_after, firsts, parts_of}
 use Rattle.sharing.proofs.Firsts.{part_stays, number-kept}
 use Rattle.sharing.proofs.Lines.{lines-append, lines-postfix, line_known}
-use Rattle.keys.specs.Store.{span, lists, Store}
+use Rattle.keys.specs.Store.{span, lists}
 use Rattle.keys.proofs.Lists.{store-none}
 use Rattle.keys.proofs.Told.{span-length}
 use Rattle.numbering.specs.Numbering.{Sharing, Line, LineNumbered}
 use Rattle.numbering.specs.declared.LineNumber.{LineNumber}
 use Rattle.numbering.proofs.Steps.{firsts-over}
-use Rattle.review_reader.specs.Reading.{itself, Unbroken, Split, count_of_lines, AllTaken, FirstFaulty, line, last, Spelled, Refused}
+use Rattle.review_reader.specs.Reading.{itself, Unbroken, count_of_lines, AllTaken, FirstFaulty, line, last, Spelled, Refused}
 use Rattle.review_reader.specs.declared.Refusal.TheVariants as refusal
 use Rattle.review_reader.specs.Walking.{EndsAt, Counted, RestTold, LinesOf, TablesOf, Held}
 use Rattle.review_reader.proofs.Splits.{split-unique, line_of, split-whole, split_rest, position, line-left, line-here}

@@ -2,7 +2,7 @@
 -- together".
 use Rattle.std.specs.Prelude.{◌≡◌, List, [], ◌∷◌, ◌++◌, ◌⊎◌, ℕ, ◌+◌, ◌≤◌, ◌<◌, length, get_or}
 use Rattle.lines.specs.Lines as lines
-use Rattle.condition.specs.Condition.{Condition, parts}
+use Rattle.condition.specs.Condition.{Condition}
 use Rattle.condition.specs.Texts as condition
 use Rattle.condition_reader.specs.Reading as condition-reading
 use Rattle.condition_reader.specs.declared.Refusal as condition-refusal

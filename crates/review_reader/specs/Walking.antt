@@ -1,12 +1,12 @@
 -- Proof devices: what the contracts of the functions that read the lines of a review say. No sentence of a document stands here.
-use Rattle.std.specs.Prelude.{◌≡◌, List, ℕ, ◌≤◌, ◌<◌, length, get_or}
+use Rattle.std.specs.Prelude.{◌≡◌, List, ℕ, ◌≤◌, ◌<◌, length, get_or, Result, Ok, Err}
 use Rattle.condition.specs.Condition.{Condition, parts}
 use Rattle.sharing.specs.Sharing.{most_lines, part, number_of, firsts, parts_of}
 use Rattle.numbering.specs.Numbering.{Shares}
 use Rattle.condition_reader.specs.declared.Refusal as condition-refusal
 use Rattle.review_reader.specs.Reading.{Split, count_of_lines, RestRefused, Refused, Taken}
-use Rattle.review_reader.specs.declared.Answer.{Answer}
-use Rattle.review_reader.specs.declared.Answer.TheVariants as answer
+use Rattle.review_reader.specs.declared.Reading.{Reading}
+use Rattle.review_reader.specs.declared.Refusal.{Refusal}
 
 -- the line at `at` goes up to r, where its byte 10 stands or the text ends
 pub record EndsAt (s : List ℕ) (at r : ℕ) : Type 0 where
@@ -45,6 +45,6 @@ pub record Held (u : List ℕ) (cs : List Condition) (tables lines : ℕ) (entri
   pub lines_of : LinesOf cs numbers counts
   pub tables_of : TablesOf cs numbers
 
-abbrev pub ReviewRead : List ℕ → Answer → List ℕ → List ℕ → List ℕ → Type 0
-ReviewRead u (answer.Taken tables lines) entries numbers counts = (cs : List Condition) × Held u cs tables lines entries numbers counts
-ReviewRead u (answer.Refused r) entries numbers counts = Refused u r
+abbrev pub ReviewRead : List ℕ → Result Reading Refusal → List ℕ → List ℕ → List ℕ → Type 0
+ReviewRead u (Ok r) entries numbers counts = (cs : List Condition) × Held u cs r.tables r.lines entries numbers counts
+ReviewRead u (Err r) entries numbers counts = Refused u r

@@ -9,9 +9,10 @@ ghost use Rattle.review_reader.specs.Reading.{number};
 ghost use Rattle.review_reader.specs.Walking.{EndsAt, Counted, RestTold, ReviewRead};
 
 use condition::MOST_BYTES;
+use refusals::Numbered;
 use sharing::{MOST_LINES, MOST_TABLES};
 
-// The refusals of the conditions' text.
+// The refusals of the conditions' text, with their numbers of documents 01 and 02.
 #[derive(Clone, Copy)]
 pub enum Refusal {
     LineCount,
@@ -19,22 +20,23 @@ pub enum Refusal {
     TableCount,
 }
 
-// Taken: the number of differing parts, which is that of their tables, and the number of lines.
-#[derive(Clone, Copy)]
-pub enum Answer {
-    Taken(u32, u32),
-    Refused(Refusal),
+impl Numbered for Refusal {
+    ghost number = { number };
+
+    fn number(self) -> u8 {
+        match self {
+            Refusal::LineCount => 16,
+            Refusal::Line(refusal) => refusal.number(),
+            Refusal::TableCount => 17,
+        }
+    }
 }
 
-// The number of a refusal in documents 01 and 02.
-pub fn number_of(r: Refusal) -> u8
-    ensures { result ≡ number r }
-{
-    match r {
-        Refusal::LineCount => 16,
-        Refusal::Line(refusal) => condition_reader::number_of(refusal),
-        Refusal::TableCount => 17,
-    }
+// The number of differing parts, which is that of their tables, and the number of lines.
+#[derive(Clone, Copy)]
+pub struct Reading {
+    pub tables: u32,
+    pub lines: u32,
 }
 
 // Where the line at the position ends: at its byte 10, or at the text's end.
@@ -42,14 +44,12 @@ fn line_end(s: &[u8], at: usize) -> usize
     requires { at ≤ length s.now }
     ensures { EndsAt s.now at result }
 {
-    let mut k = at;
-    while k < s.len() {
+    for k in at..s.len() {
         if s[k] == 10 {
             return k;
         }
-        k += 1;
     }
-    k
+    s.len()
 }
 
 // The number of lines, an unfinished last one counted.
@@ -58,6 +58,7 @@ fn line_count(s: &[u8]) -> usize
 {
     let mut n: usize = 0;
     let mut at: usize = 0;
+    // Not a `for`: each step goes on to the next line, which begins where this one ends.
     while at < s.len() {
         let end = line_end(s, at);
         if s.len() <= end {
@@ -80,44 +81,44 @@ fn rest_refusal(n: usize) -> condition_reader::Refusal
     }
 }
 
-// Reads each line and numbers its parts. Where the answer is `Taken`, the first entries are those of the differing parts, and each line
+// Reads each line and numbers its parts. Where the conditions are taken, the first entries are those of the differing parts, and each line
 // has the number of its table and that of its parts. All lines are read, also beyond MOST_TABLES.
-pub fn read(text: &[u8], entries: &mut [u64], numbers: &mut [u32], counts: &mut [u32]) -> Answer
+pub fn read(
+    text: &[u8],
+    entries: &mut [u64],
+    numbers: &mut [u32],
+    counts: &mut [u32],
+) -> Result<Reading, Refusal>
     requires { Zeros most_tables entries.old × Zeros most_lines numbers.old × Zeros most_lines counts.old }
     ensures { ReviewRead text.now result entries.new numbers.new counts.new }
 {
     let n = line_count(text);
-    if n < 1 {
-        return Answer::Refused(Refusal::LineCount);
-    }
-    if MOST_LINES < n {
-        return Answer::Refused(Refusal::LineCount);
+    if n < 1 || MOST_LINES < n {
+        return Err(Refusal::LineCount);
     }
     let mut links = keys::blank_links();
     let mut heads = keys::blank_heads();
     let mut count: usize = 0;
     let mut j: usize = 0;
     let mut at: usize = 0;
+    // Not a `for`, as in `line_count`.
     while at < text.len() {
         let end = line_end(text, at);
         if text.len() <= end {
-            let left = rest_refusal(end - at);
-            return Answer::Refused(Refusal::Line(left));
+            return Err(Refusal::Line(rest_refusal(end - at)));
         }
-        let reading = condition_reader::read(&text[at..end]);
-        let told = reading.answer;
-        match told {
-            condition_reader::Answer::Refused(refusal) => {
-                return Answer::Refused(Refusal::Line(refusal));
+        match condition_reader::read(&text[at..end]) {
+            Err(refusal) => {
+                return Err(Refusal::Line(refusal));
             }
-            condition_reader::Answer::Taken(parts) => {
+            Ok(reading) => {
+                let size = reading.count as usize;
                 let words = reading.words;
-                let size = parts as usize;
                 let line = numbering::number_line(
                     text, at, words, size, entries, &mut links, &mut heads, count,
                 );
                 numbers[j] = line.table;
-                counts[j] = parts;
+                counts[j] = reading.count;
                 count = line.count;
                 j += 1;
                 at = end + 1;
@@ -125,7 +126,10 @@ pub fn read(text: &[u8], entries: &mut [u64], numbers: &mut [u32], counts: &mut 
         }
     }
     if MOST_TABLES < count {
-        return Answer::Refused(Refusal::TableCount);
+        return Err(Refusal::TableCount);
     }
-    Answer::Taken(count as u32, j as u32)
+    Ok(Reading {
+        tables: count as u32,
+        lines: j as u32,
+    })
 }

@@ -9,7 +9,7 @@ use Rattle.table.specs.Table.{part_words, row}
 use Rattle.atoms.specs.Facts.{used_in}
 use Rattle.table.specs.Known.{KnownIn}
 use Rattle.table.specs.Summary.{Counts}
-use Rattle.sharing.specs.Sharing.{most_lines, part, firsts}
+use Rattle.sharing.specs.Sharing.{most_lines, part}
 use Rattle.sharing.specs.Keys.{key_of, Numbered, Ordered}
 use Rattle.keys.specs.Store.{key_in}
 use Rattle.numbering.specs.Numbering.{Shares}

@@ -57,11 +57,8 @@ pub fn fill(
     requires count_in_bounds { part_words * count ≤ length table.old }
     ensures { (P : List Statement) (ps : List Condition) → KnownIn P n rows.now codes.now flow.now → Shares text.now ps entries.now count → TablesOf (used_in rows.now) P (firsts ps) table.old table.new }
 {
-    let mut k: usize = 0;
-    while k < count {
-        let w = entries[k];
-        fill_entry(text, w, n, rows, codes, flow, table, k);
-        k += 1;
+    for k in 0..count {
+        fill_entry(text, entries[k], n, rows, codes, flow, table, k);
     }
 }
 
@@ -77,12 +74,9 @@ pub fn count_lines(
     requires zeros { Zeros most_lines satisfied.old × Zeros most_lines first.old }
     ensures { CountedLines table.now numbers.now satisfied.new first.new lines }
 {
-    let mut j: usize = 0;
-    while j < lines {
-        let k = numbers[j] as usize;
-        let summary = table::summary_of(table, k);
+    for j in 0..lines {
+        let summary = table::summary_of(table, numbers[j] as usize);
         satisfied[j] = summary.satisfied;
         first[j] = summary.first;
-        j += 1;
     }
 }

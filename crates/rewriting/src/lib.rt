@@ -4,7 +4,7 @@
 ghost use Rattle.std.specs.Prelude.{◌≡◌};
 ghost use Rattle.base.specs.Decides.{Decides};
 ghost use Rattle.marks.specs.Marks.{names};
-ghost use Rattle.rewriting.specs.Verdicts.{number, Stands};
+ghost use Rattle.rewriting.specs.Verdicts.{Stands};
 
 use marks::Mark;
 
@@ -21,16 +21,21 @@ pub enum Verdict {
 }
 
 // The number of a verdict in documents 01 and 02.
-pub fn number_of(v: Verdict) -> u8
-    ensures { result ≡ number v }
-{
-    match v {
-        Verdict::Accepted => 0,
-        Verdict::Missing => 11,
-        Verdict::Repeated => 12,
-        Verdict::Unfit => 13,
-        Verdict::MayFault => 18,
-        Verdict::Unmet => 14,
+impl From<Verdict> for u8 {
+    ghost use Rattle.std.specs.Prelude.{◌≡◌};
+    ghost use Rattle.rewriting.specs.Verdicts.{number};
+
+    ghost from_gives = { λ v n. n ≡ number v };
+
+    fn from(v: Verdict) -> u8 {
+        match v {
+            Verdict::Accepted => 0,
+            Verdict::Missing => 11,
+            Verdict::Repeated => 12,
+            Verdict::Unfit => 13,
+            Verdict::MayFault => 18,
+            Verdict::Unmet => 14,
+        }
     }
 }
 
@@ -38,14 +43,7 @@ pub fn number_of(v: Verdict) -> u8
 pub fn stands(v: Verdict) -> bool
     ensures { Decides result (Stands v) }
 {
-    match v {
-        Verdict::Accepted => true,
-        Verdict::Missing => false,
-        Verdict::Repeated => true,
-        Verdict::Unfit => true,
-        Verdict::MayFault => true,
-        Verdict::Unmet => true,
-    }
+    !matches!(v, Verdict::Missing)
 }
 
 // The number of the statement that the mark names.
@@ -53,8 +51,6 @@ pub fn statement_of(m: Mark) -> u32
     ensures { result ≡ names m }
 {
     match m {
-        Mark::Rm(n, _, _) => n,
-        Mark::Rpl(n, _, _) => n,
-        Mark::Cse(n, _, _) => n,
+        Mark::Rm(n, _, _) | Mark::Rpl(n, _, _) | Mark::Cse(n, _, _) => n,
     }
 }

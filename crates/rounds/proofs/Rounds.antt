@@ -1,4 +1,5 @@
 -- The theorem of Wish 11: by induction on the calls. Assumes nothing.
+use Rattle.std.specs.Prelude.{Result}
 use mathlib.Core.Path.{◌≡◌, sym, ap, subst}
 use mathlib.Core.Logic.{inl, inr}
 use mathlib.Core.List.{List}
@@ -15,7 +16,8 @@ use Rattle.machine.specs.Machine.{after}
 use Rattle.lockstep.specs.Lockstep.{Together}
 use Rattle.lockstep.proofs.Answers.{together-same, together-then, answers-together}
 use Rattle.run.specs.Run.{most_steps, RunAnswers}
-use Rattle.run.specs.declared.RunAnswer.{RunAnswer}
+use Rattle.execution.specs.declared.Outcome.{Outcome}
+use Rattle.run.specs.declared.Refusal as run
 use Rattle.pricing.specs.Prices.{in_force}
 use Rattle.demand.specs.Demand.{RunsAlike, Demand3}
 use Rattle.demand.proofs.Demand.{called-answers}
@@ -56,7 +58,7 @@ pub record Held (n t mem : List ℕ) : Type 0 where
 
 still-held : {n t mem w : List ℕ} → Reached n t mem w → Held n t mem
 still-held (start mem k room h) = record { k = k; room = room; holds = h }
-still-held (round mem w u o q marks accepted bytes r j) = still-held r
+still-held (round mem w u o q judged r j) = still-held r
 still-held (other mem w m p next k r apart f) =
     let h = still-held r in
     record { k = h.k; room = omega (arith, h.room, ap length f.kept, length-sets mem (place_room * f.k) (written m p)); holds = still-holds f apart h.holds }
@@ -88,7 +90,7 @@ reached-runs : {n t mem w : List ℕ} → Reached n t mem w → Runs t w
 reached-runs (start mem k room h) =
     let s = h.stands in
     record { P = s.P; Q = s.P; given = s.taken; taken = s.taken; together = λ vs l input i. together-same (after s.P vs input i) }
-reached-runs (round mem w u o q marks accepted bytes r j) = runs_then (reached-runs r) j.demand
+reached-runs (round mem w u o q judged r j) = runs_then (reached-runs r) j.demand
 reached-runs (other mem w m p next k r apart f) = reached-runs r
 reached-runs (refused mem w m p next r reached a) = reached-runs reached
 
@@ -112,9 +114,10 @@ rounds n t mem w reached = record {
     r = reached-runs reached
 
     alike :
-        (ps vs : List ℕ) → length vs ≡ variables → (input budget : ℕ) → budget ≤ most_steps → (a b : RunAnswer) (ws us ks hs : List ℕ)
-        → RunAnswers ps t vs input budget a ws ks → RunAnswers ps w vs input budget b us hs → RunsAlike a b × (ks ≡ hs)
-    alike ps vs l input budget allowed a b ws us ks hs p q =
-        let x = called-answers r.given ps vs input budget allowed a ws ks p in
-        let y = called-answers r.taken ps vs input budget allowed b us hs q in
-        rw (x.1, y.1) (answers-together r.P r.Q vs input (r.together vs l input) (in_force ps) budget x.0 y.0 ws us ks hs x.2 y.2)
+        (ps vs : List ℕ) → length vs ≡ variables → (input budget : ℕ) → budget ≤ most_steps → (a b : Result Outcome run.Refusal)
+        → RunAnswers ps t vs input budget a → RunAnswers ps w vs input budget b → RunsAlike a b
+    alike ps vs l input budget allowed a b p q =
+        let x = called-answers r.given ps vs input budget allowed a p in
+        let y = called-answers r.taken ps vs input budget allowed b q in
+        rw (x.1, y.1)
+        (answers-together r.P r.Q vs input (r.together vs l input) (in_force ps) budget x.0.answer y.0.answer x.0.values y.0.values x.0.kept y.0.kept x.2 y.2)

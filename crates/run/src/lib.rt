@@ -2,41 +2,44 @@
 #![tactic(auto)]
 
 ghost use Rattle.std.specs.Prelude.{◌≡◌};
-ghost use Rattle.language.specs.Kept.{kept_of};
-ghost use Rattle.run.specs.Run.{RunAnswers};
+ghost use Rattle.run.specs.Run.{number, RunAnswers};
 
-use language::KEPT;
-use machine::{Answer, VALUES};
+use execution::Outcome;
+use machine::VALUES;
 use pricing::KINDS;
+use refusals::Numbered;
 
 // A run takes at most this many steps.
 pub const MOST_STEPS: u32 = 1000000;
 // The refusal of a larger budget.
 pub const BUDGET_NUMBER: u8 = 15;
 
-// Refused: document 01's number. Finished: what the program's run answers.
+// Why a run is refused: its budget is larger than it may be, or the program's text isn't taken.
 #[derive(Clone, Copy)]
-pub enum RunAnswer {
-    Refused(u8),
-    Finished(Answer),
+pub enum Refusal {
+    Budget,
+    Program(program::Refusal),
 }
 
-// The values are those after the last step where the answer is `Spent`, else the starting ones. The kept ones are those at the end where the
-// run ended, else those of the start.
-#[derive(Clone, Copy)]
-pub struct Ran {
-    pub answer: RunAnswer,
-    pub values: [u32; VALUES],
-    pub kept: [u32; KEPT],
+impl Numbered for Refusal {
+    ghost number = { number };
+
+    fn number(self) -> u8 {
+        match self {
+            Refusal::Budget => BUDGET_NUMBER,
+            Refusal::Program(refusal) => refusal.number(),
+        }
+    }
 }
 
-fn run_refused(number: u8, values: [u32; VALUES]) -> Ran
-    ensures { (result.answer ≡ RunAnswer.Refused number) × (result.values ≡ values) × (result.kept ≡ kept_of values) }
-{
-    Ran {
-        answer: RunAnswer::Refused(number),
-        values: values,
-        kept: machine::kept_of(values),
+impl From<program::Refusal> for Refusal {
+    ghost use Rattle.std.specs.Prelude.{◌≡◌};
+    ghost use Rattle.run.specs.declared.Refusal.TheVariants.{Program};
+
+    ghost from_gives = { λ refusal given. given ≡ Program refusal };
+
+    fn from(refusal: program::Refusal) -> Refusal {
+        Refusal::Program(refusal)
     }
 }
 
@@ -47,25 +50,12 @@ pub fn run(
     input: u32,
     budget: u32,
     prices: [u32; KINDS],
-) -> Ran
-    ensures { RunAnswers prices program.now values input budget result.answer result.values result.kept }
+) -> Result<Outcome, Refusal>
+    ensures { RunAnswers prices program.now values input budget result }
 {
     if MOST_STEPS < budget {
-        return run_refused(BUDGET_NUMBER, values);
+        return Err(Refusal::Budget);
     }
-    let reading = program::read(program);
-    let answer = reading.answer;
-    if let program::Answer::Refused(refusal) = answer {
-        return run_refused(program::number_of(refusal), values);
-    }
-    let read = reading.program;
-    let outcome = execution::run(read, values, input, budget, pricing::in_force(prices));
-    let left = outcome.values;
-    let kept = outcome.kept;
-    let told = outcome.answer;
-    Ran {
-        answer: RunAnswer::Finished(told),
-        values: left,
-        kept: kept,
-    }
+    let read = program::read(program)?;
+    Ok(execution::run(read, values, input, budget, pricing::in_force(prices)))
 }

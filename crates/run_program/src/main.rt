@@ -2,8 +2,6 @@
 // refusal in words, and with the word `trace` a line for each step before it.
 #![tactic(auto)]
 
-use files::FileRead;
-use tokens::WordRead;
 use transcript::Stage;
 
 // An argument is read into so many bytes: a longer one isn't the word.
@@ -13,6 +11,7 @@ const WORD_ROOM: usize = 16;
 fn print(rt: &HostRuntime, program: &[u8], start: &[u8], trace: bool) -> u8 {
     let mut out = files::chunk();
     let mut at = transcript::first();
+    // Each piece tells where the next one goes on, or that it is the last.
     while !transcript::over(at) {
         let piece = transcript::next(program, start, trace, at, &mut out);
         let n = piece.bytes;
@@ -21,21 +20,18 @@ fn print(rt: &HostRuntime, program: &[u8], start: &[u8], trace: bool) -> u8 {
         }
         at = piece.next;
     }
-    let stage = at.stage;
-    if let Stage::Refused = stage {
-        return files::REFUSAL;
+    if matches!(at.stage, Stage::Refused) {
+        files::REFUSAL
+    } else {
+        files::RESULT
     }
-    files::RESULT
 }
 
 // Whether the third argument is `trace`.
 fn traced(rt: &HostRuntime) -> bool {
     let mut word = [0u8; WORD_ROOM];
     let n = files::arg(rt, 3, &mut word);
-    let WordRead::Found(k) = tokens::word(&word[..n], 0, b"trace") else {
-        return false;
-    };
-    k == n
+    &word[..n] == b"trace".as_slice()
 }
 
 // Four arguments, its own name among them, end with the word; more are too many.
@@ -53,11 +49,11 @@ fn understood(rt: &HostRuntime) -> bool {
 // Reads both files and prints; where one can't be read, nothing is printed.
 fn run(rt: &HostRuntime) -> u8 {
     let mut given = files::room();
-    let FileRead::Whole(m) = files::read(rt, 1, b"given", &mut given) else {
+    let Ok(m) = files::read(rt, 1, b"given", &mut given) else {
         return files::UNREAD;
     };
     let mut from = files::room();
-    let FileRead::Whole(n) = files::read(rt, 2, b"start", &mut from) else {
+    let Ok(n) = files::read(rt, 2, b"start", &mut from) else {
         return files::UNREAD;
     };
     print(rt, &given[..m], &from[..n], traced(rt))

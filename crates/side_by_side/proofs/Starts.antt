@@ -15,14 +15,14 @@ use Rattle.judge.specs.Judge.{Lent, JudgeFinished}
 use Rattle.priced.proofs.Reports.{new-within}
 use Rattle.desk.specs.Refusals.{refusal_text}
 use Rattle.start_refusal.specs.StartRefusal.{start_text}
-use Rattle.start.specs.Start.{StartTaken, StartRead}
-use Rattle.start.specs.declared.Answer.{Answer}
-use Rattle.start.specs.declared.Answer.TheVariants.{Taken, Few, Many, Line, Unended}
-use Rattle.start.proofs.Unique.{answer-unique}
+use Rattle.std.specs.Prelude.{Ok, Err}
+use Rattle.start.specs.Start.{StartTaken, StartWrong}
+use Rattle.start.specs.declared.Wrong.{Wrong}
+use Rattle.start.proofs.Unique.{taken_wrong}
 use Rattle.liveness.specs.Liveness.{LiveIn}
 use Rattle.comparison.specs.Lines.{both_lines}
 use Rattle.heading.specs.Heading.{heading_text, HeadRefused, HeadJudged}
-use Rattle.side_by_side.specs.SideBySide.{Refuses, at_stage, HandedAt, ahead_at, stays, Kept, Prints}
+use Rattle.side_by_side.specs.SideBySide.{at_stage, HandedAt, ahead_at, stays, Kept, Prints}
 use Rattle.side_by_side.specs.declared.Stage.{Stage}
 use Rattle.side_by_side.specs.declared.Stage.TheVariants.{Begin, Steps, Closing, Ended, Refused}
 use Rattle.side_by_side.specs.declared.Position.{Position}
@@ -37,18 +37,10 @@ begins Ended = false
 begins Refused = false
 
 -- a start that is wrong
-module _ (t m u : List ℕ) (p : Position) (w : List ℕ) (a : Answer) (input budget : ℕ) (values : List ℕ)
-    (read : StartRead u a input budget values) (wrong : a ≡ Taken → ⊥) where
-  refuses-start : (b : Answer) → (b ≡ Taken → ⊥) → Refuses t m b budget (start_text b)
-  refuses-start Taken n = absurd (n refl)
-  refuses-start Few n = refl
-  refuses-start Many n = refl
-  refuses-start (Line k) n = refl
-  refuses-start (Unended k) n = refl
-
+module _ (t m u : List ℕ) (p : Position) (w : List ℕ) (a : Wrong) (read : StartWrong u a) where
   -- no run stands anywhere
   not_taken : {i j : ℕ} {vs : List ℕ} → StartTaken u i j vs → ⊥
-  not_taken {i = i} {j = j} {vs = vs} s = wrong (answer-unique u a Taken input i budget j values vs read s)
+  not_taken s = taken_wrong s a read
 
   never : (s : Stage) → begins s ≡ false → (b : List ℕ) → HandedAt t m u s p w b → 0 < ahead_at s p.done → ⊥
   never Begin n b h l = let z : ◌≡◌ {A = ℕ} 0 1 = cc in omega arith
@@ -68,7 +60,7 @@ module _ (t m u : List ℕ) (p : Position) (w : List ℕ) (a : Answer) (input bu
       (printed t m u p w w (record { bytes = n; next = at_stage Refused }) (start_text a) (piece-put put fits) (put_front put fits) (none_kept w) (rw e (omega arith))
       (λ b h.
       let g : HandedAt t m u Begin p w b = handed-at t m u p w b e h in
-      ((refl, record { answer = a; input = input; budget = budget; values = values; read = read; refuses = rw g.1 (refuses-start a wrong) }), rw e (omega arith))))
+      ((refl, record { answer = Err a; read = read; refuses = rw g.1 refl }), rw e (omega arith))))
 
 -- the heading
 module _ (t m u : List ℕ) {w v o q : List ℕ} {n input budget : ℕ} {values : List ℕ} (start : StartTaken u input budget values) where
@@ -81,10 +73,7 @@ module _ (t m u : List ℕ) {w v o q : List ℕ} {n input budget : ℕ} {values 
         (
           refl,
           record {
-            answer = Taken;
-            input = input;
-            budget = budget;
-            values = values;
+            answer = Ok (record { input = input; budget = budget; values = values });
             read = start;
             refuses = record { n = h.n; line = h.line; refused = h.refused; blamed = h.blamed; text = rw g.1 };
           },

@@ -2,11 +2,9 @@
 use mathlib.Core.Path.{◌≡◌, refl, ap, sym, ◌∙◌}
 use mathlib.Core.Logic.{◌⊎◌, inl, inr}
 use mathlib.Core.List.{List, ◌++◌, append-nil, append_assoc}
-use mathlib.Core.Bool.{true, false}
 use Prim.Native.Nat.{ℕ, zero, suc, ◌+◌, ◌-◌, ◌≤◌, ◌<◌}
 use native.Mathlib.Omega.{arith}
 use lib.ListN.{length, take}
-use Rattle.base.proofs.Bools.{split, clash}
 use Rattle.language.specs.declared.Statement.{Statement}
 use Rattle.statement_writer.proofs.Puts.{put_front}
 use Rattle.program.specs.Program.{Taken}
@@ -22,7 +20,9 @@ use Rattle.start.specs.Start.{StartTaken}
 use Rattle.start.proofs.Unique.{start-unique}
 use Rattle.comparison.specs.Lines.{both_lines}
 use Rattle.comparison.specs.Stepping.{line_room, BothEnded, Compared, Stepped}
-use Rattle.comparison.specs.declared.Progress.{Progress}
+use Rattle.trace.specs.declared.Progress.{Progress}
+use Rattle.comparison.specs.declared.Stop.{Stop}
+use Rattle.comparison.specs.declared.Stop.TheVariants as stop
 use Rattle.side_by_side.specs.SideBySide.{Runs, lines_text, StepsTold, AllTold, at_stage, stays, Prints}
 use Rattle.side_by_side.specs.declared.Stage.TheVariants.{Steps, Closing, Refused}
 use Rattle.side_by_side.specs.declared.Position.{Position}
@@ -58,12 +58,12 @@ lines_of r n = both_lines r.demand.P r.demand.Q r.values r.input 0 n
 join : (c x y : List ℕ) {b z k : List ℕ} → b ≡ c ++ x → k ≡ y → x ++ y ≡ z → b ++ k ≡ c ++ z
 join c x y e f g = rw (e, f, append_assoc, g)
 
-stepped-of : {P Q R S : List Statement} {live : List ℕ} {i j b d k s : ℕ} {us zs o q vs ws : List ℕ} {r : Progress} → R ≡ P → S ≡ Q → j ≡ i → d ≡ b
+stepped-of : {P Q R S : List Statement} {live : List ℕ} {i j b d k s : ℕ} {us zs o q vs ws : List ℕ} {r : Progress Stop} → R ≡ P → S ≡ Q → j ≡ i → d ≡ b
     → Stepped P Q live i b k s us zs o q vs ws r → Stepped R S live j d k s us zs o q vs ws r
 stepped-of e f g h x = rw (e, f, g, h) x
 
 -- a piece of lines, where P and Q are the programs that were read
-module _ (t m u : List ℕ) (p : Position) (w : List ℕ) {o q : List ℕ} {P Q : List Statement} {input budget : ℕ} {values vs ws : List ℕ} {r : Progress}
+module _ (t m u : List ℕ) (p : Position) (w : List ℕ) {o q : List ℕ} {P Q : List Statement} {input budget : ℕ} {values vs ws : List ℕ} {r : Progress Stop}
     (here : p.stage ≡ Steps) (start : StartTaken u input budget values) (one : Taken t P) (two : Taken (take p.bytes w) Q)
     (walk : Stepped P Q p.live input budget p.done p.at p.values p.others o q vs ws r) where
   module _ {b : List ℕ} (s : StepsTold t m u p w b) where
@@ -77,12 +77,8 @@ module _ (t m u : List ℕ) (p : Position) (w : List ℕ) {o q : List ℕ} {P Q 
         (stepped-of (taken-unique d.given one) (taken-unique d.taken two) e.0 e.1 walk).compared d.together s.live s.runs.values s.runs.start.size s.stand
 
     -- live variables agree
-    agrees : r.agree ≡ true
-    agrees = by (split r.agree)
-      where
-        by : (r.agree ≡ true) ⊎ (r.agree ≡ false) → r.agree ≡ true
-        by (inl e) = e
-        by (inr e) = absurd (compared.differs e (s.runs.demand.traces s.runs.values s.runs.start.size s.runs.input r.done))
+    agrees : r.stop ≡ stop.Apart → ⊥
+    agrees e = compared.differs e (s.runs.demand.traces s.runs.values s.runs.start.size s.runs.input r.done)
 
     lines-told : b ++ take r.bytes q ≡ lines_text s.runs r.done
     lines-told =
@@ -95,11 +91,11 @@ module _ (t m u : List ℕ) (p : Position) (w : List ℕ) {o q : List ℕ} {P Q 
         s.text (put_front c.put (omega (arith, c.put.after, kept-within walk.kept)))
         (lines-append d.P d.Q v i p.done c.n ∙ ap (both_lines d.P d.Q v i 0) (sym c.counted))
 
-    steps-told : r.ended ≡ false
+    steps-told : r.stop ≡ stop.Paused
         → StepsTold t m u (record { stage = Steps; at = r.at; done = r.done; values = vs; others = ws; bytes = p.bytes; live = p.live }) w (b ++ take r.bytes q)
     steps-told e = record { within = s.within; runs = s.runs; done = compared.within s.done; stand = rw e at compared.left; live = s.live; text = lines-told }
 
-    no-lines-left : (r.ended ≡ true) ⊎ (budget ≤ r.done)
+    no-lines-left : (r.stop ≡ stop.Ended) ⊎ (budget ≤ r.done)
         → lines_of s.runs r.done ≡ lines_of s.runs s.runs.budget
     no-lines-left (inl e) =
         let x : BothEnded s.runs.demand.P s.runs.demand.Q s.runs.values s.runs.input r.done r.at vs ws = rw e at compared.left in
@@ -108,16 +104,16 @@ module _ (t m u : List ℕ) (p : Position) (w : List ℕ) {o q : List ℕ} {P Q 
         let e : r.done ≡ s.runs.budget = omega (arith, same-budget, compared.within s.done) in
         ap (lines_of s.runs) e
 
-    all_told : (r.ended ≡ true) ⊎ (budget ≤ r.done) → AllTold t m u (b ++ take r.bytes q)
+    all_told : (r.stop ≡ stop.Ended) ⊎ (budget ≤ r.done) → AllTold t m u (b ++ take r.bytes q)
     all_told h = record { x = take p.bytes w; runs = s.runs; text = rw (← no-lines-left h) lines-told }
 
-    falls : r.ended ≡ false → r.done < budget → line_room ≤ length o → (p.done < r.done) × (r.done ≤ s.runs.budget)
+    falls : r.stop ≡ stop.Paused → r.done < budget → line_room ≤ length o → (p.done < r.done) × (r.done ≤ s.runs.budget)
     falls e l room =
         let c = compared in
         (c.further room agrees (omega (arith, same-budget, c.counted)), c.within s.done)
 
   pub more-steps : {z : Piece} → z ≡ record { bytes = r.bytes; next = record { stage = Steps; at = r.at; done = r.done; values = vs; others = ws; bytes = p.bytes; live = p.live } }
-      → r.ended ≡ false → r.done < budget → line_room ≤ length o → Prints t m u p w w o q z
+      → r.stop ≡ stop.Paused → r.done < budget → line_room ≤ length o → Prints t m u p w w o q z
   more-steps is e l room =
       rw is
       (printed t m u p w w (record { bytes = r.bytes; next = record { stage = Steps; at = r.at; done = r.done; values = vs; others = ws; bytes = p.bytes; live = p.live } })
@@ -126,17 +122,17 @@ module _ (t m u : List ℕ) (p : Position) (w : List ℕ) {o q : List ℕ} {P Q 
       let s : StepsTold t m u p w b = handed-at t m u p w b here h in
       (steps-told s e, rw here (omega (arith, (falls s e l room).0, (falls s e l room).1, s.runs.allowed)))))
 
-  pub last-steps : {z : Piece} → z ≡ record { bytes = r.bytes; next = at_stage Closing } → (r.ended ≡ true) ⊎ (budget ≤ r.done) → Prints t m u p w w o q z
+  pub last-steps : {z : Piece} → z ≡ record { bytes = r.bytes; next = at_stage Closing } → (r.stop ≡ stop.Ended) ⊎ (budget ≤ r.done) → Prints t m u p w w o q z
   last-steps is e =
       rw is
       (printed t m u p w w (record { bytes = r.bytes; next = at_stage Closing }) (take r.bytes q) walk.kept refl (none_kept w) (rw here (omega arith))
       (λ b h. let s : StepsTold t m u p w b = handed-at t m u p w b here h in ((refl, all_told s e), rw here (omega arith))))
 
-  pub never-apart : {z : Piece} → z ≡ record { bytes = r.bytes; next = at_stage Refused } → r.agree ≡ false → Prints t m u p w w o q z
+  pub never-apart : {z : Piece} → z ≡ record { bytes = r.bytes; next = at_stage Refused } → r.stop ≡ stop.Apart → Prints t m u p w w o q z
   never-apart is e =
       rw is
       (printed t m u p w w (record { bytes = r.bytes; next = at_stage Refused }) (take r.bytes q) walk.kept refl (none_kept w) (rw here (omega arith))
-      (λ b h. clash (agrees (handed-at t m u p w b here h)) e))
+      (λ b h. absurd (agrees (handed-at t m u p w b here h) e)))
 
 -- at which positions no lines are told
 module _ (t m u : List ℕ) (p : Position) (w : List ℕ) {o : List ℕ} {z : Piece} (here : p.stage ≡ Steps) (is : z ≡ stays p) where

@@ -1,6 +1,6 @@
 -- What is printed of a program and its rewritten one, for every program text t, marks text m and start text u; and where printing stands
 -- when some of it was handed out.
-use Rattle.std.specs.Prelude.{◌≡◌, ◌⊎◌, List, [], ◌++◌, ℕ, ◌+◌, ◌-◌, ◌≤◌, ◌<◌, length, take, replicate}
+use Rattle.std.specs.Prelude.{◌≡◌, ◌⊎◌, List, [], ◌++◌, ℕ, ◌+◌, ◌-◌, ◌≤◌, ◌<◌, length, take, replicate, Result, Ok, Err}
 use Rattle.language.specs.Spelling.{variables}
 use Rattle.statement_writer.specs.Writing.{Put}
 use Rattle.rewriting.specs.Verdicts.{accepted_count}
@@ -15,8 +15,8 @@ use Rattle.desk.specs.Refusals.{refusal_text}
 use Rattle.refusal_line.specs.Blame.{Blamed}
 use Rattle.start_refusal.specs.StartRefusal.{start_text}
 use Rattle.start.specs.Start.{StartTaken, StartRead}
-use Rattle.start.specs.declared.Answer as start
-use Rattle.start.specs.declared.Answer.TheVariants.{Taken, Few, Many, Line, Unended}
+use Rattle.start.specs.declared.Start.{Start}
+use Rattle.start.specs.declared.Wrong.{Wrong}
 use Rattle.liveness.specs.Liveness.{live_words, LiveRows}
 use Rattle.comparison.specs.Lines.{both_lines}
 use Rattle.comparison.specs.Stepping.{line_room, BothStand}
@@ -69,21 +69,15 @@ pub record CallRefused (t m : List ℕ) (budget : ℕ) (b : List ℕ) : Type 0 w
   pub text : b ≡ refusal_text n line
 
 -- a start that is wrong is refused first, whatever the program and the marks
-abbrev pub Refuses : List ℕ → List ℕ → start.Answer → ℕ → List ℕ → Type 0
-Refuses t m Taken budget b = CallRefused t m budget b
-Refuses t m Few budget b = b ≡ start_text Few
-Refuses t m Many budget b = b ≡ start_text Many
-Refuses t m (Line n) budget b = b ≡ start_text (Line n)
-Refuses t m (Unended n) budget b = b ≡ start_text (Unended n)
+abbrev pub Refuses : List ℕ → List ℕ → Result Start Wrong → List ℕ → Type 0
+Refuses t m (Ok s) b = CallRefused t m s.budget b
+Refuses t m (Err r) b = b ≡ start_text r
 
 -- b is all that is printed where something is refused
 pub record Refusal (t m u b : List ℕ) : Type 0 where
-  pub answer : start.Answer
-  pub input : ℕ
-  pub budget : ℕ
-  pub values : List ℕ
-  pub read : StartRead u answer input budget values
-  pub refuses : Refuses t m answer budget b
+  pub answer : Result Start Wrong
+  pub read : StartRead u answer
+  pub refuses : Refuses t m answer b
 
 -- b is the whole output
 abbrev pub Output : List ℕ → List ℕ → List ℕ → List ℕ → Type 0

@@ -7,16 +7,17 @@ ghost use Rattle.language.specs.Spelling.{variables};
 ghost use Rattle.program.specs.Program.{Taken, WellFormed};
 ghost use Rattle.program.specs.Reading.{statements};
 ghost use Rattle.judge.specs.Judge.{text_bytes};
-ghost use Rattle.start.specs.Start.{StartRead, StartTaken};
+ghost use Rattle.start.specs.Start.{StartTaken, StartWrong};
 ghost use Rattle.side_by_side.specs.SideBySide.{side_by_side_room, at_stage, stays, Prints, Next};
 
+use comparison::Stop;
 use heading::Heading;
-use judge::{JudgeAnswer, TEXT_BYTES};
+use judge::TEXT_BYTES;
 use liveness::LIVE_WORDS;
 use machine::VALUES;
 use program::Program;
 use run::MOST_STEPS;
-use start::Answer;
+use start::Wrong;
 
 // Every piece has room in this many bytes.
 pub const SIDE_BY_SIDE_ROOM: usize = comparison::LINE_ROOM;
@@ -97,15 +98,14 @@ fn told(bytes: usize, stage: Stage) -> Piece
 }
 
 // A start that is wrong is refused, whatever the program and the marks.
-fn refused(a: Answer, from: Position, out: &mut [u8]) -> Piece
+fn refused(wrong: Wrong, from: Position, out: &mut [u8]) -> Piece
     requires side_by_side_room_in_bounds { side_by_side_room ≤ length out.old }
-    requires fact { a ≡ Answer.Taken → ⊥ }
-    ensures { (t m u w : List ℕ) (input budget : ℕ) (values : List ℕ) → StartRead u a input budget values → Prints t m u from w w out.old out.new result }
+    ensures { (t m u w : List ℕ) → StartWrong u wrong → Prints t m u from w w out.old out.new result }
 {
     let stage = from.stage;
     match stage {
         Stage::Begin => {
-            let n = start_refusal::write(out, a);
+            let n = start_refusal::write(out, Some(wrong));
             told(n, Stage::Refused)
         }
         Stage::Steps => stay(from),
@@ -182,11 +182,10 @@ fn step_lines(
         &mut others,
         out,
     );
-    if !r.agree {
-        return told(r.bytes, Stage::Refused);
-    }
-    if r.ended {
-        return told(r.bytes, Stage::Closing);
+    match r.stop {
+        Stop::Apart => return told(r.bytes, Stage::Refused),
+        Stop::Ended => return told(r.bytes, Stage::Closing),
+        Stop::Paused => {}
     }
     if budget <= r.done {
         return told(r.bytes, Stage::Closing);
@@ -222,18 +221,12 @@ fn lines(
     if new.len() < end {
         return stay(from);
     }
-    let one = program::read(program);
-    let first = one.answer;
-    let program::Answer::Taken = first else {
+    let Ok(p) = program::read(program) else {
         return stay(from);
     };
-    let two = program::read(&new[..end]);
-    let second = two.answer;
-    let program::Answer::Taken = second else {
+    let Ok(q) = program::read(&new[..end]) else {
         return stay(from);
     };
-    let p = one.program;
-    let q = two.program;
     if q.count != p.count {
         return stay(from);
     }
@@ -266,9 +259,9 @@ fn closing(
     let mut verdicts = judge::verdict_buffer();
     let answer = judge::judge(program, marks, &mut verdicts, new);
     match answer {
-        JudgeAnswer::Refused(_) => stay(from),
-        JudgeAnswer::Finished(_, _, bytes) => {
-            let end = bytes as usize;
+        Err(_) => stay(from),
+        Ok(judged) => {
+            let end = judged.bytes as usize;
             let n = closing::write(out, program, &new[..end], values, input, budget);
             told(n, Stage::Ended)
         }
@@ -318,10 +311,8 @@ pub fn next(
     if new.len() < TEXT_BYTES {
         return stay(from);
     }
-    let read = start::read(start);
-    let answer = read.answer;
-    match answer {
-        Answer::Taken => {
+    match start::read(start) {
+        Ok(read) => {
             let values = read.values;
             taken(
                 program,
@@ -334,9 +325,6 @@ pub fn next(
                 out,
             )
         }
-        Answer::Few => refused(answer, from, out),
-        Answer::Many => refused(answer, from, out),
-        Answer::Line(_) => refused(answer, from, out),
-        Answer::Unended(_) => refused(answer, from, out),
+        Err(wrong) => refused(wrong, from, out),
     }
 }

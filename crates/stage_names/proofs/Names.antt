@@ -4,14 +4,10 @@ use mathlib.Core.List.{List, ◌++◌}
 use Prim.Native.Nat.{ℕ, ◌+◌, ◌-◌, ◌≤◌, ◌<◌}
 use native.Mathlib.Decide.{dec_lt}
 use native.Mathlib.Omega.{arith}
-use borrow.Author.Count.{below_more}
 use lib.ListN.{length, get_or, take, drop, replicate, length-append, length-drop, get_or-append}
 use lib.Seq.{sets, sets-eq, take_at, ext_get_or, get_or-take, get_or-drop, get_or-append-add, length-take-le}
 use Rattle.bits.proofs.Rows.{zeros}
 use Rattle.stage_names.specs.Names.{name_bytes, Letter, ValidName, filled, Named, Letters}
-
-pub letters-more : (b : List ℕ) (i : ℕ) → Letters b i → Letter (get_or b i 0) → Letters b (i + 1)
-letters-more b i f l = below_more (λ j. Letter (get_or b j 0)) i f l
 
 module _ (b : List ℕ) {i : ℕ} where
   pub all-letters : 1 ≤ length b → length b ≤ name_bytes → Letters b i → i ≡ length b → ValidName b
@@ -24,12 +20,15 @@ module _ (b : List ℕ) {i : ℕ} where
       go (yes l) = absurd (stops l (v.letters i l))
       go (no l) = omega arith
 
--- behind the first n all before i are zero
-abbrev pub ZeroFrom : List ℕ → ℕ → ℕ → Type 0
-ZeroFrom b n i = (j : ℕ) → n ≤ j → j < i → get_or b j 0 ≡ 0
+-- what stands behind the first n
+abbrev Behind : List ℕ → ℕ → List ℕ
+Behind b n = take (length b - n) (drop n b)
 
-pub zero_more : (b : List ℕ) (n i : ℕ) → ZeroFrom b n i → get_or b i 0 ≡ 0 → ZeroFrom b n (i + 1)
-zero_more b n i f e j h l = below_more (λ k. n ≤ k → get_or b k 0 ≡ 0) i (λ k m o. f k o m) (λ _. e) j l h
+pub behind-length : (b : List ℕ) (n : ℕ) → n ≤ length b → length (Behind b n) ≡ length b - n
+behind-length b n h = length-take-le (length b - n) (drop n b) (let e = length-drop n b in omega arith)
+
+pub behind : (b : List ℕ) (n i : ℕ) → i < length b - n → get_or (Behind b n) i 0 ≡ get_or b (n + i) 0
+behind b n i h = get_or-take (length b - n) (drop n b) i 0 h ∙ get_or-drop n b i 0
 
 pub letter-zero : {b : ℕ} → b ≡ 0 → Letter b → ⊥
 letter-zero e l = omega (arith, l.0)
@@ -114,20 +113,3 @@ fill-zeros n h =
     let tail : drop {A = ℕ} (0 + length n) (replicate name_bytes 0) ≡ replicate (name_bytes - length n) 0 =
     ext_get_or 0 _ _ size (λ i l. get_or-drop (0 + length n) (replicate name_bytes 0) i 0 ∙ z.zero (0 + length n + i) ∙ sym (y.zero i)) in
     sets-eq n (replicate name_bytes 0) 0 (let s = z.size in omega arith) ∙ ap (λ (x : List ℕ). n ++ x) tail
-
--- ---- the key at the front, byte by byte
-
-module _ (s key : List ℕ) where
-  abbrev pub SameTo : ℕ → Type 0
-  SameTo i = (j : ℕ) → j < i → get_or s j 0 ≡ get_or key j 0
-
-  pub same_more : (i : ℕ) → SameTo i → get_or s i 0 ≡ get_or key i 0 → SameTo (i + 1)
-  same_more i f e = below_more (λ j. get_or s j 0 ≡ get_or key j 0) i f e
-
-  pub same-all : name_bytes ≤ length s → length key ≡ name_bytes → (i : ℕ) → name_bytes ≤ i → SameTo i → take name_bytes s ≡ key
-  same-all fits size i h f =
-      let l = length-take-le name_bytes s fits in
-      ext_get_or 0 (take name_bytes s) key (l ∙ sym size) (λ j k. get_or-take name_bytes s j 0 (omega arith) ∙ f j (omega arith))
-
-  pub same_not : (i : ℕ) → i < name_bytes → (get_or s i 0 ≡ get_or key i 0 → ⊥) → take name_bytes s ≡ key → ⊥
-  same_not i h d e = d (sym (get_or-take name_bytes s i 0 h) ∙ ap (λ (x : List ℕ). get_or x i 0) e)

@@ -1,7 +1,7 @@
 // Names of stages: whether bytes are one, and a name filled up with zero bytes.
 #![tactic(auto)]
 
-ghost use Rattle.std.specs.Prelude.{◌≡◌, ◌≤◌, ◌<◌, length, get_or, take, replicate};
+ghost use Rattle.std.specs.Prelude.{◌≡◌, ℕ, ◌≤◌, ◌<◌, length, get_or, take, replicate};
 ghost use Rattle.base.specs.Decides.{Decides};
 ghost use Rattle.stage_names.specs.Names.{name_bytes, filled, Letter, Letters, Named, ValidName};
 
@@ -15,18 +15,9 @@ pub const NAME_NUMBER: u8 = 23;
 fn letters(s: &[u8]) -> usize
     ensures { (result ≤ length s.now) × Letters s.now result × (result < length s.now → Letter (get_or s.now result 0) → ⊥) }
 {
-    let mut i: usize = 0;
-    while i < s.len() {
-        let b = s[i];
-        if b < b'a' {
-            return i;
-        }
-        if b'z' < b {
-            return i;
-        }
-        i += 1;
-    }
-    i
+    s.iter()
+        .position(|b| !b.is_ascii_lowercase())
+        .unwrap_or(s.len())
 }
 
 // Whether the bytes are a name.
@@ -43,6 +34,13 @@ pub fn valid(s: &[u8]) -> bool
     letters(s) == n
 }
 
+// Whether all bytes are zero.
+fn zeros(s: &[u8]) -> bool
+    ensures { Decides result ((i : ℕ) → i < length s.now → get_or s.now i 0 ≡ 0) }
+{
+    s.iter().all(|b| *b == 0)
+}
+
 // Whether the eight bytes are a name, filled up with zero bytes.
 pub fn named(s: &[u8]) -> bool
     requires { length s.now ≡ name_bytes }
@@ -52,14 +50,7 @@ pub fn named(s: &[u8]) -> bool
     if n == 0 {
         return false;
     }
-    let mut i = n;
-    while i < s.len() {
-        if s[i] != 0 {
-            return false;
-        }
-        i += 1;
-    }
-    true
+    zeros(&s[n..])
 }
 
 // An array to be filled.
@@ -84,12 +75,5 @@ pub fn begins(s: &[u8], key: &[u8]) -> bool
     requires { (name_bytes ≤ length s.now) × (length key.now ≡ name_bytes) }
     ensures { Decides result (take name_bytes s.now ≡ key.now) }
 {
-    let mut i: usize = 0;
-    while i < NAME_BYTES {
-        if s[i] != key[i] {
-            return false;
-        }
-        i += 1;
-    }
-    true
+    s.starts_with(key)
 }

@@ -1,23 +1,17 @@
 -- What the code finds place by place. Assumes nothing.
 use mathlib.Core.Path.{◌≡◌, sym, ap, ◌∙◌}
-use mathlib.Core.Logic.{inr}
 use mathlib.Core.List.{List}
-use Prim.Native.Nat.{ℕ, ◌+◌, ◌-◌, ◌≤◌, ◌<◌}
+use Prim.Native.Nat.{ℕ, ◌+◌, ◌-◌, ◌<◌}
 use native.Mathlib.Omega.{arith}
 use borrow.Author.Count.{below_more}
 use lib.ListN.{take, drop}
-use Rattle.program.specs.Reading.{statements, ProgramRead}
-use Rattle.program.specs.declared.Program.{Program}
+use Rattle.program.specs.Reading.{Refused}
 use Rattle.program.specs.declared.Refusal.{Refusal}
-use Rattle.program.specs.declared.Answer.{Answer}
-use Rattle.program.specs.declared.Answer.TheVariants as answer
 use Rattle.program.proofs.Unique.{taken_refused}
 use Rattle.stage_names.specs.Names.{name_bytes, ValidName, filled, Named}
 use Rattle.stage_names.proofs.Names.{filled-unique}
-use Rattle.stages.specs.Stages.{places, head_bytes, most_text, place, length_in, text_in, Stands, Empty}
-use Rattle.stages.specs.Choice.{HasName, Unknown, Occupied, FindsEmpty, Chooses}
-use Rattle.stages.specs.declared.Place.{Place}
-use Rattle.stages.specs.declared.Place.TheVariants.{At, Nowhere}
+use Rattle.stages.specs.Stages.{places, head_bytes, place, length_in, text_in, Stands, Empty}
+use Rattle.stages.specs.Choice.{Unknown, Occupied}
 use Rattle.stages.specs.Looking.{TextTaken, Repeated, StandsNowhere}
 use Rattle.stages.proofs.Places.{stands_of, stands-taken}
 
@@ -31,21 +25,14 @@ module _ (b : List ℕ) (n : ℕ) (is : n ≡ length_in b) where
   pub part-text : Part ≡ text_in b
   part-text = let e : head_bytes + n - head_bytes ≡ length_in b = omega arith in ap (λ (i : ℕ). take i (drop head_bytes b)) e
 
-  module _ (a : Answer) (p : Program) (read : ProgramRead Part a p) where
-    pub text-read : n ≤ most_text → a ≡ answer.Taken → TextTaken b
-    text-read short e = (omega arith, statements p, rw part-text at (rw e at read).0)
-
-    pub text-refused : (r : Refusal) → a ≡ answer.Refused r → TextTaken b → ⊥
-    text-refused r e (short, P, taken) = taken_refused (text_in b) taken r (rw part-text at (rw e at read).0)
+  pub text-refused : (r : Refusal) → Refused Part r → TextTaken b → ⊥
+  text-refused r f (short, P, taken) = taken_refused (text_in b) taken r (rw part-text at f)
 
 -- ---- the place of a name
 
 module _ (mem n key : List ℕ) (v : ValidName n) (is : key ≡ filled n) (k : ℕ) where
   abbrev Here : Type 0
   Here = (take name_bytes (place mem k) ≡ key) × TextTaken (place mem k)
-
-  pub name-found : k < places → StandsNowhere mem n k → Here → HasName mem n k
-  name-found inside before (e, taken) = (text_in (place mem k), record { inside = inside; stands = stands_of v (e ∙ is) taken; first = before })
 
   pub name-not : StandsNowhere mem n k → (Here → ⊥) → StandsNowhere mem n (k + 1)
   name-not before f = below_more (λ j. (t : List ℕ) → Stands (place mem j) n t → ⊥) k before (λ t s. f (s.named ∙ sym is, stands-taken s))
@@ -59,9 +46,6 @@ module _ (mem n key : List ℕ) (v : ValidName n) (is : key ≡ filled n) (k : �
 -- ---- whether a place holds a stage, where all before it do
 
 module _ (mem : List ℕ) (k : ℕ) where
-  pub unnamed : (Named (take name_bytes (place mem k)) → ⊥) → Occupied mem k → ⊥
-  unnamed f (n, (t, h)) = f (n, h.stands.valid, h.stands.named)
-
   pub occupied-taken : Occupied mem k → TextTaken (place mem k)
   occupied-taken (n, (t, h)) = stands-taken h.stands
 
@@ -77,24 +61,5 @@ module _ (mem : List ℕ) (k : ℕ) where
   occupies inside (n, v, e) f taken =
       (n, (text_in (place mem k), record { inside = inside; stands = stands_of v e taken; first = λ j l u s. f (j, l, s.named ∙ sym e) }))
 
-  pub empty-not : (Occupied mem k → ⊥) → Empty mem k
-  empty-not f n t h = f (n, (t, h))
-
   pub full-more : ((j : ℕ) → j < k → Occupied mem j) → Occupied mem k → (j : ℕ) → j < k + 1 → Occupied mem j
   full-more f o = below_more (Occupied mem) k f o
-
-  -- no earlier place has the bytes of k's name
-  abbrev pub NoneTo : ℕ → Type 0
-  NoneTo i = (j : ℕ) → j < i → take name_bytes (place mem j) ≡ take name_bytes (place mem k) → ⊥
-
-  pub none_more : (i : ℕ) → NoneTo i → (take name_bytes (place mem i) ≡ take name_bytes (place mem k) → ⊥) → NoneTo (i + 1)
-  none_more i f g = below_more (λ j. take name_bytes (place mem j) ≡ take name_bytes (place mem k) → ⊥) i f g
-
-  pub none-repeated : NoneTo k → Repeated mem k → ⊥
-  none-repeated f (j, l, e) = f j l e
-
--- ---- the place of a stage that is kept under a new name
-
-pub chosen-empty : (mem n : List ℕ) (r : Place) → Unknown mem n → FindsEmpty mem r → Chooses mem n r
-chosen-empty mem n (At k) f e = inr (f, e)
-chosen-empty mem n Nowhere f e = (f, e)

@@ -1,8 +1,6 @@
 -- Which place a name has, and which one a stage that is kept under it takes.
-use Rattle.std.specs.Prelude.{◌⊎◌, List, ℕ, ◌<◌}
+use Rattle.std.specs.Prelude.{◌⊎◌, List, ℕ, ◌<◌, Option, Some, None}
 use Rattle.stages.specs.Stages.{places, Holds, Empty}
-use Rattle.stages.specs.declared.Place.{Place}
-use Rattle.stages.specs.declared.Place.TheVariants.{At, Nowhere}
 
 -- place k holds the name
 abbrev pub HasName : List ℕ → List ℕ → ℕ → Type 0
@@ -30,14 +28,14 @@ abbrev pub Full : List ℕ → List ℕ → Type 0
 Full mem n = Unknown mem n × ((k : ℕ) → k < places → Occupied mem k)
 
 -- what is told of a name, of the first empty place, and of both
-abbrev pub Finds : List ℕ → List ℕ → Place → Type 0
-Finds mem n (At k) = HasName mem n k
-Finds mem n Nowhere = Unknown mem n
+abbrev pub Finds : List ℕ → List ℕ → Option ℕ → Type 0
+Finds mem n (Some k) = HasName mem n k
+Finds mem n None = Unknown mem n
 
-abbrev pub FindsEmpty : List ℕ → Place → Type 0
-FindsEmpty mem (At k) = FirstEmpty mem k
-FindsEmpty mem Nowhere = (k : ℕ) → k < places → Occupied mem k
+abbrev pub FindsEmpty : List ℕ → Option ℕ → Type 0
+FindsEmpty mem (Some k) = FirstEmpty mem k
+FindsEmpty mem None = (k : ℕ) → k < places → Occupied mem k
 
-abbrev pub Chooses : List ℕ → List ℕ → Place → Type 0
-Chooses mem n (At k) = Chosen mem n k
-Chooses mem n Nowhere = Full mem n
+abbrev pub Chooses : List ℕ → List ℕ → Option ℕ → Type 0
+Chooses mem n (Some k) = Chosen mem n k
+Chooses mem n None = Full mem n

@@ -24,13 +24,6 @@ pub const HEAD_BYTES: usize = NAME_BYTES + LENGTH_BYTES;
 
 pub const MOST_TEXT: usize = PLACE_ROOM - HEAD_BYTES;
 
-// A place, from 0 on.
-#[derive(Clone, Copy)]
-pub enum Place {
-    At(usize),
-    Nowhere,
-}
-
 // The bytes of place k.
 pub fn part(stages: &[u8], k: usize) -> &[u8]
     requires { (stage_bytes ≤ length stages.now) × (k < places) }
@@ -49,20 +42,12 @@ fn name_of(bytes: &[u8]) -> &[u8]
     &bytes[0..NAME_BYTES]
 }
 
-fn wide(b: u8) -> usize
-    ensures { (result ≡ b) × (result < 256) }
-{
-    b as usize
-}
-
 // The length that a place tells.
 pub fn length_of(bytes: &[u8]) -> usize
     requires { length bytes.now ≡ place_room }
     ensures { result ≡ length_in bytes.now }
 {
-    let low = wide(bytes[NAME_BYTES]);
-    let high = wide(bytes[NAME_BYTES + 1]);
-    low + 256 * high
+    u16::from_le_bytes([bytes[NAME_BYTES], bytes[NAME_BYTES + 1]]) as usize
 }
 
 // Whether a place's text lies within it and is taken.
@@ -75,11 +60,9 @@ fn text_taken(bytes: &[u8]) -> bool
         return false;
     }
     let end = HEAD_BYTES + n;
-    let reading = program::read(&bytes[HEAD_BYTES..end]);
-    let answer = reading.answer;
-    match answer {
-        program::Answer::Taken => true,
-        program::Answer::Refused(_) => false,
+    match program::read(&bytes[HEAD_BYTES..end]) {
+        Ok(_) => true,
+        Err(_) => false,
     }
 }
 
@@ -94,20 +77,18 @@ fn stands(bytes: &[u8], key: &[u8]) -> bool
     text_taken(bytes)
 }
 
-// The place that holds the name.
-pub fn find(stages: &[u8], name: &[u8]) -> Place
+// The place, from 0 on, that holds the name.
+pub fn find(stages: &[u8], name: &[u8]) -> Option<usize>
     requires { (stage_bytes ≤ length stages.now) × ValidName name.now }
     ensures { Finds stages.now name.now result }
 {
     let key = stage_names::fill(name);
-    let mut k: usize = 0;
-    while k < PLACES {
+    for k in 0..PLACES {
         if stands(part(stages, k), &key) {
-            return Place::At(k);
+            return Some(k);
         }
-        k += 1;
     }
-    Place::Nowhere
+    None
 }
 
 // Whether a place before k has the bytes of k's name.
@@ -116,12 +97,10 @@ fn repeated(stages: &[u8], k: usize) -> bool
     ensures { Decides result (Repeated stages.now k) }
 {
     let name = name_of(part(stages, k));
-    let mut j: usize = 0;
-    while j < k {
+    for j in 0..k {
         if stage_names::begins(part(stages, j), name) {
             return true;
         }
-        j += 1;
     }
     false
 }
@@ -143,32 +122,26 @@ fn occupied(stages: &[u8], k: usize) -> bool
 }
 
 // The first empty place, where no stage has the name. A place with that name is empty, and its text isn't read again.
-fn first_empty(stages: &[u8], name: &[u8]) -> Place
+fn first_empty(stages: &[u8], name: &[u8]) -> Option<usize>
     requires { (stage_bytes ≤ length stages.now) × ValidName name.now × Unknown stages.now name.now }
     ensures { FindsEmpty stages.now result }
 {
     let key = stage_names::fill(name);
-    let mut k: usize = 0;
-    while k < PLACES {
+    for k in 0..PLACES {
         if stage_names::begins(part(stages, k), &key) {
-            return Place::At(k);
+            return Some(k);
         }
         if !occupied(stages, k) {
-            return Place::At(k);
+            return Some(k);
         }
-        k += 1;
     }
-    Place::Nowhere
+    None
 }
 
 // The place of a stage that is kept under the name: the one that holds the name, or else the first empty one.
-pub fn choose(stages: &[u8], name: &[u8]) -> Place
+pub fn choose(stages: &[u8], name: &[u8]) -> Option<usize>
     requires { (stage_bytes ≤ length stages.now) × ValidName name.now }
     ensures { Chooses stages.now name.now result }
 {
-    let known = find(stages, name);
-    match known {
-        Place::At(k) => Place::At(k),
-        Place::Nowhere => first_empty(stages, name),
-    }
+    find(stages, name).or_else(|| first_empty(stages, name))
 }

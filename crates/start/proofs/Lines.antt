@@ -105,9 +105,8 @@ module _ {t ns : List ℕ} {at k n : ℕ} (i : SoFar t ns at k n) where
   pub bounds : (n ≤ k) × (k ≤ most)
   bounds = let r = reached-right 0 i.ls i.begins.right (omega arith) in (omega (arith, i.counted, i.next, r.0), omega (arith, i.next, r.1))
 
-  pub too_many : {X : Type 0} → n ≡ most → at < length t → X
-      → (ls : List Entry) × (rest : List ℕ) × Begins t ls rest × (length ls ≡ most) × (0 < length rest) × X
-  too_many e h z = (i.ls, drop at t, i.begins, omega (arith, i.counted), rw (length-drop at t) (omega arith), z)
+  pub too_many : n ≡ most → at < length t → (ls : List Entry) × (rest : List ℕ) × Begins t ls rest × (length ls ≡ most) × (0 < length rest)
+  too_many e h = (i.ls, drop at t, i.begins, omega (arith, i.counted), rw (length-drop at t) (omega arith))
 
   pub wrong_line : (n ≡ most → ⊥) → at < length t → NoRight k (drop at t) → WrongLine t (n + 1)
   wrong_line m h w =
@@ -174,8 +173,8 @@ module _ {t ns : List ℕ} {at k n : ℕ} (i : SoFar t ns at k n) where
     all_read : Begins t i.ls []
     all_read = rw (drop_of_length-le t h) at i.begins
 
-    pub too_few : {X : Type 0} → n < fewest → X → (ls : List Entry) × Begins t ls [] × (length ls < fewest) × X
-    too_few f z = (i.ls, all_read, omega (arith, i.counted), z)
+    pub too_few : n < fewest → (ls : List Entry) × Begins t ls [] × (length ls < fewest)
+    too_few f = (i.ls, all_read, omega (arith, i.counted))
 
     pub taken : (vs : List ℕ) → fewest ≤ n → (length vs ≡ variables) × ((x : ℕ) → x < variables → get_or vs x 0 ≡ get_or ns (2 + x) 0) → StartTaken t (get_or ns 0 0) (get_or ns 1 0) vs
     taken vs f v =
@@ -188,21 +187,3 @@ module _ {t ns : List ℕ} {at k n : ℕ} (i : SoFar t ns at k n) where
           size = v.0;
           others = λ x l. v.1 x l ∙ ap (λ (l : List ℕ). get_or l (2 + x) 0) i.kept;
         }
-
--- the numbers from the third on are copied, up to value x
-pub record Copied (ns vs : List ℕ) (x : ℕ) : Type 0 where
-  pub size : length vs ≡ variables
-  pub within : x ≤ variables
-  pub same : (j : ℕ) → j < x → get_or vs j 0 ≡ get_or ns (2 + j) 0
-
-pub copied_more : {ns vs : List ℕ} {x : ℕ} → Copied ns vs x → x < variables → Copied ns (set vs x (get_or ns (2 + x) 0)) (x + 1)
-copied_more {ns = ns} {vs = vs} {x = x} i h =
-    let v = get_or ns (2 + x) 0 in
-    record {
-      size = length-set vs x v ∙ i.size;
-      within = omega arith;
-      same =
-          below_more _ x
-          (λ j l. get_or-set_other vs x j v 0 (λ e. omega arith) ∙ i.same j l)
-          (get_or-set_same vs x v 0 (omega (arith, i.size)));
-    }

@@ -1,5 +1,6 @@
 -- Of one text two answers are the same, and so are the starts that were read. Assumes nothing.
-use mathlib.Core.Path.{◌≡◌, refl, ap, sym, ◌∙◌}
+use Rattle.std.specs.Prelude.{Option, None, Some, Result, Ok, Err}
+use mathlib.Core.Path.{◌≡◌, refl, ap, ap₂, sym, ◌∙◌}
 use mathlib.Core.List.{List, [], ◌∷◌, ◌++◌, append_assoc, append-nil}
 use mathlib.Core.Bool.{Bool, true, false}
 use Prim.Native.Nat.{ℕ, suc, ◌+◌, ◌≤◌, ◌<◌}
@@ -12,12 +13,13 @@ use Rattle.lines.specs.Lines.{NoLine}
 use Rattle.lines.proofs.Texts.{no-line-empty}
 use Rattle.base.specs.Pick.{pick}
 use Rattle.tokens.specs.Parsing.{Parsed, found, misspelled, after, where?, either, digit_of, parse_word, parse_number, parse_constant, parse_variable}
-use Rattle.start.specs.Start.{fewest, most, place, spell_line, RightLine, start_lines, AllRight, reached, numbers_of, Begins, StartTaken, NoRight, Nothing, StartRead}
+use Rattle.start.specs.Start.{fewest, most, place, spell_line, RightLine, start_lines, AllRight, reached, numbers_of, Begins, StartTaken, NoRight, StartWrong, StartRead}
 use Rattle.start.specs.Parsing.{parse_number_of, parse_plain, parse_named, parse_field}
 use Rattle.start.specs.declared.Entry.{Entry}
 use Rattle.start.specs.declared.Entry.TheVariants.{Plain}
-use Rattle.start.specs.declared.Answer.{Answer}
-use Rattle.start.specs.declared.Answer.TheVariants.{Taken, Few, Many, Line, Unended}
+use Rattle.start.specs.declared.Start.{Start}
+use Rattle.start.specs.declared.Wrong.{Wrong}
+use Rattle.start.specs.declared.Wrong.TheVariants.{Few, Many, Line, Unended}
 use Rattle.start.proofs.Values.{field-sound, field-complete}
 use Rattle.start.proofs.Lines.{place-right, reached-right}
 
@@ -48,27 +50,24 @@ lines-unique k (v ∷ ls) (w ∷ ms) rest other a b s t e =
     let q = lines-unique (suc (place k v)) ls ms rest other a.1 (rw n at b.1) s (rw n at t) (rw n at u.1) in
     (rw (u.0, q.0), q.1)
 
--- the answer follows from the number of right lines and what is left
-abbrev choose : Bool → Answer → Answer → Answer
-choose true a b = a
-choose false a b = b
-
 -- a line is all that is left
 abbrev is_last : Parsed Entry → Bool
 is_last (found e []) = true
 is_last (found e (c ∷ l)) = false
 is_last misspelled = false
 
-answer_for : ℕ → ℕ → List ℕ → Answer
-answer_for n k rest =
-    choose (eqb (length rest) 0) (choose (ltb n fewest) Few Taken) (choose (eqb n most) Many (choose (is_last (parse_field k rest)) (Unended (n + 1)) (Line (n + 1))))
+-- what is wrong follows from the number of right lines and what is left
+wrong_for : ℕ → ℕ → List ℕ → Option Wrong
+wrong_for n k rest =
+    pick (eqb (length rest) 0) (pick (ltb n fewest) (Some Few) None)
+    (pick (eqb n most) (Some Many) (pick (is_last (parse_field k rest)) (Some (Unended (n + 1))) (Some (Line (n + 1)))))
 
-record Settled (t : List ℕ) (a : Answer) : Type 0 where
+record Settled (t : List ℕ) (a : Option Wrong) : Type 0 where
   ls : List Entry
   rest : List ℕ
   begins : Begins t ls rest
   stuck : Stuck (reached 0 ls) rest
-  is : a ≡ answer_for (length ls) (reached 0 ls) rest
+  is : a ≡ wrong_for (length ls) (reached 0 ls) rest
 
 -- after the last byte no line follows
 ended : (k : ℕ) → Stuck k []
@@ -120,13 +119,16 @@ not_last k rest w = go (parse_field k rest) refl
     go (found e (c ∷ l)) is = refl
     go misspelled is = refl
 
-settled : {t : List ℕ} (a : Answer) (input budget : ℕ) (vs : List ℕ) → StartRead t a input budget vs → Settled t a
-unfolding answer_for
-settled Taken input budget vs h =
+settled-taken : {t : List ℕ} {input budget : ℕ} {vs : List ℕ} → StartTaken t input budget vs → Settled t None
+unfolding wrong_for
+settled-taken h =
     record { ls = h.ls; rest = []; begins = h.begins; stuck = ended (reached 0 h.ls); is = rw (le-ltb (length h.ls) fewest h.counted) }
-settled Few input budget vs h =
+
+settled-wrong : {t : List ℕ} (r : Wrong) → StartWrong t r → Settled t (Some r)
+unfolding wrong_for
+settled-wrong Few h =
     record { ls = h.0; rest = []; begins = h.1; stuck = ended (reached 0 h.0); is = rw (lt-ltb (length h.0) fewest h.2) }
-settled Many input budget vs h =
+settled-wrong Many h =
     record {
       ls = h.0;
       rest = h.1;
@@ -134,67 +136,73 @@ settled Many input budget vs h =
       stuck = full (reached 0 h.0) h.1 (omega (arith, h.3, (reached-right 0 h.0 h.2.right (omega arith)).0));
       is = rw (ne_eqb (length h.1) 0 (λ e. omega (arith, e, h.4)), eq-eqb (length h.0) most h.3);
     }
-settled (Line n) input budget vs h =
+settled-wrong (Line n) h =
     record {
-      ls = h.0.ls;
-      rest = h.0.rest;
-      begins = h.0.begins;
-      stuck = h.0.wrong.no_line;
+      ls = h.ls;
+      rest = h.rest;
+      begins = h.begins;
+      stuck = h.wrong.no_line;
       is =
           rw (
-            ne_eqb (length h.0.rest) 0 (λ e. omega (arith, e, h.0.some)),
-            ne_eqb (length h.0.ls) most (λ e. omega (arith, e, h.0.counted, h.0.within)),
-            not_last (reached 0 h.0.ls) h.0.rest h.0.wrong,
+            ne_eqb (length h.rest) 0 (λ e. omega (arith, e, h.some)),
+            ne_eqb (length h.ls) most (λ e. omega (arith, e, h.counted, h.within)),
+            not_last (reached 0 h.ls) h.rest h.wrong,
           )
-          (ap Line h.0.counted);
+          (ap (λ (m : ℕ). Some (Line m)) h.counted);
     }
-settled (Unended n) input budget vs h =
-    let k = reached 0 h.0.ls in
-    let p = place-right k h.0.last h.0.right in
+settled-wrong (Unended n) h =
+    let k = reached 0 h.ls in
+    let p = place-right k h.last h.right in
     record {
-      ls = h.0.ls;
-      rest = spell_line k h.0.last;
-      begins = h.0.begins;
-      stuck = last-stuck k h.0.last h.0.right;
+      ls = h.ls;
+      rest = spell_line k h.last;
+      begins = h.begins;
+      stuck = last-stuck k h.last h.right;
       is =
           rw (
-            ne_eqb (length (spell_line k h.0.last)) 0 (last_some k h.0.last h.0.right),
-            ne_eqb (length h.0.ls) most (λ e. omega (arith, e, (reached-right 0 h.0.ls h.0.begins.right (omega arith)).0, p.0, p.1)),
-            last-parsed k h.0.last h.0.right,
+            ne_eqb (length (spell_line k h.last)) 0 (last_some k h.last h.right),
+            ne_eqb (length h.ls) most (λ e. omega (arith, e, (reached-right 0 h.ls h.begins.right (omega arith)).0, p.0, p.1)),
+            last-parsed k h.last h.right,
           )
-          (ap Unended h.0.counted);
+          (ap (λ (m : ℕ). Some (Unended m)) h.counted);
     }
 
-settled-unique : {t : List ℕ} {a b : Answer} (x : Settled t a) (y : Settled t b) → (x.ls ≡ y.ls) × (x.rest ≡ y.rest)
+settled-unique : {t : List ℕ} {a b : Option Wrong} (x : Settled t a) (y : Settled t b) → (x.ls ≡ y.ls) × (x.rest ≡ y.rest)
 settled-unique x y =
     lines-unique 0 x.ls y.ls x.rest y.rest x.begins.right y.begins.right x.stuck y.stuck (sym x.begins.lines ∙ y.begins.lines)
 
--- a text gets one answer only
-pub answer-unique : (t : List ℕ) (a b : Answer) (i j m n : ℕ) (vs ws : List ℕ) → StartRead t a i m vs → StartRead t b j n ws → a ≡ b
-answer-unique t a b i j m n vs ws h l =
-    let x = settled a i m vs h in
-    let y = settled b j n ws l in
-    let u = settled-unique x y in
-    x.is ∙ rw (u.0, u.1) (sym y.is)
+settled-same : {t : List ℕ} {a b : Option Wrong} → Settled t a → Settled t b → a ≡ b
+settled-same x y = let u = settled-unique x y in x.is ∙ rw (u.0, u.1) (sym y.is)
 
--- and is one start only
+-- one thing only is wrong with a text
+pub wrong-unique : (t : List ℕ) (r s : Wrong) → StartWrong t r → StartWrong t s → r ≡ s
+wrong-unique t r s h l = let e : Some r ≡ Some s = settled-same (settled-wrong r h) (settled-wrong s l) in cc
+
+-- and nothing where it is a start
+pub taken_wrong : {t : List ℕ} {i m : ℕ} {vs : List ℕ} → StartTaken t i m vs → (r : Wrong) → StartWrong t r → ⊥
+taken_wrong h r l =
+    let e : None ≡ Some r = settled-same (settled-taken h) (settled-wrong r l) in
+    let z : ◌≡◌ {A = ℕ} 0 1 = cc in
+    omega arith
+
+-- it is one start only
 pub start-unique : {t : List ℕ} {i j m n : ℕ} {vs ws : List ℕ} → StartTaken t i m vs → StartTaken t j n ws → (i ≡ j) × (m ≡ n) × (vs ≡ ws)
-unfolding settled
-start-unique {i = i} {j = j} {m = m} {n = n} {vs = vs} {ws = ws} h l =
-    let e : h.ls ≡ l.ls = (settled-unique (settled Taken i m vs h) (settled Taken j n ws l)).0 in (
+unfolding settled-taken
+start-unique {vs = vs} {ws = ws} h l =
+    let e : h.ls ≡ l.ls = (settled-unique (settled-taken h) (settled-taken l)).0 in (
       h.first ∙ ap (λ (ls : List Entry). get_or (numbers_of ls) 0 0) e ∙ sym l.first,
       h.second ∙ ap (λ (ls : List Entry). get_or (numbers_of ls) 1 0) e ∙ sym l.second,
       ext_get_or 0 vs ws (h.size ∙ sym l.size)
           (λ x k. h.others x (omega (arith, h.size)) ∙ ap (λ (ls : List Entry). get_or (numbers_of ls) (2 + x) 0) e ∙ sym (l.others x (omega (arith, h.size)))),
     )
 
-nothing-unique : {i j m n : ℕ} {vs ws : List ℕ} → Nothing i m vs → Nothing j n ws → (i ≡ j) × (m ≡ n) × (vs ≡ ws)
-nothing-unique h l = (h.no_input ∙ sym l.no_input, h.no_budget ∙ sym l.no_budget, h.no_values ∙ sym l.no_values)
-
--- whatever the answer, one start only stands beside it
-pub beside-unique : (t : List ℕ) (a : Answer) (i j m n : ℕ) (vs ws : List ℕ) → StartRead t a i m vs → StartRead t a j n ws → (i ≡ j) × (m ≡ n) × (vs ≡ ws)
-beside-unique t Taken i j m n vs ws h l = start-unique h l
-beside-unique t Few i j m n vs ws h l = nothing-unique h.3 l.3
-beside-unique t Many i j m n vs ws h l = nothing-unique h.5 l.5
-beside-unique t (Line k) i j m n vs ws h l = nothing-unique h.1 l.1
-beside-unique t (Unended k) i j m n vs ws h l = nothing-unique h.1 l.1
+-- a text gets one answer only
+pub answer-unique : (t : List ℕ) (a b : Result Start Wrong) → StartRead t a → StartRead t b → a ≡ b
+answer-unique t (Ok a) (Ok b) h l =
+    let e = start-unique h l in
+    ap (λ (s : Start). Ok s)
+    (ap (λ (n : ℕ). record { input = n; budget = a.budget; values = a.values }) e.0
+    ∙ ap₂ (λ (n : ℕ) (vs : List ℕ). record { input = b.input; budget = n; values = vs }) e.1 e.2)
+answer-unique t (Ok a) (Err r) h l = absurd (taken_wrong h r l)
+answer-unique t (Err r) (Ok b) h l = absurd (taken_wrong l r h)
+answer-unique t (Err r) (Err s) h l = ap (λ (w : Wrong). Err w) (wrong-unique t r s h l)

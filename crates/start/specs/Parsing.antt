@@ -1,13 +1,11 @@
 -- What each reader of a start finds at the front of a text: a proof device. proofs/Values.antt holds it to the spelling, both ways round.
-use Rattle.std.specs.Prelude.{List, ℕ, ◌+◌, eqb, leb, ltb, drop}
+use Rattle.std.specs.Prelude.{List, ℕ, ◌+◌, eqb, leb, ltb}
 use Rattle.base.specs.Bytes.{bytes}
 use Rattle.base.specs.Pick.{pick}
 use Rattle.tokens.specs.Parsing.{Parsed, found, misspelled, after, where?, either, parse_word, parse_number, parse_constant, parse_variable}
 use Rattle.start.specs.Start.{fewest, most}
 use Rattle.start.specs.declared.Entry.{Entry}
 use Rattle.start.specs.declared.Entry.TheVariants.{Plain, Named}
-use Rattle.start.specs.declared.EntryRead.{EntryRead}
-use Rattle.start.specs.declared.EntryRead.TheVariants.{Found, Misspelled}
 
 -- number k by itself
 unfoldable pub parse_number_of : ℕ → List ℕ → Parsed ℕ
@@ -29,11 +27,3 @@ parse_named k l =
 -- a line without its byte 10
 unfoldable pub parse_field : ℕ → List ℕ → Parsed Entry
 parse_field k l = either (parse_plain k l) (parse_named k l)
-
-abbrev pub parsed_entry : List ℕ → EntryRead → Parsed Entry
-parsed_entry s (Found e k) = found e (drop k s)
-parsed_entry s Misspelled = misspelled
-
-abbrev pub entry_end : EntryRead → ℕ
-entry_end (Found e k) = k
-entry_end Misspelled = 0

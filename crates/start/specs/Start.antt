@@ -1,13 +1,14 @@
 -- What a start is: the input, the budget and up to 64 starting values, one a line, each ended by byte 10. A value may name its variable.
-use Rattle.std.specs.Prelude.{◌≡◌, List, [], ◌∷◌, ◌++◌, ℕ, suc, ◌+◌, ◌^◌, ◌≤◌, ◌<◌, eqb, length, get_or, set, replicate}
+use Rattle.std.specs.Prelude.{◌≡◌, List, [], ◌∷◌, ◌++◌, ℕ, suc, ◌+◌, ◌^◌, ◌≤◌, ◌<◌, eqb, length, get_or, set, replicate, Result, Ok, Err}
 use Rattle.base.specs.Bytes.{bytes}
 use Rattle.lines.specs.Lines.{NoLine}
 use Rattle.language.specs.Spelling.{variables, digits, spell_constant, ValidConstant, spell_variable, ValidVariable}
 use Rattle.base.specs.Pick.{pick}
 use Rattle.start.specs.declared.Entry.{Entry}
 use Rattle.start.specs.declared.Entry.TheVariants.{Plain, Named}
-use Rattle.start.specs.declared.Answer.{Answer}
-use Rattle.start.specs.declared.Answer.TheVariants.{Taken, Few, Many, Line, Unended}
+use Rattle.start.specs.declared.Start.{Start}
+use Rattle.start.specs.declared.Wrong.{Wrong}
+use Rattle.start.specs.declared.Wrong.TheVariants.{Few, Many, Line, Unended}
 
 abbrev pub fewest : ℕ
 fewest = 2
@@ -95,17 +96,14 @@ pub record UnendedLine (t : List ℕ) (n : ℕ) : Type 0 where
   pub counted : n ≡ length ls + 1
   pub right : RightLine (reached 0 ls) last
 
--- the start beside a refusal: all is 0
-pub record Nothing (input budget : ℕ) (values : List ℕ) : Type 0 where
-  pub no_input : input ≡ 0
-  pub no_budget : budget ≡ 0
-  pub no_values : values ≡ replicate variables 0
+-- what is wrong with the text
+abbrev pub StartWrong : List ℕ → Wrong → Type 0
+StartWrong t Few = (ls : List Entry) × Begins t ls [] × (length ls < fewest)
+StartWrong t Many = (ls : List Entry) × (rest : List ℕ) × Begins t ls rest × (length ls ≡ most) × (0 < length rest)
+StartWrong t (Line n) = WrongLine t n
+StartWrong t (Unended n) = UnendedLine t n
 
--- each answer, and what it says of the text and of the start beside it
-abbrev pub StartRead : List ℕ → Answer → ℕ → ℕ → List ℕ → Type 0
-StartRead t Taken input budget values = StartTaken t input budget values
-StartRead t Few input budget values = (ls : List Entry) × Begins t ls [] × (length ls < fewest) × Nothing input budget values
-StartRead t Many input budget values =
-    (ls : List Entry) × (rest : List ℕ) × Begins t ls rest × (length ls ≡ most) × (0 < length rest) × Nothing input budget values
-StartRead t (Line n) input budget values = WrongLine t n × Nothing input budget values
-StartRead t (Unended n) input budget values = UnendedLine t n × Nothing input budget values
+-- each answer, and what it says of the text
+abbrev pub StartRead : List ℕ → Result Start Wrong → Type 0
+StartRead t (Ok s) = StartTaken t s.input s.budget s.values
+StartRead t (Err r) = StartWrong t r

@@ -3,23 +3,21 @@
 
 ghost use Rattle.std.specs.Prelude.{◌≡◌, ℕ, ◌≤◌, ◌<◌, ◌+◌, length, get_or, drop, replicate};
 ghost use Rattle.language.specs.Spelling.{variables};
-ghost use Rattle.tokens.specs.Parsing.{parsed_number, number_end};
-ghost use Rattle.start.specs.Start.{StartRead, Nothing, place as place_of, value as value_of, most};
-ghost use Rattle.start.specs.Parsing.{parse_number_of, parse_named, parse_field, parsed_entry, entry_end};
+ghost use Rattle.tokens.specs.Parsing.{parsed, parsed_end};
+ghost use Rattle.start.specs.Start.{StartRead, place as place_of, value as value_of, most};
+ghost use Rattle.start.specs.Parsing.{parse_number_of, parse_named, parse_field};
 
 use machine::VALUES;
-use tokens::{NumberRead, VariableRead, WordRead};
 
 // A start has at least the input and the budget, and at most a value for each variable behind them.
 pub const FEWEST: usize = 2;
 
 pub const MOST: usize = 2 + VALUES;
 
-// Few: under FEWEST lines. Many: more text after MOST right lines. Line: the number of the first line that is wrong. Unended: that of the
-// last line, which is right but for its byte 10.
+// What is wrong with a text. Few: under FEWEST lines. Many: more text after MOST right lines. Line: the number of the first line that is wrong.
+// Unended: that of the last line, which is right but for its byte 10.
 #[derive(Clone, Copy)]
-pub enum Answer {
-    Taken,
+pub enum Wrong {
     Few,
     Many,
     Line(u32),
@@ -34,24 +32,17 @@ pub enum Entry {
 }
 
 #[derive(Clone, Copy)]
-pub enum EntryRead {
-    Found(Entry, usize),
-    Misspelled,
-}
-
-// The input, the budget and the values are what was read where the answer is `Taken`.
-#[derive(Clone, Copy)]
 pub struct Start {
-    pub answer: Answer,
     pub input: u32,
     pub budget: u32,
     pub values: [u32; VALUES],
 }
 
 // Number k by itself.
-fn number(s: &[u8], at: usize, k: usize) -> NumberRead
-    ensures result_value { parsed_number s.now result ≡ parse_number_of k (drop at s.now) }
-    ensures result_in_bounds { number_end result ≤ length s.now }
+#[tactic(auto, unfolding(crate::specs::Parsing::parse_number_of))]
+fn number(s: &[u8], at: usize, k: usize) -> Option<(u32, usize)>
+    ensures result_value { parsed s.now result ≡ parse_number_of k (drop at s.now) }
+    ensures result_in_bounds { parsed_end result ≤ length s.now }
 {
     if k == 1 {
         return tokens::number(s, at);
@@ -60,40 +51,36 @@ fn number(s: &[u8], at: usize, k: usize) -> NumberRead
 }
 
 // `i13 = 40`, for a variable that has no value yet where number k is next.
-fn named(s: &[u8], at: usize, k: usize) -> EntryRead
-    ensures result_value { parsed_entry s.now result ≡ parse_named k (drop at s.now) }
-    ensures result_in_bounds { entry_end result ≤ length s.now }
+#[tactic(auto, unfolding(crate::specs::Parsing::parse_named))]
+fn named(s: &[u8], at: usize, k: usize) -> Option<(Entry, usize)>
+    ensures result_value { parsed s.now result ≡ parse_named k (drop at s.now) }
+    ensures result_in_bounds { parsed_end result ≤ length s.now }
 {
     if k < FEWEST {
-        return EntryRead::Misspelled;
+        return None;
     }
-    let VariableRead::Found(x, to) = tokens::variable(s, at) else {
-        return EntryRead::Misspelled;
-    };
+    let (x, at) = tokens::variable(s, at)?;
     if 2 + (x as usize) < k {
-        return EntryRead::Misspelled;
+        return None;
     }
-    let WordRead::Found(from) = tokens::word(s, to, b" = ") else {
-        return EntryRead::Misspelled;
-    };
-    let NumberRead::Found(v, end) = tokens::constant(s, from) else {
-        return EntryRead::Misspelled;
-    };
-    EntryRead::Found(Entry::Named(x, v), end)
+    let at = tokens::word(s, at, b" = ")?;
+    let (v, at) = tokens::constant(s, at)?;
+    Some((Entry::Named(x, v), at))
 }
 
 // What a line has where number k is next, without its byte 10.
-fn field(s: &[u8], at: usize, k: usize) -> EntryRead
-    ensures result_value { parsed_entry s.now result ≡ parse_field k (drop at s.now) }
-    ensures result_in_bounds { entry_end result ≤ length s.now }
+#[tactic(auto, unfolding(crate::specs::Parsing::parse_field, crate::specs::Parsing::parse_plain))]
+fn field(s: &[u8], at: usize, k: usize) -> Option<(Entry, usize)>
+    ensures result_value { parsed s.now result ≡ parse_field k (drop at s.now) }
+    ensures result_in_bounds { parsed_end result ≤ length s.now }
 {
     if MOST <= k {
         return named(s, at, k);
     }
-    let NumberRead::Found(v, end) = number(s, at, k) else {
+    let Some((v, end)) = number(s, at, k) else {
         return named(s, at, k);
     };
-    EntryRead::Found(Entry::Plain(v), end)
+    Some((Entry::Plain(v), end))
 }
 
 // Which number it is, where number k is next.
@@ -133,46 +120,31 @@ fn values_of(numbers: [u32; MOST]) -> [u32; VALUES]
     ensures { (length result ≡ variables) × ((x : ℕ) → x < variables → get_or result x 0 ≡ get_or numbers (2 + x) 0) }
 {
     let mut values = no_values();
-    let mut x: usize = 0;
-    while x < VALUES {
-        values[x] = numbers[2 + x];
-        x += 1;
-    }
+    values.copy_from_slice(&numbers[FEWEST..]);
     values
 }
 
-fn refused(a: Answer) -> Start
-    ensures answer_value { result.answer ≡ a }
-    ensures nothing { Nothing result.input result.budget result.values }
-{
-    Start {
-        answer: a,
-        input: 0,
-        budget: 0,
-        values: no_values(),
-    }
-}
-
 // The start whose lines the text is, or what is wrong with it. Number k is next after n lines.
-pub fn read(s: &[u8]) -> Start
-    ensures { StartRead s.now result.answer result.input result.budget result.values }
+pub fn read(s: &[u8]) -> Result<Start, Wrong>
+    ensures { StartRead s.now result }
 {
     let mut numbers = no_numbers();
     let mut at: usize = 0;
     let mut k: usize = 0;
     let mut n: usize = 0;
+    // A `while`: each line tells where the next one begins, so no slice or range has the lines that a `for` would go over.
     while at < s.len() {
         if n == MOST {
-            return refused(Answer::Many);
+            return Err(Wrong::Many);
         }
-        let EntryRead::Found(e, end) = field(s, at, k) else {
-            return refused(Answer::Line((n + 1) as u32));
+        let Some((e, end)) = field(s, at, k) else {
+            return Err(Wrong::Line((n + 1) as u32));
         };
-        let WordRead::Found(next) = tokens::word(s, end, b"\n") else {
+        let Some(next) = tokens::word(s, end, b"\n") else {
             if end == s.len() {
-                return refused(Answer::Unended((n + 1) as u32));
+                return Err(Wrong::Unended((n + 1) as u32));
             }
-            return refused(Answer::Line((n + 1) as u32));
+            return Err(Wrong::Line((n + 1) as u32));
         };
         let p = place(k, e);
         numbers[p] = value(e);
@@ -181,12 +153,11 @@ pub fn read(s: &[u8]) -> Start
         at = next;
     }
     if n < FEWEST {
-        return refused(Answer::Few);
+        return Err(Wrong::Few);
     }
-    Start {
-        answer: Answer::Taken,
+    Ok(Start {
         input: numbers[0],
         budget: numbers[1],
         values: values_of(numbers),
-    }
+    })
 }

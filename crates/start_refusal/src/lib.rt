@@ -3,9 +3,9 @@
 
 ghost use Rattle.std.specs.Prelude.{◌≤◌, ◌+◌, length};
 ghost use Rattle.statement_writer.specs.Writing.{Put};
-ghost use Rattle.start_refusal.specs.StartRefusal.{or_named, line_range, start_words, start_text, named_room, range_room, words_room, start_room};
+ghost use Rattle.start_refusal.specs.StartRefusal.{or_named, line_range, start_words, refusal_text, named_room, range_room, words_room, start_room};
 
-use start::Answer;
+use start::Wrong;
 
 // From line 3 on it may have a variable.
 fn or_named(out: &mut [u8], at: usize, n: u32) -> usize
@@ -35,20 +35,19 @@ fn line_range(out: &mut [u8], at: usize, n: u32) -> usize
 }
 
 // What is wrong with a start. The figures in the words are `start::FEWEST` and `start::MOST`, as text.
-fn words(out: &mut [u8], at: usize, a: Answer) -> usize
+fn words(out: &mut [u8], at: usize, wrong: Wrong) -> usize
     requires { at + words_room ≤ length out.old }
-    ensures { Put out.old at (start_words a) out.new result × (result ≤ at + words_room) }
+    ensures { Put out.old at (start_words wrong) out.new result × (result ≤ at + words_room) }
 {
-    match a {
-        Answer::Taken => at,
-        Answer::Few => statement_writer::word(out, at, b"under 2 lines"),
-        Answer::Many => statement_writer::word(out, at, b"over 66 lines"),
-        Answer::Line(n) => {
+    match wrong {
+        Wrong::Few => statement_writer::word(out, at, b"under 2 lines"),
+        Wrong::Many => statement_writer::word(out, at, b"over 66 lines"),
+        Wrong::Line(n) => {
             let k1 = statement_writer::word(out, at, b"line ");
             let k2 = statement_writer::number(out, k1, n);
             line_range(out, k2, n)
         }
-        Answer::Unended(n) => {
+        Wrong::Unended(n) => {
             let k1 = statement_writer::word(out, at, b"line ");
             let k2 = statement_writer::number(out, k1, n);
             statement_writer::word(out, k2, b" lacks its line end, byte 10")
@@ -56,12 +55,17 @@ fn words(out: &mut [u8], at: usize, a: Answer) -> usize
     }
 }
 
-// Puts the refusal at the front of the lent bytes, and answers its length.
-pub fn write(out: &mut [u8], a: Answer) -> usize
+// Puts the refusal at the front of the lent bytes, and answers its length. Of a start that isn't wrong nothing is said in its line.
+pub fn write(out: &mut [u8], wrong: Option<Wrong>) -> usize
     requires { start_room ≤ length out.old }
-    ensures { Put out.old 0 (start_text a) out.new result × (result ≤ start_room) }
+    ensures { Put out.old 0 (refusal_text wrong) out.new result × (result ≤ start_room) }
 {
     let k1 = statement_writer::word(out, 0, b"refused start\nthe start: ");
-    let k2 = words(out, k1, a);
-    statement_writer::byte(out, k2, 10)
+    match wrong {
+        Some(wrong) => {
+            let k2 = words(out, k1, wrong);
+            statement_writer::byte(out, k2, 10)
+        }
+        None => statement_writer::byte(out, k1, 10),
+    }
 }

@@ -1,12 +1,10 @@
 -- Reading undoes spelling, and the other way round: statements and lines.
 use mathlib.Core.Path.{◌≡◌, refl, ap, sym, ◌∙◌}
 use mathlib.Core.List.{List, [], ◌∷◌, ◌++◌, append_assoc}
-use mathlib.Core.Bool.{Bool, true, false}
-use mathlib.Core.Logic.{⊎_elim}
-use Prim.Native.Nat.{ℕ, zero, suc, ◌+◌, ◌-◌, ◌*◌, ◌/◌, ◌%◌, ◌≤◌, ◌<◌}
+use Prim.Native.Nat.{ℕ, ◌+◌, ◌≤◌, ◌<◌}
 use native.Mathlib.Omega.{arith}
-use lib.Dec.{ltb, eqb}
-use borrow.Author.Tests.{lt-ltb, ltb-true, eqb-true, ne_eqb}
+use lib.Dec.{eqb}
+use borrow.Author.Tests.{eqb-true, ne_eqb}
 use Rattle.language.specs.declared.Operand.{Operand}
 use Rattle.language.specs.declared.Operand.TheVariants.{Variable, Constant}
 use Rattle.language.specs.declared.Operator.{Operator}
@@ -15,14 +13,12 @@ use Rattle.language.specs.declared.Expression.{Expression}
 use Rattle.language.specs.declared.Expression.TheVariants.{Single, Binary}
 use Rattle.language.specs.declared.Statement.{Statement}
 use Rattle.language.specs.declared.Statement.TheVariants.{Read, Write, Assign, Branch, Skip}
-use Rattle.language.specs.Spelling.{largest, digits, spell_variable, spell_operand, spell_operator, spell_expression, spell, ValidOperand, ValidExpression, Valid, read_word, write_word, becomes_word, if_word, goto_word, else_word, skip_word}
-use Rattle.tokens.specs.Parsing.{Parsed, found, misspelled, after, after_or, where?, either, parse_word, digit_of, parse_number, parse_constant, parse_variable}
-use Rattle.base.specs.Pick.{pick}
-use Rattle.statement_reader.specs.Parsing.{parse_operand, parse_operator, parse_expression, parse_read, parse_write, parse_skip, parse_assign, parse_branch, parse_assign_or_branch, by_first, parse_statement, parse_line, parsed_statement, statement_end}
+use Rattle.language.specs.Spelling.{digits, spell_variable, spell_operand, spell_operator, spell_expression, spell, ValidOperand, ValidExpression, Valid, read_word, write_word, becomes_word, if_word, goto_word, else_word, skip_word}
+use Rattle.tokens.specs.Parsing.{Parsed, found, misspelled, parsed, parsed_end, after, where?, either, parse_word, digit_of, parse_number, parse_constant, parse_variable}
+use Rattle.statement_reader.specs.Parsing.{parse_operand, parse_operator, parse_expression, parse_read, parse_write, parse_skip, parse_assign, parse_branch, parse_assign_or_branch, by_first, parse_statement, parse_line}
 use lib.ListN.{length, get_or, drop}
+use Rattle.std.specs.Prelude.{Option, Some, None}
 use Rattle.statement_reader.specs.Reading.{LineRead}
-use Rattle.statement_reader.specs.declared.StatementRead.{StatementRead}
-use Rattle.statement_reader.specs.declared.StatementRead.TheVariants as statement
 use Rattle.tokens.proofs.Numbers.{NoDigit, number-sound, number-complete, variable-sound, variable-complete}
 use Rattle.tokens.proofs.Constants.{constant-sound, constant-complete}
 use Rattle.tokens.proofs.Steps.{at-end, at_byte}
@@ -236,9 +232,9 @@ line-sound l s u h =
     rw (← p, ← q) (i.0 ∙ rw (skip-sound (10 ∷ []) t e₂), i.1)
 
 -- the answer of `line` means what it should
-pub line-right : (s : List ℕ) (at : ℕ) (r : StatementRead) → statement_end r ≤ length s → parsed_statement s r ≡ parse_line (drop at s) → LineRead s at r
-line-right s at (statement.Found e k) w h = let l = line-sound (drop at s) e (drop k s) (sym h) in record { stands = l.0; within = w; valid = l.1 }
-line-right s at statement.Misspelled w h = λ e rest v t. let z : ◌≡◌ {A = ℕ} 0 1 = cc (line-complete e rest v) in omega arith
+pub line-right : (s : List ℕ) (at : ℕ) (r : Option (Statement × ℕ)) → parsed_end r ≤ length s → parsed s r ≡ parse_line (drop at s) → LineRead s at r
+line-right s at (Some r) w h = let l = line-sound (drop at s) r.0 (drop r.1 s) (sym h) in record { stands = l.0; within = w; valid = l.1 }
+line-right s at None w h = λ e rest v t. let z : ◌≡◌ {A = ℕ} 0 1 = cc (line-complete e rest v) in omega arith
 
 -- the reader goes by the first byte
 pub statement-first : (s : List ℕ) (k : ℕ) → k < length s → parse_statement (drop k s) ≡ by_first (get_or s k 0) (drop k s)
@@ -263,3 +259,12 @@ module _ (s : List ℕ) (k : ℕ) where
     pub operand-constant : (get_or s k 0 ≡ 105 → ⊥) → parse_operand (drop k s) ≡ after (parse_constant (drop k s)) λ n t. found (Constant n) t
     unfolding parse_operand parse_variable parse_word
     operand-constant d = rw (at_byte s k h, ne_eqb _ 105 d) (either-none (after (parse_constant (get_or s k 0 ∷ drop (k + 1) s)) λ n t. found (Constant n) t))
+
+-- a byte that begins no operator, and one that begins no statement
+pub operator-other : (c : ℕ) (l : List ℕ) → (c ≡ 43 → ⊥) → (c ≡ 45 → ⊥) → (c ≡ 42 → ⊥) → (c ≡ 60 → ⊥) → (c ≡ 61 → ⊥) → (c ≡ 47 → ⊥) → misspelled ≡ parse_operator (c ∷ l)
+unfolding parse_operator
+operator-other c l a b d e f g = rw (ne_eqb c 43 a, ne_eqb c 45 b, ne_eqb c 42 d, ne_eqb c 60 e, ne_eqb c 61 f, ne_eqb c 47 g)
+
+pub first-other : (c : ℕ) (l : List ℕ) → (c ≡ 114 → ⊥) → (c ≡ 119 → ⊥) → (c ≡ 115 → ⊥) → (c ≡ 105 → ⊥) → misspelled ≡ by_first c l
+unfolding by_first
+first-other c l a b d e = rw (ne_eqb c 114 a, ne_eqb c 119 b, ne_eqb c 115 d, ne_eqb c 105 e)

@@ -1,6 +1,6 @@
 -- A proof device: what each reader of statements finds at the front of a text. It promises nothing by itself: proofs/Lines.antt holds it to the
 -- spelling, both ways round.
-use Rattle.std.specs.Prelude.{ℕ, List, [], ◌∷◌, eqb, drop}
+use Rattle.std.specs.Prelude.{ℕ, List, [], ◌∷◌, eqb}
 use Rattle.base.specs.Bytes.{byte, bytes}
 use Rattle.base.specs.Pick.{pick}
 use Rattle.language.specs.Spelling.{read_word, write_word, becomes_word, if_word, goto_word, else_word, skip_word}
@@ -13,29 +13,12 @@ use Rattle.language.specs.declared.Expression.TheVariants.{Single, Binary}
 use Rattle.language.specs.declared.Statement.{Statement}
 use Rattle.language.specs.declared.Statement.TheVariants.{Read, Write, Assign, Branch, Skip}
 use Rattle.tokens.specs.Parsing.{Parsed, found, misspelled, after, after_or, where?, either, parse_word, parse_constant, parse_statement_number, parse_variable}
-use Rattle.statement_reader.specs.declared.OperandRead.{OperandRead}
-use Rattle.statement_reader.specs.declared.OperandRead.TheVariants as operand
-use Rattle.statement_reader.specs.declared.OperatorRead.{OperatorRead}
-use Rattle.statement_reader.specs.declared.OperatorRead.TheVariants as operator
-use Rattle.statement_reader.specs.declared.ExpressionRead.{ExpressionRead}
-use Rattle.statement_reader.specs.declared.ExpressionRead.TheVariants as expression
-use Rattle.statement_reader.specs.declared.StatementRead.{StatementRead}
-use Rattle.statement_reader.specs.declared.StatementRead.TheVariants as statement
 
--- in each `parsed..`: what the reader's answer says of the text; in each `..End`: the position after what was found
 unfoldable pub parse_operand : List ℕ → Parsed Operand
 parse_operand l =
     either
     (after (parse_constant l) λ n t. found (Constant n) t)
     (after (parse_variable l) λ x t. found (Variable x) t)
-
-abbrev pub parsed_operand : List ℕ → OperandRead → Parsed Operand
-parsed_operand s (operand.Found a k) = found a (drop k s)
-parsed_operand s operand.Misspelled = misspelled
-
-abbrev pub operand_end : OperandRead → ℕ
-operand_end (operand.Found a k) = k
-operand_end operand.Misspelled = 0
 
 unfoldable pub parse_operator : List ℕ → Parsed Operator
 parse_operator [] = misspelled
@@ -47,14 +30,6 @@ parse_operator (c ∷ l) =
     (either (where? (eqb c (byte "=")) (found Equal l))
     (where? (eqb c (byte "/")) (found Divide l))))))
 
-abbrev pub parsed_operator : List ℕ → OperatorRead → Parsed Operator
-parsed_operator s (operator.Found o k) = found o (drop k s)
-parsed_operator s operator.Misspelled = misspelled
-
-abbrev pub operator_end : OperatorRead → ℕ
-operator_end (operator.Found a k) = k
-operator_end operator.Misspelled = 0
-
 unfoldable pub parse_expression : List ℕ → Parsed Expression
 parse_expression l =
     after (parse_operand l) λ a t.
@@ -65,22 +40,6 @@ parse_expression l =
     after (parse_operand w) λ b x.
     found (Binary a o b) x)
     (found (Single a) t)
-
-abbrev pub parsed_expression : List ℕ → ExpressionRead → Parsed Expression
-parsed_expression s (expression.Found e k) = found e (drop k s)
-parsed_expression s expression.Misspelled = misspelled
-
-abbrev pub expression_end : ExpressionRead → ℕ
-expression_end (expression.Found a k) = k
-expression_end expression.Misspelled = 0
-
-abbrev pub parsed_statement : List ℕ → StatementRead → Parsed Statement
-parsed_statement s (statement.Found e k) = found e (drop k s)
-parsed_statement s statement.Misspelled = misspelled
-
-abbrev pub statement_end : StatementRead → ℕ
-statement_end (statement.Found a k) = k
-statement_end statement.Misspelled = 0
 
 unfoldable pub parse_read : List ℕ → Parsed Statement
 parse_read l = after (parse_word read_word l) λ _ t. after (parse_variable t) λ x u. found (Read x) u

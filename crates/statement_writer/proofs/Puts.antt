@@ -1,19 +1,13 @@
 -- Writing one text after another.
 use mathlib.Core.Path.{◌≡◌, refl, ap, sym, ◌∙◌}
-use mathlib.Core.List.{List, [], ◌∷◌, ◌++◌, append-nil, append_assoc}
-use Prim.Native.Nat.{ℕ, zero, suc, ◌+◌, ◌≤◌, ◌<◌}
+use mathlib.Core.List.{List, [], ◌∷◌, ◌++◌}
+use Prim.Native.Nat.{ℕ, suc, ◌+◌, ◌≤◌, ◌<◌}
 use native.Mathlib.Omega.{arith}
-use native.Mathlib.Nat.{add-suc, suc-add}
 use native.Mathlib.Numerals.{add-one}
 use lib.ListN.{length, set, take, drop, get_or, length-append}
-use lib.Seq.{sets, sets-eq, length-sets, take-suc, take-append_seam, length-take-le}
-use Rattle.language.specs.declared.Operand.{Operand}
-use Rattle.language.specs.declared.Operator.{Operator}
-use Rattle.language.specs.declared.Expression.{Expression}
-use Rattle.language.specs.declared.Expression.TheVariants.{Single, Binary}
-use Rattle.language.specs.declared.Statement.{Statement}
-use Rattle.language.specs.declared.Statement.TheVariants.{Read, Write, Assign, Branch, Skip}
-use Rattle.language.specs.Spelling.{digits, spell_variable, spell_operand, spell_expression, spell}
+use borrow.Rule.Slice.PartMut.{put_mid}
+use Rattle.std.proofs.lemmas.Slice.{put_mid-paste}
+use lib.Seq.{sets, sets-eq, length-sets, take-suc, take_all, take-append_seam, length-take-le}
 use Rattle.statement_writer.specs.Writing.{Put}
 
 pub sets-append : (u v o : List ℕ) (i : ℕ) → sets (sets o i u) (i + length u) v ≡ sets o i (u ++ v)
@@ -50,6 +44,10 @@ put_front {o = o} {w = w} {q = q} {k = k} p h =
 
 pub put-within : {o w q : List ℕ} {k : ℕ} → Put o 0 w q k → length w ≤ length o → k ≤ length q
 put-within p h = omega (arith, p.after, put-length p)
+
+-- a part that becomes a copy of a text
+pub put_part : (o w ys : List ℕ) (at k : ℕ) → ys ≡ w → k ≡ length w → at + length w ≤ length o → put_mid at k o ys ≡ sets o at w
+put_part o w ys at k e f h = put_mid-paste at k o ys w (length w) e (sym f) refl ∙ rw (sets-eq w o at h, take_all (length w) w (omega arith))
 
 -- one byte more of a word
 pub sets_more : (w o : List ℕ) (at i : ℕ) → i < length w → set (sets o at (take i w)) (at + i) (get_or w i 0) ≡ sets o at (take (i + 1) w)

@@ -1,11 +1,11 @@
-// Writers: each puts a text at a position of lent bytes, and answers the position after it.
+// Writers: each puts a text at a position of lent bytes, and answers the position after it. No `Display`: room is asked for, so that no write fails.
 #![tactic(auto)]
 
 ghost use Rattle.std.specs.Prelude.{[], ◌∷◌, ◌++◌, ◌≡◌, length, ◌≤◌, ◌+◌};
-ghost use Rattle.language.specs.Spelling.{digits, spell_constant, spell_statement_number, spell_variable, spell_operand, spell_operator, spell_expression, spell};
+ghost use Rattle.language.specs.Spelling.{digits, spell_constant, spell_variable, spell_operand, spell_operator, spell_expression, spell};
 ghost use Rattle.statement_writer.specs.Writing.{Put};
 
-use language::{Expression, LARGEST, Operand, Operator, Statement};
+use language::{Expression, Operand, Operator, Statement};
 
 pub fn byte(out: &mut [u8], at: usize, b: u8) -> usize
     requires { at + 1 ≤ length out.old }
@@ -19,12 +19,9 @@ pub fn word(out: &mut [u8], at: usize, w: &[u8]) -> usize
     requires { at + length w.now ≤ length out.old }
     ensures { Put out.old at w.now out.new result }
 {
-    let mut i: usize = 0;
-    while i < w.len() {
-        out[at + i] = w[i];
-        i += 1;
-    }
-    at + i
+    let next = at + w.len();
+    out[at..next].copy_from_slice(w);
+    next
 }
 
 // In decimal, without leading zeros.
@@ -40,23 +37,14 @@ pub fn number(out: &mut [u8], at: usize, n: u32) -> usize
     }
 }
 
-// The number that the 32 bits stand for. One below zero is written from its bits: the least has no counterpart above.
+// The number that the 32 bits stand for.
 pub fn constant(out: &mut [u8], at: usize, n: u32) -> usize
     requires { at + length (spell_constant n) ≤ length out.old }
     ensures { Put out.old at (spell_constant n) out.new result }
 {
-    if LARGEST < n as u64 {
-        let k = byte(out, at, b'-');
-        return number(out, k, 4294967295 - n + 1);
-    }
-    number(out, at, n)
-}
-
-fn statement_number(out: &mut [u8], at: usize, n: u32) -> usize
-    requires { at + length (spell_statement_number n) ≤ length out.old }
-    ensures { Put out.old at (spell_statement_number n) out.new result }
-{
-    number(out, at, n)
+    let v = n.cast_signed();
+    let k = if v < 0 { byte(out, at, b'-') } else { at };
+    number(out, k, v.unsigned_abs())
 }
 
 pub fn variable(out: &mut [u8], at: usize, x: u8) -> usize
@@ -77,6 +65,7 @@ pub fn operand(out: &mut [u8], at: usize, a: Operand) -> usize
     }
 }
 
+// No `From`, which would have to stand in `language`, where no functions are.
 fn operator_byte(o: Operator) -> u8
     ensures { result ≡ spell_operator o }
 {
@@ -128,9 +117,9 @@ pub fn statement(out: &mut [u8], at: usize, s: Statement) -> usize
             let k1 = word(out, at, b"if ");
             let k2 = variable(out, k1, x);
             let k3 = word(out, k2, b" goto ");
-            let k4 = statement_number(out, k3, n);
+            let k4 = number(out, k3, n);
             let k5 = word(out, k4, b" else ");
-            statement_number(out, k5, m)
+            number(out, k5, m)
         }
         Statement::Skip => word(out, at, b"skip"),
     }

@@ -2,9 +2,8 @@
 use mathlib.Core.Path.{◌≡◌}
 use mathlib.Core.List.{List}
 use Prim.Native.Nat.{ℕ, ◌+◌, ◌*◌, ◌≤◌}
-use native.Mathlib.Omega.{arith}
 use lib.ListN.{length}
-use Rattle.tokens.specs.Parsing.{Parsed, found, misspelled}
+use Rattle.tokens.specs.Parsing.{Parsed, found}
 use Rattle.bits.specs.Row.{member}
 use Rattle.bits.proofs.Tables.{replaced, replaced-row, replaced-kept}
 use Rattle.labelling.specs.Labels.{Labelled}
@@ -13,9 +12,6 @@ use Rattle.table.specs.Table.{Written}
 -- a text is read in one way
 pub found-same : {A : Type 0} {p : Parsed A} {a b : A} {t u : List ℕ} → p ≡ found a t → p ≡ found b u → a ≡ b
 found-same e f = cc
-
-pub found-not : {A : Type 0} {p : Parsed A} {a : A} {t : List ℕ} → p ≡ misspelled → p ≡ found a t → ⊥
-found-not e f = let z : ◌≡◌ {A = ℕ} 0 1 = cc in omega arith
 
 -- the row that was lent became ys
 pub part-written : (w : ℕ) (t : List ℕ) (k : ℕ) (fits : w * k + w ≤ length t) (ys : List ℕ) (n : ℕ) (X : ℕ → Type 0) → length ys ≡ w → Labelled n (member ys) X

@@ -1,34 +1,14 @@
 -- The counts of a row, and that a set has one count and one first place only. Assumes nothing.
 use mathlib.Core.Path.{◌≡◌, refl, sym, ap, ◌∙◌}
 use mathlib.Core.Bool.{Bool, true, false}
-use mathlib.Core.List.{List}
 use mathlib.Core.Logic.{◌⊎◌, inl, inr}
-use Prim.Native.Nat.{ℕ, ◌+◌, ◌*◌, ◌≤◌, ◌<◌}
+use Prim.Native.Nat.{ℕ, ◌+◌, ◌<◌}
 use native.Mathlib.Omega.{arith}
 use lib.Dec.{ltb}
-use lib.ListN.{length}
 use borrow.Author.Tests.{ltb-true, ltb-false}
-use Rattle.bits.specs.Row.{member, count_below, First}
 use Rattle.bits.proofs.Counts.{count-ext}
 use Rattle.base.proofs.Bools.{clash}
 use Rattle.table.specs.Summary.{Counts}
-
-module _ (w : ℕ) (ws row : List ℕ) (is : ws ≡ row) (size : length row ≡ w) (satisfied place : ℕ)
-    (counted : satisfied ≡ count_below (member ws) (length ws * 64)) (first : First (member ws) (length ws * 64) place) where
-  wide : length ws * 64 ≡ w * 64
-  wide = ap (λ (n : ℕ). n * 64) (ap length is ∙ size)
-
-  count-row : satisfied ≡ count_below (member row) (w * 64)
-  count-row = rw (wide, is) at counted
-
-  first-row : First (member row) (w * 64) place
-  first-row = rw (wide, is) at first
-
-  pub counts-found : place < w * 64 → Counts (member row) (w * 64) satisfied (place + 1)
-  counts-found l = record { counted = count-row; earliest = inr (place, refl, l, first-row.found l, first-row.before) }
-
-  pub counts-none : w * 64 ≤ place → Counts (member row) (w * 64) satisfied 0
-  counts-none l = record { counted = count-row; earliest = inl (refl, λ s h. first-row.before s (omega arith)) }
 
 -- the counts of the same set
 module _ (f g : ℕ → Bool) (n : ℕ) (same : (j : ℕ) → f j ≡ g j) where

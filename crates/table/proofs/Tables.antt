@@ -1,18 +1,16 @@
 -- The table, part after part. Assumes nothing.
 use mathlib.Core.Path.{◌≡◌, sym, ◌∙◌, subst}
 use mathlib.Core.List.{List}
-use Prim.Native.Nat.{ℕ, ◌+◌, ◌-◌, ◌*◌, ◌≤◌, ◌<◌}
+use Prim.Native.Nat.{ℕ, ◌+◌, ◌*◌, ◌≤◌, ◌<◌}
 use native.Mathlib.Omega.{arith}
 use borrow.Author.Count.{below_more}
-use lib.ListN.{length, get_or, drop}
-use lib.Seq.{ext_get_or, get_or-take, get_or-drop}
+use lib.ListN.{length, get_or}
 use Rattle.language.specs.declared.Statement.{Statement}
 use Rattle.bits.specs.Row.{member, Kept}
 use Rattle.bits.proofs.Tables.{row_kept}
 use Rattle.labelling.specs.Labels.{Labelled}
 use Rattle.condition.specs.Condition.{Condition, atom, unary, binary, spell_condition, parts}
 use Rattle.condition.specs.Words.{code_in, left_in}
-use Rattle.condition.specs.Texts.{most_parts}
 use Rattle.truth.specs.Truth.{SatBy}
 use Rattle.condition.proofs.Words.{operator_code, Stands, stands_from, Operands, held-describes}
 use Rattle.atom_reader.proofs.Spelling.{atom-complete}
@@ -71,7 +69,3 @@ module _ {n : ℕ} {rows : List ℕ} {codes : List (List ℕ)} {flow t : List �
       let counted = h.held.counted in
       let b = i.within in
       record { same = i.same; rows = λ j d. i.filled P c x h j (omega arith); past = λ j d. i.past j (omega arith) }
-
--- there are at most as many parts as words
-pub parts_held : {t : List ℕ} {m : ℕ} {ws : List ℕ} → SomeHeld t m ws → m ≤ most_parts
-parts_held h = let a = h.held.held.counted in let b = h.held.taken.few in omega arith

@@ -20,7 +20,6 @@ ghost use Rattle.labelling.specs.Labels.{Labelled, Rows};
 ghost use Rattle.truth.specs.Truth.{HoldsBy, SatBy};
 ghost use Rattle.table.specs.Rules.{Operation, code_of, rule_of, SatRule, flow_steps, BothWays};
 
-use atom_reader::AtomRead;
 use codes::CODE_WORDS;
 use condition::{FIELD, LEFT, MOST_PARTS, START};
 use labelling::Operator;
@@ -137,12 +136,9 @@ pub fn row_of(table: &[u64], k: usize) -> [u64; WORDS]
     ensures { result ≡ row table.now k }
 {
     let at = WORDS * k;
+    let end = at + WORDS;
     let mut words = atoms::blank_row();
-    let mut i: usize = 0;
-    while i < WORDS {
-        words[i] = table[at + i];
-        i += 1;
-    }
+    words.copy_from_slice(&table[at..end]);
     words
 }
 
@@ -183,7 +179,7 @@ pub fn fill_atom(
     requires part_words_in_bounds { part_words * k + part_words ≤ length table.old }
     ensures { (P : List StatementOf) (a : AtomOf) (rest : List ℕ) → length P ≡ n → FactsIn P (length P) rows.now codes.now → parse_atom (drop start text.now) ≡ found a rest → Written part_words table.old table.new k n (HoldsBy (used_in rows.now) P a) }
 {
-    let AtomRead::Found(a, _) = atom_reader::atom(text, start) else {
+    let Some((a, _)) = atom_reader::atom(text, start) else {
         return;
     };
     let at = WORDS * k;
@@ -244,11 +240,8 @@ pub fn fill(
     requires parts_in_bounds { part_words * parts ≤ length table.old }
     ensures { (P : List StatementOf) (c : Condition) → KnownIn P n rows.now codes.now flow.now → HeldOf text.now c parts words → TableOf (used_in rows.now) P c table.old table.new }
 {
-    let mut k: usize = 0;
-    while k < parts {
-        let w = words[k];
-        fill_part(text, w, n, rows, codes, flow, table, k);
-        k += 1;
+    for k in 0..parts {
+        fill_part(text, words[k], n, rows, codes, flow, table, k);
     }
 }
 
@@ -264,17 +257,13 @@ pub fn summary_of(table: &[u64], k: usize) -> Summary
     ensures { Counts (member (row table.now k)) (part_words * 64) result.satisfied result.first }
 {
     let words = row_of(table, k);
-    let satisfied = bits::count(&words);
     let place = bits::first(&words);
-    if place < WORDS * WORD_PLACES {
-        Summary {
-            satisfied: satisfied,
-            first: (place + 1) as u32,
-        }
-    } else {
-        Summary {
-            satisfied: satisfied,
-            first: 0,
-        }
+    Summary {
+        satisfied: bits::count(&words),
+        first: if place < WORDS * WORD_PLACES {
+            (place + 1) as u32
+        } else {
+            0
+        },
     }
 }

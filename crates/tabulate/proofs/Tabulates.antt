@@ -1,6 +1,6 @@
 -- From the rows of the table to the bits that `tabulate` promises. Assumes nothing.
-use mathlib.Core.Path.{◌≡◌, ap, ◌∙◌}
-use mathlib.Core.Bool.{Bool, true}
+use mathlib.Core.Path.{◌≡◌, sym, ap, ◌∙◌, subst}
+use mathlib.Core.Bool.{Bool, true, true≢false}
 use mathlib.Core.List.{List}
 use mathlib.Core.Logic.{◌↔◌}
 use Prim.Native.Nat.{ℕ, ◌+◌, ◌-◌, ◌*◌, ◌≤◌, ◌<◌}
@@ -8,6 +8,7 @@ use native.Mathlib.Decide.{dec_lt}
 use native.Mathlib.Omega.{arith}
 use lib.ListN.{length, get_or, drop}
 use lib.Seq.{get_or-take, get_or-drop}
+use Rattle.std.specs.Prelude.{Result, Ok, Err, MatchResult, is_ok}
 use Rattle.language.specs.declared.Statement.{Statement}
 use Rattle.program.specs.Program.{Taken}
 use Rattle.bits.specs.Row.{bit, member}
@@ -15,12 +16,24 @@ use Rattle.bits.proofs.Rows.{word-member}
 use Rattle.base.proofs.Bools.{clash}
 use Rattle.labelling.specs.Labels.{Labelled}
 use Rattle.condition.specs.Condition.{Condition, parts}
+use Rattle.condition_reader.specs.Reading.{ConditionRead}
+use Rattle.condition_reader.specs.declared.Reading.{Reading}
+use Rattle.condition_reader.specs.declared.Refusal.{Refusal}
 use Rattle.truth.specs.Truth.{uses_of}
 use Rattle.table.specs.Table.{part_words, row}
-use Rattle.table.specs.Fill.{HeldOf, TableOf}
+use Rattle.table.specs.Fill.{HeldOf, SomeHeld, TableOf}
 use Rattle.table.proofs.Whole.{held-some, whole-labelled}
 use Rattle.table.specs.Summary.{Counts}
 use Rattle.tabulate.specs.Tabulate.{table_words, TabulateFilled}
+
+-- the condition that was read, where its refusal is told as that of a call's second text
+abbrev HeldIn : (E : Type 0) → List ℕ → Result Reading E → Type 0
+HeldIn E u (Ok c) = SomeHeld u c.count c.words
+HeldIn E u (Err e) = Unit
+
+pub condition-held : (E : Type 0) (Q : Refusal → Type 0) {u : List ℕ} {c : Reading} (r : Result Reading Refusal) → ConditionRead u r → MatchResult r (λ x. ◌≡◌ {A = Result Reading E} (Ok c) (Ok x)) Q → true ≡ is_ok r → SomeHeld u c.count c.words
+condition-held E Q {u = u} (Ok x) h e t = subst (HeldIn E u) (sym e) (record { c = h.0; held = record { taken = h.1; held = h.2 } })
+condition-held E Q (Err e) h q t = absurd (true≢false t)
 
 -- a bit of a row is set exactly at the places below n of which X is true
 pub labelled-bit : {n : ℕ} {y : ℕ → Bool} {X : ℕ → Type 0} → Labelled n y X → (s : ℕ) → (y s ≡ true) ↔ ((s < n) × X s)

@@ -1,28 +1,34 @@
 -- A call of `tabulate` has one answer, and leaves one table. Assumes nothing.
-use mathlib.Core.Path.{◌≡◌, sym, ap, ◌∙◌, subst}
+use mathlib.Core.Path.{◌≡◌, refl, sym, ap, ◌∙◌, subst}
 use mathlib.Core.Bool.{true}
 use mathlib.Core.Logic.{◌↔◌}
-use mathlib.Core.List.{List}
+use mathlib.Core.List.{List, [], ◌∷◌}
 use Prim.Native.Nat.{ℕ, ◌+◌, ◌*◌, ◌/◌, ◌%◌, ◌^◌, ◌≤◌, ◌<◌}
 use native.Mathlib.Decide.{dec_lt}
 use native.Mathlib.Omega.{arith}
 use lib.ListN.{length, get_or}
 use lib.Seq.{ext_get_or}
+use Rattle.std.specs.Prelude.{Result, Ok, Err}
 use Rattle.language.specs.declared.Statement.{Statement}
+use Rattle.program.specs.declared.Refusal.TheVariants as program
 use Rattle.program.proofs.RoundTrip.{taken-unique}
 use Rattle.bits.specs.Row.{bit}
 use Rattle.base.proofs.Bools.{tests_agree}
 use Rattle.bits.proofs.Words.{word-unique}
 use Rattle.condition.specs.Condition.{Condition, parts}
 use Rattle.condition_reader.specs.Reading as condition-reading
+use Rattle.condition_reader.specs.declared.Refusal as condition-refusal
+use Rattle.condition_reader.specs.declared.Refusal.TheVariants as condition-reader
 use Rattle.truth.specs.Truth.{Sat}
 use Rattle.condition_reader.proofs.Unique as condition-unique
 use Rattle.table.specs.Table.{part_words, part_at}
 use Rattle.table.proofs.Summaries.{counts-unique}
+use Rattle.calls.specs.Refusals.{number_of}
+use Rattle.calls.specs.declared.Refusal.{Refusal}
+use Rattle.calls.specs.declared.Refusal.TheVariants.{Room, Program, Text}
 use Rattle.calls.proofs.Unique.{refuses-unique, refuses-not}
 use Rattle.tabulate.specs.Tabulate.{table_words, TabulateRefused, TabulateFilled, TabulateAnswers}
-use Rattle.tabulate.specs.declared.TabulateAnswer.{TabulateAnswer}
-use Rattle.tabulate.specs.declared.TabulateAnswer.TheVariants as tabulate
+use Rattle.tabulate.specs.declared.Filled as tabulate
 
 -- every word is one of 64 bits
 abbrev pub Words : List ℕ → Type 0
@@ -53,6 +59,24 @@ module _ {old new other : List ℕ} {n : ℕ} {X : ℕ → ℕ → Type 0} (a : 
           (λ c l. a.bits k (omega arith) i c (omega arith) l) (λ c l. b.bits k (omega arith) i c (omega arith) l))
       go p (no h) = a.kept p (omega arith) ∙ sym (b.kept p (omega arith))
 
+-- the refusal that has a number
+abbrev by_number : ℕ → Refusal condition-refusal.Refusal
+by_number n = get_or (Room ∷ Room ∷ Program program.Misspelled ∷ Program program.LineCount ∷ Program program.Placement ∷ Program program.Target
+    ∷ Text condition-reader.Length ∷ Text condition-reader.Misspelled ∷ Text condition-reader.PartCount ∷ []) n Room
+
+by_its_number : (r : Refusal condition-refusal.Refusal) → by_number (number_of condition-reading.number r) ≡ r
+by_its_number Room = refl
+by_its_number (Program program.Misspelled) = refl
+by_its_number (Program program.LineCount) = refl
+by_its_number (Program program.Placement) = refl
+by_its_number (Program program.Target) = refl
+by_its_number (Text condition-reader.Length) = refl
+by_its_number (Text condition-reader.Misspelled) = refl
+by_its_number (Text condition-reader.PartCount) = refl
+
+filled-same : (m i n j k l : ℕ) → m ≡ i → n ≡ j → k ≡ l → ◌≡◌ {A = tabulate.Filled} (record { parts = m; satisfied = n; first = k }) (record { parts = i; satisfied = j; first = l })
+filled-same m i n j k l e f g = rw (e, f, g)
+
 -- what the rows of a condition's parts hold
 abbrev Truth : List Statement → Condition → ℕ → ℕ → Type 0
 Truth P c k s = (s < length P) × Sat P (part_at c k) s
@@ -76,7 +100,7 @@ module _ (t u old : List ℕ) where
         let decides : (s : ℕ) → (b.truth s ≡ true) ↔ ((s < length a.P) × Sat a.P a.c s) = rw (← same-program, ← same-condition) b.decides in
         counts-unique a.truth b.truth (part_words * 64) (λ s. tests_agree (a.truth s) (b.truth s) (a.decides s) (decides s)) a.counts b.counts
 
-    tabulate-filled : Words new → Words other → (tabulate.Filled m n k ≡ tabulate.Filled i j l) × (new ≡ other)
+    tabulate-filled : Words new → Words other → ((m ≡ i) × (n ≡ j) × (k ≡ l)) × (new ≡ other)
     tabulate-filled w v =
         let p : Filled old new m (Truth a.P a.c) = record { same = a.same; bits = a.bits; kept = a.kept } in
         let q : Filled old other i (Truth b.P b.c) = record { same = b.same; bits = b.bits; kept = b.kept } in
@@ -84,7 +108,7 @@ module _ (t u old : List ℕ) where
         subst (λ (c : Condition). Filled old other m (Truth a.P c)) same-condition
         (subst (λ (P : List Statement). Filled old other m (Truth P b.c)) same-program
         (subst (λ (x : ℕ). Filled old other x (Truth b.P b.c)) (sym same_parts) q)) in
-        (cc (same_parts, same-counts.0, same-counts.1), filled-unique p r w v)
+        ((same_parts, same-counts.0, same-counts.1), filled-unique p r w v)
 
   tabulate-refused : (n m : ℕ) → TabulateRefused t u old n → TabulateRefused t u old m → n ≡ m
   tabulate-refused = refuses-unique table-apart t (condition-reading.Refused u) condition-reading.number (condition-unique.refused-unique u)
@@ -93,9 +117,13 @@ module _ (t u old : List ℕ) where
   tabulate-not n r f = refuses-not table-apart t (condition-reading.Refused u) condition-reading.number n r f.room f.program (condition-unique.taken_refused f.condition)
 
   -- a call of `tabulate` has one answer, and leaves one table
-  pub tabulate-unique : (a b : TabulateAnswer) (new other : List ℕ) → Words new → Words other
+  pub tabulate-unique : (a b : Result tabulate.Filled (Refusal condition-refusal.Refusal)) (new other : List ℕ) → Words new → Words other
       → TabulateAnswers t u old new a → TabulateAnswers t u old other b → (a ≡ b) × (new ≡ other)
-  tabulate-unique (tabulate.Refused n) (tabulate.Refused m) new other w v p q = (ap tabulate.Refused (tabulate-refused n m p.0 q.0), p.1 ∙ sym q.1)
-  tabulate-unique (tabulate.Refused n) (tabulate.Filled i j k) new other w v p q = absurd (tabulate-not n p.0 q)
-  tabulate-unique (tabulate.Filled i j k) (tabulate.Refused m) new other w v p q = absurd (tabulate-not m q.0 p)
-  tabulate-unique (tabulate.Filled i j k) (tabulate.Filled l m n) new other w v p q = tabulate-filled p q w v
+  tabulate-unique (Err r) (Err s) new other w v p q =
+      let same = tabulate-refused (number_of condition-reading.number r) (number_of condition-reading.number s) p.0 q.0 in
+      (ap Err (sym (by_its_number r) ∙ ap by_number same ∙ by_its_number s), p.1 ∙ sym q.1)
+  tabulate-unique (Err r) (Ok g) new other w v p q = absurd (tabulate-not (number_of condition-reading.number r) p.0 q)
+  tabulate-unique (Ok f) (Err s) new other w v p q = absurd (tabulate-not (number_of condition-reading.number s) q.0 p)
+  tabulate-unique (Ok f) (Ok g) new other w v p q =
+      let same = tabulate-filled p q w v in
+      (ap Ok (filled-same f.parts g.parts f.satisfied g.satisfied f.first g.first same.0.0 same.0.1 same.0.2), same.1)

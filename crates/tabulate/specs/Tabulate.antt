@@ -1,5 +1,5 @@
 -- What `tabulate` answers, and what it leaves in the lent table, for every program text, condition text and table.
-use Rattle.std.specs.Prelude.{◌≡◌, Bool, true, ◌↔◌, List, ℕ, ◌+◌, ◌*◌, ◌≤◌, ◌<◌, length, get_or}
+use Rattle.std.specs.Prelude.{◌≡◌, Bool, true, ◌↔◌, List, ℕ, ◌+◌, ◌*◌, ◌≤◌, ◌<◌, length, get_or, Result, Ok, Err}
 use Rattle.language.specs.declared.Statement.{Statement}
 use Rattle.program.specs.Program.{Taken}
 use Rattle.bits.specs.Row.{bit}
@@ -7,11 +7,12 @@ use Rattle.condition.specs.Condition.{Condition, parts}
 use Rattle.truth.specs.Truth.{Sat}
 use Rattle.condition.specs.Texts as condition
 use Rattle.condition_reader.specs.Reading as condition-reading
+use Rattle.condition_reader.specs.declared.Refusal as condition-refusal
 use Rattle.table.specs.Table.{part_words, part_at}
 use Rattle.table.specs.Summary.{Counts}
-use Rattle.calls.specs.Refusals.{CallRefused}
-use Rattle.tabulate.specs.declared.TabulateAnswer.{TabulateAnswer}
-use Rattle.tabulate.specs.declared.TabulateAnswer.TheVariants.{Refused, Filled}
+use Rattle.calls.specs.Refusals.{CallRefused, number_of}
+use Rattle.calls.specs.declared.Refusal.{Refusal}
+use Rattle.tabulate.specs.declared.Filled.{Filled}
 
 -- "1: table under 256 words", by document 02 1,024: as many parts as a condition can have
 abbrev pub table_words : ℕ
@@ -41,6 +42,6 @@ pub record TabulateFilled (t u old new : List ℕ) (count satisfied first : ℕ)
   pub counts : Counts truth (part_words * 64) satisfied first
 
 -- "A refused call answers only its number and keeps all lent memory."
-abbrev pub TabulateAnswers : List ℕ → List ℕ → List ℕ → List ℕ → TabulateAnswer → Type 0
-TabulateAnswers t u old new (Refused n) = TabulateRefused t u old n × (new ≡ old)
-TabulateAnswers t u old new (Filled count satisfied first) = TabulateFilled t u old new count satisfied first
+abbrev pub TabulateAnswers : List ℕ → List ℕ → List ℕ → List ℕ → Result Filled (Refusal condition-refusal.Refusal) → Type 0
+TabulateAnswers t u old new (Err r) = TabulateRefused t u old (number_of condition-reading.number r) × (new ≡ old)
+TabulateAnswers t u old new (Ok f) = TabulateFilled t u old new f.parts f.satisfied f.first

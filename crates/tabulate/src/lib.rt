@@ -9,7 +9,7 @@ ghost use Rattle.table.specs.Fill.{SomeHeld};
 ghost use Rattle.tabulate.specs.Tabulate.{table_words, TabulateAnswers};
 ghost use Rattle.tabulate.specs.Whole.{WholeFilled};
 
-use calls::ROOM_NUMBER;
+use calls::Refusal;
 use condition::MOST_PARTS;
 use program::Program;
 use table::{Summary, WORDS};
@@ -17,11 +17,12 @@ use table::{Summary, WORDS};
 // The table of a condition's parts has this many words.
 pub const TABLE_WORDS: usize = MOST_PARTS * WORDS;
 
-// Refused: document 01's number. Filled: the parts, how many statements satisfy the whole condition, and the first of them or 0.
+// How many parts the condition has, how many statements satisfy the whole condition, and the first of them or 0.
 #[derive(Clone, Copy)]
-pub enum TabulateAnswer {
-    Refused(u8),
-    Filled(u32, u32, u32),
+pub struct Filled {
+    pub parts: u32,
+    pub satisfied: u32,
+    pub first: u32,
 }
 
 // Fills the table with the parts of a condition over a program, both of which were read, and draws the program's graph. Returns the counts
@@ -52,29 +53,23 @@ pub fn fill(
 }
 
 // Fills the table with the statements at which each part of the condition is true.
-pub fn tabulate(program: &[u8], condition: &[u8], table: &mut [u64]) -> TabulateAnswer
+pub fn tabulate(
+    program: &[u8],
+    condition: &[u8],
+    table: &mut [u64],
+) -> Result<Filled, Refusal<condition_reader::Refusal>>
     ensures { TabulateAnswers program.now condition.now table.old table.new result }
 {
     if table.len() < TABLE_WORDS {
-        return TabulateAnswer::Refused(ROOM_NUMBER);
+        return Err(Refusal::Room);
     }
-    let reading = program::read(program);
-    let answer = reading.answer;
-    if let program::Answer::Refused(refusal) = answer {
-        return TabulateAnswer::Refused(program::number_of(refusal));
-    }
-    let p = reading.program;
-    let conditions = condition_reader::read(condition);
-    let told = conditions.answer;
-    match told {
-        condition_reader::Answer::Refused(refusal) => {
-            TabulateAnswer::Refused(condition_reader::number_of(refusal))
-        }
-        condition_reader::Answer::Taken(parts) => {
-            let words = conditions.words;
-            let mut flow = flow::blank();
-            let summary = fill(p, condition, words, parts, &mut flow, table);
-            TabulateAnswer::Filled(parts, summary.satisfied, summary.first)
-        }
-    }
+    let p = program::read(program)?;
+    let c = condition_reader::read(condition).map_err(Refusal::Text)?;
+    let mut flow = flow::blank();
+    let summary = fill(p, condition, c.words, c.count, &mut flow, table);
+    Ok(Filled {
+        parts: c.count,
+        satisfied: summary.satisfied,
+        first: summary.first,
+    })
 }

@@ -4,13 +4,12 @@ use mathlib.Core.List.{List, [], ◌∷◌, ◌++◌, append_assoc}
 use mathlib.Core.Bool.{Bool, true, false}
 use Prim.Native.Nat.{ℕ, zero, suc, ◌+◌, ◌-◌, ◌*◌, ◌/◌, ◌%◌, ◌≤◌, ◌<◌}
 use native.Mathlib.Omega.{arith}
-use lib.Dec.{ltb, leb, eqb}
-use borrow.Author.Tests.{le-ltb, lt-ltb, le-leb, lt-leb, leb-true, leb-false, ltb-true, ltb-false}
+use lib.Dec.{ltb, leb}
+use borrow.Author.Tests.{lt-ltb, le-leb, leb-true, ltb-true, ltb-false}
 use Rattle.language.specs.Spelling.{variables, largest, digits, spell_variable, ValidVariable}
 use Rattle.language.proofs.Digits.{digits-small, digits_more, digits-next}
-use Rattle.tokens.specs.declared.Digit.{Digit}
-use Rattle.tokens.specs.declared.Digit.TheVariants.{Value, Other}
-use Rattle.tokens.specs.Parsing.{Parsed, found, misspelled, where?, by_digit, digit_of, parse_zero, parse_digits, from_first, parse_number, parse_word, parse_variable}
+use Rattle.std.specs.Prelude.{Option, Some, None}
+use Rattle.tokens.specs.Parsing.{found, misspelled, where?, by_digit, digit_of, parse_zero, parse_digits, from_first, parse_number, parse_word, parse_variable}
 use Rattle.tokens.proofs.Steps.{digit-byte, first_more}
 use Rattle.tokens.proofs.Parse.{after-inv, where-inv, skip-sound}
 
@@ -21,7 +20,7 @@ unfolding parse_digits
 more-sound n [] v rest p q e = let a : n ≡ v = cc in let b : [] ≡ rest = cc in (rw (a, b), omega arith)
 more-sound n (c ∷ l) v rest p q e = go (digit_of c) refl (λ d a b. more-sound (n * 10 + d) l v rest a b) e
   where
-    step : (d : ℕ) → digit_of c ≡ Value d → (b : Bool) → leb (n * 10 + d) largest ≡ b
+    step : (d : ℕ) → digit_of c ≡ Some d → (b : Bool) → leb (n * 10 + d) largest ≡ b
         → (0 < n * 10 + d → n * 10 + d ≤ largest → parse_digits (n * 10 + d) l ≡ found v rest → (digits (n * 10 + d) ++ l ≡ digits v ++ rest) × (v ≤ largest))
         → where? b (parse_digits (n * 10 + d) l) ≡ found v rest → (digits n ++ c ∷ l ≡ digits v ++ rest) × (v ≤ largest)
     step d f true t r w =
@@ -30,28 +29,28 @@ more-sound n (c ∷ l) v rest p q e = go (digit_of c) refl (λ d a b. more-sound
         (rw h.1 (rw (digits_more n d p h.0, append_assoc) at s.0), s.1)
     step d f false t r w = let z : ◌≡◌ {A = ℕ} 0 1 = cc in absurd (omega arith)
 
-    go : (D : Digit) → digit_of c ≡ D
+    go : (D : Option ℕ) → digit_of c ≡ D
         → ((d : ℕ) → 0 < n * 10 + d → n * 10 + d ≤ largest → parse_digits (n * 10 + d) l ≡ found v rest → (digits (n * 10 + d) ++ l ≡ digits v ++ rest) × (v ≤ largest))
         → by_digit D (λ d. where? (leb (n * 10 + d) largest) (parse_digits (n * 10 + d) l)) (found n (c ∷ l)) ≡ found v rest
         → (digits n ++ c ∷ l ≡ digits v ++ rest) × (v ≤ largest)
-    go (Value d) f r w = step d f (leb (n * 10 + d) largest) refl (r d) w
-    go Other f r w = let a : n ≡ v = cc in let b : c ∷ l ≡ rest = cc in (rw (a, b), omega arith)
+    go (Some d) f r w = step d f (leb (n * 10 + d) largest) refl (r d) w
+    go None f r w = let a : n ≡ v = cc in let b : c ∷ l ≡ rest = cc in (rw (a, b), omega arith)
 
 nothing-sound : (l : List ℕ) (v : ℕ) (rest : List ℕ) → parse_zero l ≡ found v rest → (0 ≡ v) × (l ≡ rest)
 unfolding parse_zero
 nothing-sound [] v rest e = (cc, cc)
 nothing-sound (c ∷ l) v rest e = go (digit_of c) e
   where
-    go : (D : Digit) → by_digit D (λ d. misspelled) (found 0 (c ∷ l)) ≡ found v rest → (0 ≡ v) × (c ∷ l ≡ rest)
-    go (Value d) w = let z : ◌≡◌ {A = ℕ} 0 1 = cc in absurd (omega arith)
-    go Other w = (cc, cc)
+    go : (D : Option ℕ) → by_digit D (λ d. misspelled) (found 0 (c ∷ l)) ≡ found v rest → (0 ≡ v) × (c ∷ l ≡ rest)
+    go (Some d) w = let z : ◌≡◌ {A = ℕ} 0 1 = cc in absurd (omega arith)
+    go None w = (cc, cc)
 
 pub number-sound : (l : List ℕ) (v : ℕ) (rest : List ℕ) → parse_number l ≡ found v rest → (l ≡ digits v ++ rest) × (v ≤ largest)
 unfolding parse_number
 number-sound [] v rest e = let z : ◌≡◌ {A = ℕ} 0 1 = cc in absurd (omega arith)
 number-sound (c ∷ l) v rest e = go (digit_of c) refl e
   where
-    step : (d : ℕ) → Value d ≡ digit_of c → from_first d l ≡ found v rest → (c ∷ l ≡ digits v ++ rest) × (v ≤ largest)
+    step : (d : ℕ) → Some d ≡ digit_of c → from_first d l ≡ found v rest → (c ∷ l ≡ digits v ++ rest) × (v ≤ largest)
     step zero f w =
         let h = nothing-sound l v rest w in
         (rw ((digit-byte c 0 f).1, h.1, ← h.0, digits-small 0 (omega arith)), omega arith)
@@ -60,16 +59,16 @@ number-sound (c ∷ l) v rest e = go (digit_of c) refl e
         let s = more-sound (suc d) l v rest (omega arith) (omega arith) w in
         (rw h.1 (rw (digits-small (suc d) h.0) at s.0), s.1)
 
-    go : (D : Digit) → digit_of c ≡ D → by_digit D (λ d. from_first d l) misspelled ≡ found v rest → (c ∷ l ≡ digits v ++ rest) × (v ≤ largest)
-    go (Value d) f w = step d (sym f) w
-    go Other f w = let z : ◌≡◌ {A = ℕ} 0 1 = cc in absurd (omega arith)
+    go : (D : Option ℕ) → digit_of c ≡ D → by_digit D (λ d. from_first d l) misspelled ≡ found v rest → (c ∷ l ≡ digits v ++ rest) × (v ≤ largest)
+    go (Some d) f w = step d (sym f) w
+    go None f w = let z : ◌≡◌ {A = ℕ} 0 1 = cc in absurd (omega arith)
 
 -- what is spelled is read
 abbrev pub NoDigit : List ℕ → Type 0
 NoDigit [] = Unit
-NoDigit (c ∷ l) = digit_of c ≡ Other
+NoDigit (c ∷ l) = digit_of c ≡ None
 
-pub digit-of : (d : ℕ) → d < 10 → digit_of (48 + d) ≡ Value d
+pub digit-of : (d : ℕ) → d < 10 → digit_of (48 + d) ≡ Some d
 unfolding digit_of
 digit-of d h =
     let e : (48 + d) - 48 ≡ d = omega arith in

@@ -1,19 +1,20 @@
 -- A reader's step at a position of the text, as a law of its definition.
-use mathlib.Core.Path.{◌≡◌, refl, ap, sym, ◌∙◌}
-use mathlib.Core.List.{List, [], ◌∷◌, ◌++◌}
+use mathlib.Core.Path.{◌≡◌, refl}
+use mathlib.Core.List.{List, [], ◌∷◌}
 use mathlib.Core.Bool.{Bool, true, false}
 use Prim.Native.Nat.{ℕ, zero, suc, ◌+◌, ◌-◌, ◌*◌, ◌≤◌, ◌<◌}
 use native.Mathlib.Numerals.{add-one}
-use lib.Dec.{ltb, leb, eqb}
+use lib.Dec.{leb}
 use lib.ListN.{length, get_or, drop, drop_of_length-le}
 use lib.Seq.{drop-cons}
-use borrow.Author.Tests.{le-ltb, lt-ltb, le-leb, lt-leb, eq-eqb, ne_eqb, leb-true}
+use borrow.Author.Tests.{le-leb, lt-leb, eq-eqb, ne_eqb, leb-true}
 use native.Mathlib.Omega.{arith}
+use Rattle.std.proofs.Common.{if◌then◌else◌}
+use Rattle.std.specs.Char.{is_ascii_digit}
 use Rattle.base.specs.Pick.{pick}
 use Rattle.language.specs.Spelling.{largest}
-use Rattle.tokens.specs.declared.Digit.{Digit}
-use Rattle.tokens.specs.declared.Digit.TheVariants.{Value, Other}
-use Rattle.tokens.specs.Parsing.{Parsed, found, misspelled, parse_word, digit_of, parse_zero, parse_digits, from_first, parse_number}
+use Rattle.std.specs.Prelude.{Some, None}
+use Rattle.tokens.specs.Parsing.{found, misspelled, parse_word, digit_of, parse_zero, parse_digits, from_first}
 
 pub at-end : (s : List ℕ) (k : ℕ) → length s ≤ k → drop k s ≡ []
 at-end s k h = drop_of_length-le s h
@@ -39,33 +40,49 @@ module _ (w s : List ℕ) (i k : ℕ) where
   skip-done h = rw (at-end w i h)
 
 -- a digit's value is below 10, and the byte is 48 more
-pub digit-byte : (c d : ℕ) → Value d ≡ digit_of c → (d < 10) × (c ≡ 48 + d)
+pub digit-byte : (c d : ℕ) → Some d ≡ digit_of c → (d < 10) × (c ≡ 48 + d)
 unfolding digit_of
 digit-byte c d e = go (leb 48 c) (leb c 57) refl refl e
   where
-    go : (a b : Bool) → leb 48 c ≡ a → leb c 57 ≡ b → Value d ≡ pick a (pick b (Value (c - 48)) Other) Other → (d < 10) × (c ≡ 48 + d)
+    go : (a b : Bool) → leb 48 c ≡ a → leb c 57 ≡ b → Some d ≡ pick a (pick b (Some (c - 48)) None) None → (d < 10) × (c ≡ 48 + d)
     go true true p q r = let z : d ≡ c - 48 = cc in omega (arith, leb-true 48 c p, leb-true c 57 q)
     go true false p q r = let z : ◌≡◌ {A = ℕ} 0 1 = cc in omega arith
     go false true p q r = let z : ◌≡◌ {A = ℕ} 0 1 = cc in omega arith
     go false false p q r = let z : ◌≡◌ {A = ℕ} 0 1 = cc in omega arith
 
-pub digit-small : (c d : ℕ) → Value d ≡ digit_of c → d < 10
+-- a byte is a digit as std has it
+pub digit-cases : (c : ℕ) → digit_of c ≡ (if is_ascii_digit c then Some (c - 48) else None)
+unfolding digit_of
+digit-cases c = go (leb 48 c) (leb c 57) refl refl
+  where
+    go : (a b : Bool) → leb 48 c ≡ a → leb c 57 ≡ b → pick (leb 48 c) (pick (leb c 57) (Some (c - 48)) None) None ≡ (if is_ascii_digit c then Some (c - 48) else None)
+    go true true p q = rw (p, q)
+    go true false p q = rw (p, q)
+    go false b p q = rw (p)
+
+pub digit-is : (c : ℕ) → is_ascii_digit c ≡ true → digit_of c ≡ Some (c - 48)
+digit-is c h = rw (digit-cases c, h)
+
+pub digit-none : (c : ℕ) → is_ascii_digit c ≡ false → digit_of c ≡ None
+digit-none c h = rw (digit-cases c, h)
+
+pub digit-small : (c d : ℕ) → Some d ≡ digit_of c → d < 10
 digit-small c d e = (digit-byte c d e).0
 
-module _ (s : List ℕ) (n k : ℕ) where
-  pub more-end : length s ≤ k → parse_digits n (drop k s) ≡ found n (drop k s)
-  unfolding parse_digits
-  more-end h = rw (at-end s k h)
+pub more-none : {n : ℕ} → parse_digits n [] ≡ found n []
+unfolding parse_digits
+more-none = refl
 
-  pub more-other : k < length s → Other ≡ digit_of (get_or s k 0) → parse_digits n (drop k s) ≡ found n (drop k s)
+module _ (s : List ℕ) (n k : ℕ) where
+  pub more-other : k < length s → None ≡ digit_of (get_or s k 0) → parse_digits n (drop k s) ≡ found n (drop k s)
   unfolding parse_digits
   more-other h e = rw (at_byte s k h, ← e)
 
-  pub more-over : (d : ℕ) → k < length s → Value d ≡ digit_of (get_or s k 0) → largest < n * 10 + d → parse_digits n (drop k s) ≡ misspelled
+  pub more-over : (d : ℕ) → k < length s → Some d ≡ digit_of (get_or s k 0) → largest < n * 10 + d → parse_digits n (drop k s) ≡ misspelled
   unfolding parse_digits
   more-over d h e o = rw (at_byte s k h, ← e, lt-leb _ _ o)
 
-  pub more-next : (d : ℕ) → k < length s → Value d ≡ digit_of (get_or s k 0) → n * 10 + d ≤ largest → parse_digits n (drop k s) ≡ parse_digits (n * 10 + d) (drop (k + 1) s)
+  pub more-next : (d : ℕ) → k < length s → Some d ≡ digit_of (get_or s k 0) → n * 10 + d ≤ largest → parse_digits n (drop k s) ≡ parse_digits (n * 10 + d) (drop (k + 1) s)
   unfolding parse_digits
   more-next d h e o = rw (at_byte s k h, ← e, le-leb _ _ o)
 

@@ -1,17 +1,9 @@
 -- A proof device: what each reader of words, numbers and variables finds at the front of a text, the readers' common language. It promises
 -- nothing by itself: proofs/Numbers.antt and Constants.antt hold it to the spelling, both ways round.
-use Rattle.std.specs.Prelude.{ℕ, zero, suc, ◌+◌, ◌-◌, ◌*◌, ◌^◌, List, [], ◌∷◌, Bool, true, false, ltb, leb, eqb, drop}
+use Rattle.std.specs.Prelude.{ℕ, zero, suc, ◌+◌, ◌-◌, ◌*◌, ◌^◌, List, [], ◌∷◌, Bool, true, false, ltb, leb, eqb, drop, Option, Some, None}
 use Rattle.base.specs.Bytes.{byte, bytes}
 use Rattle.base.specs.Pick.{pick}
 use Rattle.language.specs.Spelling.{variables, largest}
-use Rattle.tokens.specs.declared.Digit.{Digit}
-use Rattle.tokens.specs.declared.Digit.TheVariants.{Value, Other}
-use Rattle.tokens.specs.declared.WordRead.{WordRead}
-use Rattle.tokens.specs.declared.WordRead.TheVariants as word
-use Rattle.tokens.specs.declared.NumberRead.{NumberRead}
-use Rattle.tokens.specs.declared.NumberRead.TheVariants as number
-use Rattle.tokens.specs.declared.VariableRead.{VariableRead}
-use Rattle.tokens.specs.declared.VariableRead.TheVariants as variable
 
 -- what a reader finds: a value and the text after it, or that the text is not so spelled
 pub data Parsed (A : Type 0) : Type 0 where
@@ -44,23 +36,32 @@ parse_word [] l = found tt l
 parse_word (w ∷ ws) [] = misspelled
 parse_word (w ∷ ws) (c ∷ l) = where? (eqb c w) (parse_word ws l)
 
--- in each `parsed..`: what the reader's answer says of the text
-abbrev pub parsed_word : List ℕ → WordRead → Parsed Unit
-parsed_word s (word.Found k) = found tt (drop k s)
-parsed_word s word.Misspelled = misspelled
+-- what a reader's answer says of the text: what was read, and the text behind it
+abbrev pub parsed : {A : Type 0} → List ℕ → Option (A × ℕ) → Parsed A
+parsed s (Some r) = found r.0 (drop r.1 s)
+parsed s None = misspelled
 
--- in each `..End`: the position after what was found
-abbrev pub word_end : WordRead → ℕ
-word_end (word.Found k) = k
-word_end word.Misspelled = 0
+-- the position after what was read
+abbrev pub parsed_end : {A : Type 0} → Option (A × ℕ) → ℕ
+parsed_end (Some r) = r.1
+parsed_end None = 0
 
-unfoldable pub digit_of : ℕ → Digit
-digit_of c = pick (leb (byte "0") c) (pick (leb c (byte "9")) (Value (c - byte "0")) Other) Other
+-- the same of a word, which has no value
+abbrev pub passed : List ℕ → Option ℕ → Parsed Unit
+passed s (Some k) = found tt (drop k s)
+passed s None = misspelled
+
+abbrev pub passed_end : Option ℕ → ℕ
+passed_end (Some k) = k
+passed_end None = 0
+
+unfoldable pub digit_of : ℕ → Option ℕ
+digit_of c = pick (leb (byte "0") c) (pick (leb c (byte "9")) (Some (c - byte "0")) None) None
 
 -- by whether a byte is a digit
-abbrev pub by_digit : Digit → (ℕ → Parsed ℕ) → Parsed ℕ → Parsed ℕ
-by_digit (Value d) f p = f d
-by_digit Other f p = p
+abbrev pub by_digit : Option ℕ → (ℕ → Parsed ℕ) → Parsed ℕ → Parsed ℕ
+by_digit (Some d) f p = f d
+by_digit None f p = p
 
 -- the digits that follow n
 unfoldable pub parse_digits : ℕ → List ℕ → Parsed ℕ
@@ -79,14 +80,6 @@ from_first (suc d) l = parse_digits (suc d) l
 unfoldable pub parse_number : List ℕ → Parsed ℕ
 parse_number [] = misspelled
 parse_number (c ∷ l) = by_digit (digit_of c) (λ d. from_first d l) misspelled
-
-abbrev pub parsed_number : List ℕ → NumberRead → Parsed ℕ
-parsed_number s (number.Found n k) = found n (drop k s)
-parsed_number s number.Misspelled = misspelled
-
-abbrev pub number_end : NumberRead → ℕ
-number_end (number.Found a k) = k
-number_end number.Misspelled = 0
 
 -- the magnitude of the least constant, which is no number that stands without sign
 abbrev pub least_word : List ℕ
@@ -110,11 +103,3 @@ parse_variable l =
     after (parse_word (bytes "i") l) λ _ t.
     after (parse_number t) λ n u.
     where? (ltb n variables) (found n u)
-
-abbrev pub parsed_variable : List ℕ → VariableRead → Parsed ℕ
-parsed_variable s (variable.Found x k) = found x (drop k s)
-parsed_variable s variable.Misspelled = misspelled
-
-abbrev pub variable_end : VariableRead → ℕ
-variable_end (variable.Found a k) = k
-variable_end variable.Misspelled = 0

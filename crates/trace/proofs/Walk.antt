@@ -2,8 +2,8 @@
 use mathlib.Core.Path.{◌≡◌, refl, ap, sym, ◌∙◌}
 use mathlib.Core.Logic.{◌⊎◌, inl, inr}
 use mathlib.Core.List.{List, [], ◌++◌}
-use mathlib.Core.Bool.{true, false}
-use Prim.Native.Nat.{ℕ, suc, ◌+◌, ◌≤◌, ◌<◌}
+use Prim.Native.Nat.{ℕ, suc, max, ◌+◌, ◌≤◌, ◌<◌}
+use native.Mathlib.Decide.{dec_lt}
 use native.Mathlib.Omega.{arith}
 use native.Mathlib.Numerals.{add-one}
 use lib.ListN.{length}
@@ -22,6 +22,16 @@ use Rattle.machine.proofs.Runs.{Stands, perform-inside, step_after, step-inside}
 use Rattle.trace.specs.Trace.{assignment, assigned_in, line_text, step_line, step_lines}
 use Rattle.trace.specs.Stepping.{line_room, Goes, Traced}
 use Rattle.trace.specs.declared.Progress.{Progress}
+use Rattle.trace.specs.declared.Stop.{Stop}
+use Rattle.trace.specs.declared.Stop.TheVariants.{Paused, Ended}
+
+-- where a loop over the steps from `done` to the budget is through
+pub through : (done budget k : ℕ) → (budget < done → k ≡ done) → (done ≤ budget → k ≤ budget) → budget ≤ k → max done budget ≡ k
+through done budget k over under h = by (dec_lt budget done)
+  where
+    by : Dec (budget < done) → max done budget ≡ k
+    by (yes x) = omega (arith, over x)
+    by (no x) = let y : done ≤ budget = omega arith in omega (arith, under y)
 
 -- w is the lines of the steps after the first k, up to step j, and the run stands before place s
 pub record SoFar (P : List Statement) (start : List ℕ) (input k j s : ℕ) (vs w : List ℕ) : Type 0 where
@@ -83,7 +93,7 @@ module _ (p : Program) (input s : ℕ) (vs us : List ℕ) (next : Next) (told : 
           stands = step-inside p start input j s vs us next i.stands told t well e;
         }
 
-    goes_over : (v : Final) (b : Progress) → b.done ≡ j + 1 → b.at ≡ s → b.ended ≡ true → state_of next us ≡ ended v
+    goes_over : (v : Final) (b : Progress Stop) → b.done ≡ j + 1 → b.at ≡ s → b.stop ≡ Ended → state_of next us ≡ ended v
         → Goes (statements p) start input k (w ++ line_text (j + 1) s (held p.entries s) []) vs b
     goes_over v b d a z e =
         record {
@@ -128,7 +138,7 @@ module _ (p : Program) (input s : ℕ) (vs us : List ℕ) (next : Next) (told : 
           told = λ start x. goes_on (i.told start x) t w e;
         }
 
-    pub ends : (v : Final) (b : Progress) → b.done ≡ j + 1 → b.bytes ≡ end → b.at ≡ s → b.ended ≡ true → state_of next us ≡ ended v
+    pub ends : (v : Final) (b : Progress Stop) → b.done ≡ j + 1 → b.bytes ≡ end → b.at ≡ s → b.stop ≡ Ended → state_of next us ≡ ended v
         → Put q to (line_text (j + 1) s (held p.entries s) []) r end → Traced (statements p) input budget k s₀ vs₀ o r vs b
     ends v b d y a z e l =
         let whole = put_then i.put l in
@@ -138,13 +148,13 @@ module _ (p : Program) (input s : ℕ) (vs us : List ℕ) (next : Next) (told : 
           fits = omega (arith, whole.after);
           goes = λ start x. goes_over (i.told start x) v b d a z e;
           within = λ x. omega (arith, d);
-          stops = λ x. let g : true ≡ false = sym z ∙ x in let y : ◌≡◌ {A = ℕ} 0 1 = cc in absurd (omega arith);
+          stops = λ x. let g : Ended ≡ Paused = sym z ∙ x in cc;
           further = λ x g. omega (arith, d, not-before i.further);
         }
 
 -- it stops where it stands
 module _ {p : Program} {input budget k s₀ : ℕ} {vs₀ o q vs : List ℕ} {s j to : ℕ} (i : Going p input budget k s₀ vs₀ o q vs s j to) where
-  pub stopped : (b : Progress) → b.done ≡ j → b.bytes ≡ to → b.at ≡ s → b.ended ≡ false → (budget ≤ j) ⊎ (length o < to + line_room)
+  pub stopped : (b : Progress Stop) → b.done ≡ j → b.bytes ≡ to → b.at ≡ s → b.stop ≡ Paused → (budget ≤ j) ⊎ (length o < to + line_room)
       → Traced (statements p) input budget k s₀ vs₀ o q vs b
   stopped b d y a z why =
       record {

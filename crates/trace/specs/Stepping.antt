@@ -1,5 +1,5 @@
 -- What `steps` does: as many lines of a trace as the lent bytes have room for.
-use Rattle.std.specs.Prelude.{◌≡◌, ◌⊎◌, List, Bool, true, false, ℕ, ◌+◌, ◌≤◌, ◌<◌, length}
+use Rattle.std.specs.Prelude.{◌≡◌, ◌⊎◌, List, Option, Some, None, ℕ, ◌+◌, ◌≤◌, ◌<◌, length}
 use Rattle.language.specs.Room.{number_digits, variable_room, constant_room}
 use Rattle.statement_writer.specs.Writing.{Put}
 use Rattle.language.specs.declared.Statement.{Statement}
@@ -9,8 +9,8 @@ use Rattle.machine.specs.declared.Next.{Next}
 use Rattle.machine.specs.declared.Next.TheVariants.{Goto}
 use Rattle.desk.specs.Columns.{number_columns, statement_columns}
 use Rattle.trace.specs.Trace.{step_lines}
-use Rattle.trace.specs.declared.Onward.{Onward}
-use Rattle.trace.specs.declared.Onward.TheVariants.{To, Ended}
+use Rattle.trace.specs.declared.Stop.{Stop}
+use Rattle.trace.specs.declared.Stop.TheVariants.{Paused, Ended}
 use Rattle.trace.specs.declared.Progress.{Progress}
 
 -- what stands before the assigned value has room in this many bytes: a step's number may have more digits than its columns
@@ -32,9 +32,9 @@ abbrev pub heads_room : ℕ
 heads_room = 58
 
 -- a step leads to a place; or it ends the run, whatever the values are that it leaves
-abbrev pub Leads : Next → Onward → Type 0
-Leads n (To t) = n ≡ Goto t
-Leads n Ended = (us : List ℕ) → (v : Final) × (state_of n us ≡ ended v)
+abbrev pub Leads : Next → Option ℕ → Type 0
+Leads n (Some t) = n ≡ Goto t
+Leads n None = (us : List ℕ) → (v : Final) × (state_of n us ≡ ended v)
 
 -- the run ended with step k: before it the run stood before place s with the values vs
 pub record Over (P : List Statement) (start : List ℕ) (input k s : ℕ) (vs : List ℕ) : Type 0 where
@@ -44,25 +44,25 @@ pub record Over (P : List Statement) (start : List ℕ) (input k s : ℕ) (vs : 
   pub values : ends.left ≡ vs
 
 -- where the run stands after k steps: it ended with the last of them, or stands before place s with the values vs
-abbrev pub Left : List Statement → List ℕ → ℕ → ℕ → Bool → ℕ → List ℕ → Type 0
-Left P start input k true s vs = Over P start input k s vs
-Left P start input k false s vs = (s < length P) × (after P start input k ≡ before s vs)
+abbrev pub Left : List Statement → List ℕ → ℕ → ℕ → Stop → ℕ → List ℕ → Type 0
+Left P start input k Ended s vs = Over P start input k s vs
+Left P start input k Paused s vs = (s < length P) × (after P start input k ≡ before s vs)
 
 -- w is the lines of the n steps of the run that come after the first k; it then stands where r and the values us say
-pub record Goes (P : List Statement) (start : List ℕ) (input k : ℕ) (w us : List ℕ) (r : Progress) : Type 0 where
+pub record Goes (P : List Statement) (start : List ℕ) (input k : ℕ) (w us : List ℕ) (r : Progress Stop) : Type 0 where
   pub n : ℕ
   pub counted : r.done ≡ k + n
   pub lines : w ≡ step_lines P start input k n
-  pub left : Left P start input r.done r.ended r.at us
+  pub left : Left P start input r.done r.stop r.at us
 
 -- from place s with the values vs after k steps: the text w stands at the front of the bytes o, and all others are kept. It is the lines
 -- of further steps of each run that came there; us are the values left
-pub record Traced (P : List Statement) (input budget k s : ℕ) (vs o q us : List ℕ) (r : Progress) : Type 0 where
+pub record Traced (P : List Statement) (input budget k s : ℕ) (vs o q us : List ℕ) (r : Progress Stop) : Type 0 where
   pub w : List ℕ
   pub put : Put o 0 w q r.bytes
   pub fits : length w ≤ length o
   pub goes : (start : List ℕ) → after P start input k ≡ before s vs → Goes P start input k w us r
   -- it stops at the budget, where the run has ended, or where a line may have no room; with room for one it goes on
   pub within : k ≤ budget → r.done ≤ budget
-  pub stops : r.ended ≡ false → (budget ≤ r.done) ⊎ (length o < r.bytes + line_room)
+  pub stops : r.stop ≡ Paused → (budget ≤ r.done) ⊎ (length o < r.bytes + line_room)
   pub further : line_room ≤ length o → k < budget → k < r.done

@@ -130,30 +130,31 @@ fn last_line(out: &mut [u8], at: usize, k: u32, place: u32, s: Statement) -> usi
 }
 
 // Where a run stands after a step, if it goes on.
-#[derive(Clone, Copy)]
-pub enum Onward {
-    To(u32),
-    Ended,
-}
-
-pub fn way_on(next: Next) -> Onward
+pub fn way_on(next: Next) -> Option<u32>
     ensures { Leads next result }
 {
     match next {
-        Next::Goto(t) => Onward::To(t),
-        Next::Finish(_) => Onward::Ended,
-        Next::Fault(_) => Onward::Ended,
+        Next::Goto(t) => Some(t),
+        Next::Finish(_) => None,
+        Next::Fault(_) => None,
     }
 }
 
-// The bytes written, the steps done, and whether the run has ended with the last of them: `at` is then the place of the statement that it
-// performed, else of the one that comes next.
+// How far steps came: the bytes written, the place and the steps done, and why they stop.
 #[derive(Clone, Copy)]
-pub struct Progress {
+pub struct Progress<S> {
     pub bytes: usize,
     pub at: u32,
     pub done: u32,
-    pub ended: bool,
+    pub stop: S,
+}
+
+// Paused: the budget or the room is spent, and `at` is the place of the next statement. Ended: the last step ended the run, and `at` is the
+// place of its statement.
+#[derive(Clone, Copy)]
+pub enum Stop {
+    Paused,
+    Ended,
 }
 
 // Goes on with a run that stands before the statement at the place `at` after `done` steps. A step that ends the run leaves the values.
@@ -165,21 +166,20 @@ pub fn steps(
     budget: u32,
     values: &mut [u32; VALUES],
     out: &mut [u8],
-) -> Progress
+) -> Progress<Stop>
     requires well_formed { WellFormed (statements p) }
     requires at_in_bounds { at < length (statements p) }
     ensures { Traced (statements p) input budget done at values.old out.old out.new values.new result }
 {
     let mut place = at;
-    let mut k = done;
     let mut to: usize = 0;
-    while k < budget {
+    for k in done..budget {
         if out.len() - to < LINE_ROOM {
             return Progress {
                 bytes: to,
                 at: place,
                 done: k,
-                ended: false,
+                stop: Stop::Paused,
             };
         }
         let i = place as usize;
@@ -187,21 +187,20 @@ pub fn steps(
         let s = encoding::statement_of(e);
         let mut new = *values;
         let next = machine::step(s, place, input, &mut new);
-        k += 1;
         let way = way_on(next);
         match way {
-            Onward::To(t) => {
-                to = line(out, to, k, place, s, &*values, &new);
+            Some(t) => {
+                to = line(out, to, k + 1, place, s, &*values, &new);
                 *values = new;
                 place = t;
             }
-            Onward::Ended => {
-                to = last_line(out, to, k, place, s);
+            None => {
+                to = last_line(out, to, k + 1, place, s);
                 return Progress {
                     bytes: to,
                     at: place,
-                    done: k,
-                    ended: true,
+                    done: k + 1,
+                    stop: Stop::Ended,
                 };
             }
         }
@@ -209,7 +208,7 @@ pub fn steps(
     Progress {
         bytes: to,
         at: place,
-        done: k,
-        ended: false,
+        done: done.max(budget),
+        stop: Stop::Paused,
     }
 }

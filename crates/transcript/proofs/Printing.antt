@@ -19,6 +19,8 @@ use Rattle.run.specs.Run.{most_steps}
 use Rattle.trace.specs.Trace.{column_heads, step_lines}
 use Rattle.trace.specs.Stepping.{Left, Traced}
 use Rattle.trace.specs.declared.Progress.{Progress}
+use Rattle.trace.specs.declared.Stop.{Stop}
+use Rattle.trace.specs.declared.Stop.TheVariants as stop
 use Rattle.trace.proofs.Lines.{lines_then, lines-whole}
 use Rattle.trace.proofs.Room.{heads-length}
 use Rattle.outcome.specs.Outcome.{Runs, Result, Refusal}
@@ -34,7 +36,7 @@ use Rattle.outcome.proofs.Unique.{runs-unique, runs-refused, result-runs}
 clash : false ≡ true → ⊥
 clash e = let z : ◌≡◌ {A = ℕ} 0 1 = cc in omega arith
 
-held-length : {p : Program} → Held p → length (statements p) ≡ p.count
+pub held-length : {p : Program} → Held p → length (statements p) ≡ p.count
 held-length {p = p} h = length-held p.entries p.count (omega (arith, h.room, h.few))
 
 -- b may come before the outcome: it is the lines of all steps, and nothing before a refusal
@@ -59,50 +61,33 @@ ready-lines b a e lines =
     }
 
 -- the lines of all steps of a run that ended
-pub ready-over : {t u : List ℕ} {trace : Bool} {k s : ℕ} {ws b : List ℕ} → (trace ≡ true) × Lines t u true k s ws b → Ready t u trace b
+pub ready-over : {t u : List ℕ} {trace : Bool} {k s : ℕ} {ws b : List ℕ} → (trace ≡ true) × Lines t u stop.Ended k s ws b → Ready t u trace b
 ready-over {k = k} {b = b} (e, l) =
     let o = l.left in
     ready-lines b l.runs e (l.lines ∙ ap (λ (x : List ℕ). column_heads ++ x) (lines-whole l.P l.values l.input k l.budget o.final o.ends.over l.within))
 
 -- and of one whose budget is spent
-pub ready-spent : {t u : List ℕ} {trace : Bool} {k s : ℕ} {ws b : List ℕ} (h : (trace ≡ true) × Lines t u false k s ws b) → h.1.budget ≤ k → Ready t u trace b
+pub ready-spent : {t u : List ℕ} {trace : Bool} {k s : ℕ} {ws b : List ℕ} (h : (trace ≡ true) × Lines t u stop.Paused k s ws b) → h.1.budget ≤ k → Ready t u trace b
 ready-spent {k = k} {b = b} (e, l) spent =
     let same : k ≡ l.budget = omega (arith, l.within) in
     ready-lines b l.runs e (l.lines ∙ ap (λ (n : ℕ). column_heads ++ step_lines l.P l.values l.input 0 n) same)
 
--- the run that was read has a further step, by the test of it
-pub record Further (t u : List ℕ) (run : Run) (p : Position) : Type 0 where
-  pub runs : Runs t u (statements run.program) run.values run.input run.budget
-  pub inside : p.at < length (statements run.program)
-  pub more : p.done < run.budget
+module _ {t u : List ℕ} {trace : Bool} (p : Position) (b : List ℕ) (h : HandedAt Steps t u trace p b) where
+  -- lines of steps come of a run that isn't refused
+  pub ready-none : ((P : List Statement) (vs : List ℕ) (input budget : ℕ) → Runs t u P vs input budget → ⊥) → Ready t u trace b
+  ready-none none = absurd (none h.1.P h.1.values h.1.input h.1.budget h.1.runs)
 
-module _ (t u : List ℕ) (run : Run) (p : Position) where
-  pub further : (taken : Bool) → RunRead t u taken run → ((taken && ltb p.at run.program.count) && ltb p.done run.budget) ≡ true → Further t u run p
-  further false r e = absurd (clash e)
-  further true r e = go (ltb p.at run.program.count) refl (ltb p.done run.budget) refl e
-    where
-      go : (a : Bool) → ltb p.at run.program.count ≡ a → (d : Bool) → ltb p.done run.budget ≡ d → (a && d) ≡ true → Further t u run p
-      go false i d j f = absurd (clash f)
-      go true i false j f = absurd (clash f)
-      go true i true j f =
-          record {
-            runs = r.0;
-            inside = omega (arith, ltb-true p.at run.program.count i, held-length r.1);
-            more = ltb-true p.done run.budget j;
-          }
-
-  pub ready-done : {trace : Bool} (b : List ℕ) (taken : Bool) → RunRead t u taken run → ((taken && ltb p.at run.program.count) && ltb p.done run.budget) ≡ false
-      → HandedAt Steps t u trace p b → Ready t u trace b
-  ready-done b false r e h = absurd (r h.1.P h.1.values h.1.input h.1.budget h.1.runs)
-  ready-done {trace = trace} b true r e h = go (ltb p.at run.program.count) refl (ltb p.done run.budget) refl e
+  -- and where it has no further step, they are those of all its steps
+  pub ready-done : {run : Run} → Runs t u (statements run.program) run.values run.input run.budget × Held run.program
+      → (run.program.count ≤ p.at) ⊎ (run.budget ≤ p.done) → Ready t u trace b
+  ready-done {run} r past = go past
     where
       same : (h.1.P ≡ statements run.program) × (h.1.values ≡ run.values) × (h.1.input ≡ run.input) × (h.1.budget ≡ run.budget)
       same = runs-unique h.1.runs r.0
 
-      go : (a : Bool) → ltb p.at run.program.count ≡ a → (d : Bool) → ltb p.done run.budget ≡ d → (a && d) ≡ false → Ready t u trace b
-      go false i d j f = absurd (omega (arith, ltb-false p.at run.program.count i, held-length r.1, h.1.left.0, ap length same.0))
-      go true i false j f = ready-spent h (omega (arith, ltb-false p.done run.budget j, same.3))
-      go true i true j f = absurd (clash (sym f))
+      go : (run.program.count ≤ p.at) ⊎ (run.budget ≤ p.done) → Ready t u trace b
+      go (inl x) = absurd (omega (arith, x, held-length r.1, h.1.left.0, ap length same.0))
+      go (inr x) = ready-spent h (omega (arith, x, same.3))
 
 moves-on : (p : Position) (r : Piece) → is_over p.stage ≡ false → left r.next < left p → Moves (is_over p.stage) p r
 moves-on p r g h = subst (λ (b : Bool). Moves b p r) (sym g) h
@@ -209,7 +194,7 @@ nothing-hands t u o trace p r e why =
     rested Refused is = rw is
 
 -- lines that were handed out are of the run that the texts ask for
-lines_of : {t u : List ℕ} {e : Bool} {k s : ℕ} {ws b : List ℕ} {P : List Statement} {vs : List ℕ} {input budget : ℕ} (l : Lines t u e k s ws b) → Runs t u P vs input budget
+lines_of : {t u : List ℕ} {e : Stop} {k s : ℕ} {ws b : List ℕ} {P : List Statement} {vs : List ℕ} {input budget : ℕ} (l : Lines t u e k s ws b) → Runs t u P vs input budget
     → (b ≡ column_heads ++ step_lines P vs input 0 k) × Left P vs input k e s ws
 lines_of {e = e} {k = k} {s = s} {ws = ws} {b = b} {P = P} {vs = vs} {input = input} l a =
     let same = runs-unique l.runs a in
@@ -221,8 +206,8 @@ lines_of {e = e} {k = k} {s = s} {ws = ws} {b = b} {P = P} {vs = vs} {input = in
 
 -- lines of further steps of a run that isn't refused
 module _ {t u o q us : List ℕ} (trace : Bool) {P : List Statement} {vs : List ℕ} {input budget : ℕ} (a : Runs t u P vs input budget) (p : Position) (is : p.stage ≡ Steps)
-    (room : transcript_room ≤ length o) (more : p.done < budget) (g : Progress) (x : Traced P input budget p.done p.at p.values o q us g) where
-  lines_more : (b : List ℕ) → Lines t u false p.done p.at p.values b → Lines t u g.ended g.done g.at us (b ++ x.w)
+    (room : transcript_room ≤ length o) (more : p.done < budget) (g : Progress Stop) (x : Traced P input budget p.done p.at p.values o q us g) where
+  lines_more : (b : List ℕ) → Lines t u stop.Paused p.done p.at p.values b → Lines t u g.stop g.done g.at us (b ++ x.w)
   lines_more b l =
       let old = lines_of l a in
       let y = x.goes vs old.1.1 in
@@ -239,33 +224,33 @@ module _ {t u o q us : List ℕ} (trace : Bool) {P : List Statement} {vs : List 
         left = y.left;
       }
 
-  lines-moves : (e : Bool) → g.ended ≡ e → pieces (stage_after e) g.done < 2 + (most_steps - p.done)
-  lines-moves true e = omega arith
-  lines-moves false e = omega (arith, x.further (omega arith) more, a.allowed)
+  lines-moves : (e : Stop) → g.stop ≡ e → pieces (stage_after e) g.done < 2 + (most_steps - p.done)
+  lines-moves stop.Ended e = omega arith
+  lines-moves stop.Paused e = omega (arith, x.further (omega arith) more, a.allowed)
 
-  lines-handed : (e : Bool) → g.ended ≡ e → trace ≡ true → (b : List ℕ) → Lines t u e g.done g.at us b
+  lines-handed : (e : Stop) → g.stop ≡ e → trace ≡ true → (b : List ℕ) → Lines t u e g.done g.at us b
       → HandedAt (stage_after e) t u trace (record { stage = stage_after e; at = g.at; done = g.done; values = us }) b
-  lines-handed true e traced b l = (traced, l)
-  lines-handed false e traced b l = (traced, l)
+  lines-handed stop.Ended e traced b l = (traced, l)
+  lines-handed stop.Paused e traced b l = (traced, l)
 
-  lines_rest : (e : Bool) (n : Position) → Rest (stage_after e) p n
-  lines_rest true n = tt
-  lines_rest false n = tt
+  lines_rest : (e : Stop) (n : Position) → Rest (stage_after e) p n
+  lines_rest stop.Ended n = tt
+  lines_rest stop.Paused n = tt
 
-  pub lines-hand : Hands t u trace p o q (record { bytes = g.bytes; next = record { stage = stage_after g.ended; at = g.at; done = g.done; values = us } })
+  pub lines-hand : Hands t u trace p o q (record { bytes = g.bytes; next = record { stage = stage_after g.stop; at = g.at; done = g.done; values = us } })
   lines-hand =
       record {
         w = x.w;
         put = x.put;
         fits = x.fits;
         reached = λ b h.
-            let l : (trace ≡ true) × Lines t u false p.done p.at p.values b = subst (λ (s : Stage). HandedAt s t u trace p b) is h in
-            lines-handed g.ended refl l.0 (b ++ x.w) (lines_more b l.1);
+            let l : (trace ≡ true) × Lines t u stop.Paused p.done p.at p.values b = subst (λ (s : Stage). HandedAt s t u trace p b) is h in
+            lines-handed g.stop refl l.0 (b ++ x.w) (lines_more b l.1);
         moves = λ l.
             let z : left p ≡ 2 + (most_steps - p.done) = ap (λ (s : Stage). pieces s p.done) is in
-            moves-on p _ (ap is_over is) (omega (arith, lines-moves g.ended refl));
+            moves-on p _ (ap is_over is) (omega (arith, lines-moves g.stop refl));
         stays = λ l. absurd (omega arith);
-        rest = lines_rest g.ended (record { stage = stage_after g.ended; at = g.at; done = g.done; values = us });
+        rest = lines_rest g.stop (record { stage = stage_after g.stop; at = g.at; done = g.done; values = us });
       }
 
 -- what a caller's loop asks: the piece lies within the lent bytes, and before the end one that has room leaves fewer

@@ -1,11 +1,9 @@
 -- What the parts of `next` answer: a proof device, with no claim of its own beside `Hands`.
-use Rattle.std.specs.Prelude.{◌≡◌, List, Bool, true, false, ℕ}
+use Rattle.std.specs.Prelude.{List, Option, Some, None, ◌≡◌, ℕ}
 use Rattle.language.specs.declared.Statement.{Statement}
 use Rattle.program.specs.Reading.{Held, statements}
-use Rattle.program.specs.declared.Answer as program
-use Rattle.program.specs.declared.Answer.TheVariants as read
-use Rattle.start.specs.declared.Answer as start
-use Rattle.start.specs.declared.Answer.TheVariants.{Taken, Few, Many, Line, Unended}
+use Rattle.trace.specs.declared.Stop.{Stop}
+use Rattle.trace.specs.declared.Stop.TheVariants as stop
 use Rattle.outcome.specs.Outcome.{Runs, Printed, Result, Refusal}
 use Rattle.transcript.specs.Transcript.{at_stage}
 use Rattle.transcript.specs.declared.Stage.{Stage}
@@ -14,26 +12,15 @@ use Rattle.transcript.specs.declared.Position.{Position}
 use Rattle.transcript.specs.declared.Piece.{Piece}
 use Rattle.transcript.specs.declared.Run.{Run}
 
-abbrev pub start_taken : start.Answer → Bool
-start_taken Taken = true
-start_taken Few = false
-start_taken Many = false
-start_taken (Line n) = false
-start_taken (Unended n) = false
-
-abbrev pub program_taken : program.Answer → Bool
-program_taken read.Taken = true
-program_taken (read.Refused r) = false
-
 -- the run that the texts ask for, or that it is refused
-abbrev pub RunRead : List ℕ → List ℕ → Bool → Run → Type 0
-RunRead t u true r = Runs t u (statements r.program) r.values r.input r.budget × Held r.program
-RunRead t u false r = (P : List Statement) (vs : List ℕ) (input budget : ℕ) → Runs t u P vs input budget → ⊥
+abbrev pub RunRead : List ℕ → List ℕ → Option Run → Type 0
+RunRead t u (Some r) = Runs t u (statements r.program) r.values r.input r.budget × Held r.program
+RunRead t u None = (P : List Statement) (vs : List ℕ) (input budget : ℕ) → Runs t u P vs input budget → ⊥
 
--- the stage after lines of steps, by whether the run ended with them
-abbrev pub stage_after : Bool → Stage
-stage_after true = Outcome
-stage_after false = Steps
+-- the stage after lines of steps, by why these stop
+abbrev pub stage_after : Stop → Stage
+stage_after stop.Ended = Outcome
+stage_after stop.Paused = Steps
 
 -- a result or a refusal is told
 abbrev pub ToldAt : Stage → List ℕ → List ℕ → List ℕ → List ℕ → ℕ → Type 0

@@ -6,6 +6,8 @@ use Rattle.language.specs.declared.Statement.{Statement}
 use Rattle.run.specs.Run.{most_steps}
 use Rattle.trace.specs.Trace.{column_heads, step_lines}
 use Rattle.trace.specs.Stepping.{Left}
+use Rattle.trace.specs.declared.Stop.{Stop}
+use Rattle.trace.specs.declared.Stop.TheVariants as stop
 use Rattle.outcome.specs.Outcome.{Runs, Result, Refusal, outcome_room}
 use Rattle.transcript.specs.declared.Stage.{Stage}
 use Rattle.transcript.specs.declared.Stage.TheVariants.{Begin, Steps, Outcome, Ended, Refused}
@@ -29,7 +31,7 @@ abbrev pub Output : List ℕ → List ℕ → Bool → List ℕ → Type 0
 Output t u trace b = Whole t u trace b ⊎ Refusal t u b
 
 -- b is the line over the columns and those of the run's first k steps; it ended with the last of them, or stands before place s with the values ws
-pub record Lines (t u : List ℕ) (ended : Bool) (k s : ℕ) (ws b : List ℕ) : Type 0 where
+pub record Lines (t u : List ℕ) (e : Stop) (k s : ℕ) (ws b : List ℕ) : Type 0 where
   pub P : List Statement
   pub values : List ℕ
   pub input : ℕ
@@ -37,13 +39,13 @@ pub record Lines (t u : List ℕ) (ended : Bool) (k s : ℕ) (ws b : List ℕ) :
   pub runs : Runs t u P values input budget
   pub within : k ≤ budget
   pub lines : b ≡ column_heads ++ step_lines P values input 0 k
-  pub left : Left P values input k ended s ws
+  pub left : Left P values input k e s ws
 
 -- printing stands at the position p after the text b was handed out
 abbrev pub HandedAt : Stage → List ℕ → List ℕ → Bool → Position → List ℕ → Type 0
 HandedAt Begin t u trace p b = b ≡ []
-HandedAt Steps t u trace p b = (trace ≡ true) × Lines t u false p.done p.at p.values b
-HandedAt Outcome t u trace p b = (trace ≡ true) × Lines t u true p.done p.at p.values b
+HandedAt Steps t u trace p b = (trace ≡ true) × Lines t u stop.Paused p.done p.at p.values b
+HandedAt Outcome t u trace p b = (trace ≡ true) × Lines t u stop.Ended p.done p.at p.values b
 HandedAt Ended t u trace p b = Whole t u trace b
 HandedAt Refused t u trace p b = Refusal t u b
 

@@ -4,11 +4,13 @@
 
 ghost use Rattle.std.specs.Prelude.{◌≡◌, true, ◌≤◌, length};
 ghost use Rattle.transcript.specs.Transcript.{is_over, beginning, at_stage, transcript_room, Hands};
-ghost use Rattle.transcript.specs.Pieces.{start_taken, program_taken, RunRead, stage_after, Tells};
+ghost use Rattle.transcript.specs.Pieces.{RunRead, stage_after, Tells};
 
+use desk::Failure;
 use machine::VALUES;
-use outcome::{OUTCOME_ROOM, Told};
+use outcome::OUTCOME_ROOM;
 use program::Program;
+use trace::Stop;
 
 // A piece needs this many bytes: those of the longest outcome, in which a trace's longest line has room too.
 pub const TRANSCRIPT_ROOM: usize = OUTCOME_ROOM;
@@ -44,7 +46,6 @@ pub struct Piece {
 // The run that the texts ask for, where both are taken.
 #[derive(Clone, Copy)]
 struct Run {
-    taken: bool,
     program: Program,
     input: u32,
     budget: u32,
@@ -66,14 +67,7 @@ pub fn first() -> Position
 pub fn over(p: Position) -> bool
     ensures { result ≡ is_over p.stage }
 {
-    let stage = p.stage;
-    match stage {
-        Stage::Begin => false,
-        Stage::Steps => false,
-        Stage::Outcome => false,
-        Stage::Ended => true,
-        Stage::Refused => true,
-    }
+    matches!(p.stage, Stage::Ended | Stage::Refused)
 }
 
 fn at_stage(p: Position, stage: Stage) -> Position
@@ -93,61 +87,41 @@ fn tell(program: &[u8], start: &[u8], from: Position, out: &mut [u8]) -> Piece
     requires { transcript_room ≤ length out.old }
     ensures { Tells program.now start.now from out.old out.new result }
 {
-    let told = outcome::outcome(program, start, out);
-    match told {
-        Told::Written(n) => Piece {
+    match outcome::outcome(program, start, out) {
+        Ok(n) => Piece {
             bytes: n,
             next: at_stage(from, Stage::Ended),
         },
-        Told::Refused(n) => Piece {
+        Err(Failure::Refused(n)) => Piece {
             bytes: n,
             next: at_stage(from, Stage::Refused),
         },
-        Told::NoRoom => Piece {
+        Err(Failure::NoRoom) => Piece {
             bytes: 0,
             next: from,
         },
     }
 }
 
-fn start_taken(a: start::Answer) -> bool
-    ensures { result ≡ start_taken a }
+fn run_of(program: &[u8], start: &[u8]) -> Option<Run>
+    ensures { RunRead program.now start.now result }
 {
-    match a {
-        start::Answer::Taken => true,
-        start::Answer::Few => false,
-        start::Answer::Many => false,
-        start::Answer::Line(_) => false,
-        start::Answer::Unended(_) => false,
+    let Ok(taken) = start::read(start) else {
+        return None;
+    };
+    let Ok(program) = program::read(program) else {
+        return None;
+    };
+    if run::MOST_STEPS < taken.budget {
+        return None;
     }
-}
-
-fn program_taken(a: program::Answer) -> bool
-    ensures { result ≡ program_taken a }
-{
-    match a {
-        program::Answer::Taken => true,
-        program::Answer::Refused(_) => false,
-    }
-}
-
-fn run_of(program: &[u8], start: &[u8]) -> Run
-    ensures { RunRead program.now start.now result.taken result }
-{
-    let read = start::read(start);
-    let first = read.answer;
-    let values = read.values;
-    let reading = program::read(program);
-    let second = reading.answer;
-    let p = reading.program;
-    let taken = start_taken(first) & program_taken(second);
-    Run {
-        taken: taken & (read.budget <= run::MOST_STEPS),
-        program: p,
-        input: read.input,
-        budget: read.budget,
-        values: values,
-    }
+    let values = taken.values;
+    Some(Run {
+        program,
+        input: taken.input,
+        budget: taken.budget,
+        values,
+    })
 }
 
 // The line over the columns, where the run stands before its first statement; one that is refused is told at once.
@@ -156,10 +130,9 @@ fn begin(program: &[u8], start: &[u8], from: Position, out: &mut [u8]) -> Piece
     requires transcript_room_in_bounds { transcript_room ≤ length out.old }
     ensures { Hands program.now start.now true from out.old out.new result }
 {
-    let run = run_of(program, start);
-    if !run.taken {
+    let Some(run) = run_of(program, start) else {
         return tell(program, start, from, out);
-    }
+    };
     let values = run.values;
     Piece {
         bytes: trace::heads(out),
@@ -172,10 +145,13 @@ fn begin(program: &[u8], start: &[u8], from: Position, out: &mut [u8]) -> Piece
     }
 }
 
-fn stage_after(ended: bool) -> Stage
-    ensures { result ≡ stage_after ended }
+fn stage_after(stop: Stop) -> Stage
+    ensures { result ≡ stage_after stop }
 {
-    if ended { Stage::Outcome } else { Stage::Steps }
+    match stop {
+        Stop::Ended => Stage::Outcome,
+        Stop::Paused => Stage::Steps,
+    }
 }
 
 // Lines of further steps, or the outcome where the budget is spent.
@@ -184,22 +160,27 @@ fn steps(program: &[u8], start: &[u8], trace: bool, from: Position, out: &mut [u
     requires transcript_room_in_bounds { transcript_room ≤ length out.old }
     ensures { Hands program.now start.now trace from out.old out.new result }
 {
-    let run = run_of(program, start);
-    let p = run.program;
-    let n = p.count;
-    let at = from.at;
-    let done = from.done;
-    let budget = run.budget;
-    let more = run.taken & ((at as usize) < n) & (done < budget);
-    if !more {
+    let Some(run) = run_of(program, start) else {
+        return tell(program, start, from, out);
+    };
+    if run.program.count <= from.at as usize || run.budget <= from.done {
         return tell(program, start, from, out);
     }
     let mut values = from.values;
-    let r = trace::steps(p, at, done, run.input, budget, &mut values, out);
+    let p = run.program;
+    let r = trace::steps(
+        p,
+        from.at,
+        from.done,
+        run.input,
+        run.budget,
+        &mut values,
+        out,
+    );
     Piece {
         bytes: r.bytes,
         next: Position {
-            stage: stage_after(r.ended),
+            stage: stage_after(r.stop),
             at: r.at,
             done: r.done,
             values: values,
@@ -217,8 +198,7 @@ pub fn next(program: &[u8], start: &[u8], trace: bool, from: Position, out: &mut
             next: from,
         };
     }
-    let stage = from.stage;
-    match stage {
+    match from.stage {
         Stage::Begin => {
             if trace {
                 return begin(program, start, from, out);
@@ -227,11 +207,7 @@ pub fn next(program: &[u8], start: &[u8], trace: bool, from: Position, out: &mut
         }
         Stage::Steps => steps(program, start, trace, from, out),
         Stage::Outcome => tell(program, start, from, out),
-        Stage::Ended => Piece {
-            bytes: 0,
-            next: from,
-        },
-        Stage::Refused => Piece {
+        Stage::Ended | Stage::Refused => Piece {
             bytes: 0,
             next: from,
         },

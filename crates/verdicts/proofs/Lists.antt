@@ -2,8 +2,8 @@
 use mathlib.Core.Path.{◌≡◌, refl, sym, ◌∙◌}
 use mathlib.Core.Bool.{Bool, true, false, ◌||◌}
 use mathlib.Core.List.{List, [], ◌∷◌, ◌++◌}
-use mathlib.Core.Logic.{◌⊎◌, inl, inr, ⊎_elim, ◌↔◌}
-use Prim.Native.Nat.{ℕ, ◌+◌, ◌-◌, ◌≤◌, ◌<◌}
+use mathlib.Core.Logic.{inl, inr, ⊎_elim, ◌↔◌}
+use Prim.Native.Nat.{ℕ, ◌+◌, ◌≤◌, ◌<◌}
 use native.Mathlib.Numerals.{add-one}
 use native.Mathlib.Omega.{arith}
 use borrow.Author.Count.{below_more}
@@ -23,8 +23,7 @@ use Rattle.marks.specs.Reading.{MarkLineRead}
 use Rattle.marks.specs.Reading as marks
 use Rattle.marks.specs.declared.Mark.{Mark}
 use Rattle.marks.specs.declared.Mark.TheVariants.{Rm, Rpl, Cse}
-use Rattle.marks.specs.declared.read.MarkRead.{MarkRead}
-use Rattle.marks.specs.declared.read.MarkRead.TheVariants as markRead
+use Rattle.std.specs.Prelude.{Option, Some, None}
 use Rattle.marks.proofs.Walk.{Begins, begins-first, line-mark, line-next, line-inside, line-found, text-line, text-done}
 use Rattle.rewriting.specs.Verdicts.{number, Inside, Named, place, Judged, Reuses, Stands}
 use Rattle.rewriting.specs.declared.Verdict.{Verdict}
@@ -102,15 +101,15 @@ not-reusing P earlier (Rpl n y a) v b is h f x s r = r
 not-reusing P earlier (Cse n t e) v b is h f x s r = f (is ∙ accepted-zero (uses_of P) P earlier (Cse n t e) v r.2 h)
 
 -- no line is found misspelled in a list that is taken, and each is one of at most `marks.most`
-pub never-misspelled : {t : List ℕ} {ms : List Mark} {j at : ℕ} → Begins t ms j at → at < length t → {r : MarkRead} → r ≡ markRead.Misspelled → MarkLineRead t at r → ⊥
+pub never-misspelled : {t : List ℕ} {ms : List Mark} {j at : ℕ} → Begins t ms j at → at < length t → {r : Option (Mark × ℕ)} → r ≡ None → MarkLineRead t at r → ⊥
 never-misspelled b h is l = line-found b is l (text-line b h)
 
-pub line-below : {t : List ℕ} {ms : List Mark} {j at : ℕ} → Begins t ms j at → marks.Taken t ms → {r : MarkRead} {m : Mark} {k : ℕ}
-    → r ≡ markRead.Found m k → MarkLineRead t at r → j < marks.most
+pub line-below : {t : List ℕ} {ms : List Mark} {j at : ℕ} → Begins t ms j at → marks.Taken t ms → {r : Option (Mark × ℕ)} {m : Mark} {k : ℕ}
+    → r ≡ Some (m, k) → MarkLineRead t at r → j < marks.most
 line-below b t is l = let h = line-inside b is l in let f = t.few in omega arith
 
 module _ {P : List Statement} {t : List ℕ} {ms : List Mark} {old new row : List ℕ} {reused : Bool} {j at : ℕ} (s : JudgedSoFar P t ms old new row reused j at) where
-  module _ {r : MarkRead} {m : Mark} {k : ℕ} (is : r ≡ markRead.Found m k) (l : MarkLineRead t at r) where
+  module _ {r : Option (Mark × ℕ)} {m : Mark} {k : ℕ} (is : r ≡ Some (m, k)) (l : MarkLineRead t at r) where
     mark-is : m ≡ mark_at ms j
     mark-is = line-mark s.begins is l _
 

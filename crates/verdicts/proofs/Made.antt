@@ -10,7 +10,6 @@ use lib.Dec.{eqb}
 use lib.ListN.{length, get_or, take, set}
 use lib.Seq.{get_or-set_same, get_or-set_other}
 use Rattle.language.specs.declared.Statement.{Statement}
-use Rattle.language.specs.declared.Statement.TheVariants.{Read}
 use Rattle.program.specs.Program.{most}
 use Rattle.program.specs.Program as program
 use Rattle.program.specs.Reading.{statements, Held}
@@ -23,8 +22,7 @@ use Rattle.bits.proofs.Counts.{count-le, count-one, count_none}
 use Rattle.marks.specs.Marks.{names, Spells, mark_at}
 use Rattle.marks.specs.Reading.{MarkLineRead, Taken}
 use Rattle.marks.specs.declared.Mark.{Mark}
-use Rattle.marks.specs.declared.read.MarkRead.{MarkRead}
-use Rattle.marks.specs.declared.read.MarkRead.TheVariants as markRead
+use Rattle.std.specs.Prelude.{Option, Some, None}
 use Rattle.marks.proofs.Walk.{Begins, begins-first, line-mark, line-next, line-inside, text-done}
 use Rattle.lockstep.specs.Rules.{makes}
 use Rattle.rewriting.specs.Verdicts.{Named, place, Judged, Widened, Verdicts, accepted_count, Rewritten}
@@ -55,7 +53,7 @@ unfolding count_below
 made_none s = record { begins = begins-first s; made = λ i l. absurd (omega arith); kept = λ s f. refl; counted = refl }
 
 module _ {given es : List Entry} {t : List ℕ} {ms : List Mark} {vs : List ℕ} {accepted j at : ℕ} (s : MadeSoFar given es t ms vs accepted j at) where
-  module _ {r : MarkRead} {m : Mark} {k : ℕ} (is : r ≡ markRead.Found m k) (l : MarkLineRead t at r) where
+  module _ {r : Option (Mark × ℕ)} {m : Mark} {k : ℕ} (is : r ≡ Some (m, k)) (l : MarkLineRead t at r) where
     mark-is : m ≡ mark_at ms j
     mark-is = line-mark s.begins is l _
 

@@ -18,7 +18,6 @@ ghost use Rattle.verdicts.specs.Judging.{JudgedBy, Notes, Reusing, Reused, SomeT
 use codes::CODE_WORDS;
 use language::Statement;
 use marks::Mark;
-use marks::read::MarkRead;
 use program::{MOST, Program};
 use rewriting::Verdict;
 use table::WORDS;
@@ -130,20 +129,21 @@ pub fn judge(
     let mut keys = published_rows::blank_keys();
     let mut memory = published_rows::blank_memory();
     let mut reused = false;
+    // A `while`: each line tells where the next one begins, so no slice or range has the lines that a `for` would go over.
     let mut j: usize = 0;
     let mut at: usize = 0;
     while at < marks.len() {
-        let MarkRead::Found(m, k) = marks::read::line(marks, at) else {
+        let Some((m, k)) = marks::read::line(marks, at) else {
             return reused;
         };
         let place = place_of(m);
         let e = p.entries[place];
         let i = encoding::statement_of(e);
         let v = verdict_of(m, i, n, rows, codes, flow, &named, &mut keys, &mut memory);
-        let b = rewriting::number_of(v);
+        let b = u8::from(v);
         verdicts[j] = b;
         note(m, v, &mut named);
-        reused = reused | is_reuse(m, b);
+        reused |= is_reuse(m, b);
         j += 1;
         at = k;
     }
@@ -166,10 +166,11 @@ pub fn rewrite(marks: &[u8], p: Program, verdicts: &[u8]) -> Rewriting
     let count = p.count;
     let mut entries = p.entries;
     let mut accepted: u32 = 0;
+    // A `while`: each line tells where the next one begins, so no slice or range has the lines that a `for` would go over.
     let mut j: usize = 0;
     let mut at: usize = 0;
     while at < marks.len() {
-        let MarkRead::Found(m, k) = marks::read::line(marks, at) else {
+        let Some((m, k)) = marks::read::line(marks, at) else {
             return Rewriting {
                 program: p,
                 accepted: 0,
@@ -182,12 +183,9 @@ pub fn rewrite(marks: &[u8], p: Program, verdicts: &[u8]) -> Rewriting
             let i = encoding::statement_of(e);
             entries[place] = encoding::entry_of(making::makes(m, i));
             accepted += 1;
-            j += 1;
-            at = k;
-        } else {
-            j += 1;
-            at = k;
         }
+        j += 1;
+        at = k;
     }
     Rewriting {
         program: Program {

@@ -1,5 +1,5 @@
 -- What the viewer prints, for every program text and condition text: the condition's parts, and the statements at which each is true.
-use Rattle.std.specs.Prelude.{◌≡◌, Bool, true, false, ◌⊎◌, ◌↔◌, List, [], ◌∷◌, ◌++◌, ℕ, zero, suc, ◌+◌, ◌-◌, ◌*◌, ◌/◌, ◌%◌, ◌≤◌, ◌<◌, ltb, length}
+use Rattle.std.specs.Prelude.{◌≡◌, Bool, true, false, ◌⊎◌, ◌↔◌, List, [], ◌∷◌, ◌++◌, ℕ, zero, suc, ◌+◌, ◌-◌, ◌*◌, ◌/◌, ◌%◌, ◌≤◌, ◌<◌, ltb, length, Result, Ok, Err}
 use Rattle.base.specs.Pick.{pick}
 use Rattle.base.specs.Bytes.{byte, bytes}
 use Rattle.language.specs.Spelling.{digits, spell}
@@ -19,8 +19,8 @@ use Rattle.blame.specs.Blame.{Blames}
 use Rattle.condition_blame.specs.Blame.{Blamed}
 use Rattle.desk.specs.Columns.{number_columns, statement_columns, spaces, wide, padded}
 use Rattle.desk.specs.Refusals.{refusal_text}
-use Rattle.view.specs.declared.Viewed.{Viewed}
-use Rattle.view.specs.declared.Viewed.TheVariants.{Written, Refused, NoRoom}
+use Rattle.desk.specs.declared.Failure.{Failure}
+use Rattle.desk.specs.declared.Failure.TheVariants.{Refused, NoRoom}
 
 -- the texts f 0, f 1 .. of the first n, one after another
 unfoldable pub up_to : ℕ → (ℕ → List ℕ) → List ℕ
@@ -132,7 +132,7 @@ pub record Printed (Says : List ℕ → Type 0) (o q : List ℕ) (n : ℕ) : Typ
   pub written : Put o 0 w q n
 
 -- too few bytes are kept as they are
-abbrev pub Views : List ℕ → List ℕ → List ℕ → List ℕ → Viewed → Type 0
-Views t u o q (Written n) = Printed (PrintsView t u) o q n
-Views t u o q (Refused n) = Printed (PrintsRefusal t u) o q n
-Views t u o q NoRoom = (length o < view_room) × (q ≡ o)
+abbrev pub Views : List ℕ → List ℕ → List ℕ → List ℕ → Result ℕ Failure → Type 0
+Views t u o q (Ok n) = Printed (PrintsView t u) o q n
+Views t u o q (Err (Refused n)) = Printed (PrintsRefusal t u) o q n
+Views t u o q (Err NoRoom) = (length o < view_room) × (q ≡ o)

@@ -1,18 +1,15 @@
 -- Proof devices: what the contracts of the functions that put the view together ask. No sentence of document 01 stands here.
-use Rattle.std.specs.Prelude.{◌≡◌, Bool, ◌⊎◌, List, ℕ, ◌+◌, ◌-◌, ◌*◌, ◌≤◌, ◌<◌, length}
+use Rattle.std.specs.Prelude.{◌≡◌, Bool, List, ℕ, ◌+◌, ◌-◌, ◌*◌, ◌≤◌, ◌<◌, length}
 use Rattle.statement_writer.specs.Writing.{Put}
 use Rattle.language.specs.declared.Statement.{Statement}
-use Rattle.program.specs.Program.{Taken, most}
-use Rattle.program.specs.Reading.{Refused, number, Held, statements}
+use Rattle.program.specs.Program.{most}
+use Rattle.program.specs.Reading.{Held, statements}
 use Rattle.program.specs.declared.Program.{Program}
-use Rattle.program.specs.declared.Refusal.{Refusal}
 use Rattle.bits.specs.Row.{member}
 use Rattle.condition.specs.Condition.{Condition}
 use Rattle.condition.specs.Texts as condition
 use Rattle.condition.specs.Words as condition-words
 use Rattle.tabulate.specs.Tabulate.{table_words}
-use Rattle.blame.specs.Blame.{Blames}
-use Rattle.condition_blame.specs.Blame.{Blamed}
 use Rattle.desk.specs.Refusals.{refusal_text}
 use Rattle.view.specs.View.{part_lines, columns, head_row, row as rowText, rows, tens, units, mark, view_text}
 use Rattle.view.specs.declared.Row.{Row}
@@ -79,8 +76,6 @@ pub record ViewFits (u ws table : List ℕ) (p : Program) (n satisfied first roo
   pub tabled : Tabled table n
   pub fits : length (view_text (statements p) c (truth_in table) satisfied first) ≤ room
 
--- the program's refusal, with its line; or, where the program is taken, the refusal n, with the condition's byte
-abbrev pub RefusalPut : List ℕ → List ℕ → ℕ → List ℕ → List ℕ → ℕ → Type 0
-RefusalPut t u n o q next =
-    ((r : Refusal) × Refused t r × (line : ℕ) × Blames t r line × (length (refusal_text (number r) line) ≤ length o) × Put o 0 (refusal_text (number r) line) q next)
-    ⊎ ((P : List Statement) × Taken t P × (byte : ℕ) × Blamed u byte × (length (refusal_text n byte) ≤ length o) × Put o 0 (refusal_text n byte) q next)
+-- the text of the refusal n, with the line or the byte that it is about
+abbrev pub RefusalPut : ℕ → ℕ → List ℕ → List ℕ → ℕ → Type 0
+RefusalPut n line o q next = (length (refusal_text n line) ≤ length o) × Put o 0 (refusal_text n line) q next

@@ -14,10 +14,12 @@ ghost use Rattle.base.specs.Pick.{pick};
 ghost use Rattle.view.specs.Writing.{truth_in, byte_in, Placed, Tabled, ColumnsFit, HeadFits, RowFits, RowsFit, PartsFit, ViewFits, RefusalPut};
 
 use condition::{END, FIELD, MOST_BYTES, MOST_PARTS, START};
+use desk::Failure;
 use desk::columns::{NUMBER_COLUMNS, STATEMENT_COLUMNS};
 use language::Statement;
 use program::Program;
-use tabulate::{TABLE_WORDS, TabulateAnswer};
+use refusals::Numbered;
+use tabulate::TABLE_WORDS;
 
 // The columns of a part's number, and of a row before its marks.
 pub const PART_COLUMNS: usize = 2;
@@ -31,14 +33,6 @@ const ROW_ROOM: usize = MARGIN + MOST_PARTS + 3;
 const LAST_ROOM: usize = 6 + PART_COLUMNS + 11 + NUMBER_COLUMNS + 7 + NUMBER_COLUMNS + 1;
 
 pub const VIEW_ROOM: usize = MOST_PARTS * PART_ROOM + (program::MOST + 2) * ROW_ROOM + LAST_ROOM;
-
-// Written: the number of bytes of the view. Refused: the same of a refusal's text. NoRoom: under VIEW_ROOM bytes are lent.
-#[derive(Clone, Copy)]
-pub enum Viewed {
-    Written(usize),
-    Refused(usize),
-    NoRoom,
-}
 
 // What stands in the columns of the parts: digits of their numbers, or their marks at a place.
 #[derive(Clone, Copy)]
@@ -80,10 +74,8 @@ fn write_columns(out: &mut [u8], at: usize, table: &[u64], row: Row, n: usize) -
 {
     let last = n - 1;
     let mut to = at;
-    let mut k: usize = 0;
-    while k < last {
+    for k in 0..last {
         to = statement_writer::byte(out, to, byte_in(table, row, k));
-        k += 1;
     }
     let k1 = desk::columns::spaces(out, to, 2);
     statement_writer::byte(out, k1, byte_in(table, row, last))
@@ -119,12 +111,10 @@ fn write_rows(out: &mut [u8], at: usize, table: &[u64], n: usize, p: Program) ->
     let entries = p.entries;
     let count = p.count;
     let mut to = at;
-    let mut s: usize = 0;
-    while s < count {
+    for s in 0..count {
         let e = entries[s];
         let i = encoding::statement_of(e);
         to = write_row(out, to, table, n, s, i);
-        s += 1;
     }
     to
 }
@@ -146,13 +136,11 @@ fn write_parts(out: &mut [u8], at: usize, text: &[u8], words: [u64; MOST_PARTS],
     ensures { (c : Condition) → Taken text.now c → Put out.old at (part_lines c) out.new result }
 {
     let mut to = at;
-    let mut k: usize = 0;
-    while k < n {
+    for k in 0..n {
         let w = words[k];
         let start = (w / START % FIELD) as usize;
         let end = (w / END) as usize;
         to = write_part(out, to, k, &text[start..end]);
-        k += 1;
     }
     to
 }
@@ -192,23 +180,12 @@ fn write_view(
     write_last(out, k4, n, satisfied, first)
 }
 
-// The program's refusal, with the line that it is about; where the program is taken, the refusal n, with the byte of the condition that it
-// is about.
-fn write_refusal(out: &mut [u8], program: &[u8], condition: &[u8], n: u8) -> usize
+// The refusal n, with the line or the byte that it is about.
+fn write_refusal(out: &mut [u8], n: u8, line: u32) -> usize
     requires { refusal_room ≤ length out.old }
-    ensures { RefusalPut program.now condition.now n out.old out.new result }
+    ensures { RefusalPut n line out.old out.new result }
 {
-    let reading = program::read(program);
-    let answer = reading.answer;
-    if let program::Answer::Refused(refusal) = answer {
-        return desk::refusals::refusal(
-            out,
-            0,
-            program::number_of(refusal),
-            blame::line_of(program, refusal),
-        );
-    }
-    desk::refusals::refusal(out, 0, n, condition_blame::byte_of(condition))
+    desk::refusals::refusal(out, 0, n, line)
 }
 
 fn table_buffer() -> [u64; TABLE_WORDS]
@@ -217,23 +194,39 @@ fn table_buffer() -> [u64; TABLE_WORDS]
     [0; TABLE_WORDS]
 }
 
-// Puts what the viewer prints for the program's text and the condition's text at the front of the lent bytes.
-pub fn view(program: &[u8], condition: &[u8], out: &mut [u8]) -> Viewed
+// Puts what the viewer prints for the program's text and the condition's text at the front of the lent bytes. NoRoom: under VIEW_ROOM bytes
+// are lent.
+pub fn view(program: &[u8], condition: &[u8], out: &mut [u8]) -> Result<usize, Failure>
     ensures { Views program.now condition.now out.old out.new result }
 {
     if out.len() < VIEW_ROOM {
-        return Viewed::NoRoom;
+        return Err(Failure::NoRoom);
     }
-    let mut table = table_buffer();
-    let answer = tabulate::tabulate(program, condition, &mut table);
-    match answer {
-        TabulateAnswer::Refused(n) => Viewed::Refused(write_refusal(out, program, condition, n)),
-        TabulateAnswer::Filled(n, satisfied, first) => {
-            let reading = program::read(program);
-            let p = reading.program;
-            let conditions = condition_reader::read(condition);
-            let words = conditions.words;
-            Viewed::Written(write_view(out, condition, words, &table, p, n, satisfied, first))
+    let p = match program::read(program) {
+        Ok(p) => p,
+        Err(refusal) => {
+            let line = blame::line_of(program, refusal);
+            return Err(Failure::Refused(write_refusal(out, refusal.number(), line)));
         }
-    }
+    };
+    let c = match condition_reader::read(condition) {
+        Ok(c) => c,
+        Err(refusal) => {
+            let byte = condition_blame::byte_of(condition);
+            return Err(Failure::Refused(write_refusal(out, refusal.number(), byte)));
+        }
+    };
+    let mut table = table_buffer();
+    let mut flow = flow::blank();
+    let summary = tabulate::fill(p, condition, c.words, c.count, &mut flow, &mut table);
+    Ok(write_view(
+        out,
+        condition,
+        c.words,
+        &table,
+        p,
+        c.count,
+        summary.satisfied,
+        summary.first,
+    ))
 }

@@ -7,9 +7,9 @@ mod frame;
 
 ghost use Rattle.std.specs.Prelude.{length, ◌≤◌};
 
-use files::{FileRead, REFUSAL, RESULT, UNREAD, UNWRITTEN};
-use tokens::WordRead;
-use view::{VIEW_ROOM, Viewed};
+use desk::Failure;
+use files::{REFUSAL, RESULT, UNREAD, UNWRITTEN};
+use view::VIEW_ROOM;
 
 // The first argument is read into so many bytes: a longer one isn't the word.
 const WORD_ROOM: usize = 16;
@@ -18,23 +18,16 @@ const WORD_ROOM: usize = 16;
 fn without_end(text: &[u8]) -> usize
     ensures { result ≤ length text.now }
 {
-    let n = text.len();
-    if n == 0 {
-        return 0;
-    }
-    if text[n - 1] != 10 {
-        return n;
-    }
-    n - 1
+    text.strip_suffix(b"\n").unwrap_or(text).len()
 }
 
 fn print(rt: &HostRuntime, program: &[u8], condition: &[u8]) -> u8 {
     let end = without_end(condition);
     let mut out = [0u8; VIEW_ROOM];
     match view::view(program, &condition[..end], &mut out) {
-        Viewed::Written(n) => files::print(rt, &out[..n], RESULT),
-        Viewed::Refused(n) => files::print(rt, &out[..n], REFUSAL),
-        Viewed::NoRoom => UNWRITTEN,
+        Ok(n) => files::print(rt, &out[..n], RESULT),
+        Err(Failure::Refused(n)) => files::print(rt, &out[..n], REFUSAL),
+        Err(Failure::NoRoom) => UNWRITTEN,
     }
 }
 
@@ -50,9 +43,9 @@ fn print_page(rt: &HostRuntime, program: &[u8], condition: &[u8]) -> u8 {
     let end = without_end(condition);
     let mut out = page::buffer();
     match page::page(program, &condition[..end], &mut out) {
-        Viewed::Written(n) => print_around(rt, &out[..n], RESULT),
-        Viewed::Refused(n) => print_around(rt, &out[..n], REFUSAL),
-        Viewed::NoRoom => UNWRITTEN,
+        Ok(n) => print_around(rt, &out[..n], RESULT),
+        Err(Failure::Refused(n)) => print_around(rt, &out[..n], REFUSAL),
+        Err(Failure::NoRoom) => UNWRITTEN,
     }
 }
 
@@ -67,7 +60,7 @@ fn show(rt: &HostRuntime, page: bool, program: &[u8], condition: &[u8]) -> u8 {
 fn asks_page(rt: &HostRuntime) -> bool {
     let mut first = [0u8; WORD_ROOM];
     let n = files::arg(rt, 1, &mut first);
-    let WordRead::Found(k) = tokens::word(&first[..n], 0, b"--html") else {
+    let Some(k) = tokens::word(&first[..n], 0, b"--html") else {
         return false;
     };
     k == n
@@ -89,11 +82,11 @@ fn view_files(rt: &HostRuntime, page: bool, first: usize) -> u8
         return UNREAD;
     }
     let mut given = files::room();
-    let FileRead::Whole(m) = files::read(rt, first, b"given", &mut given) else {
+    let Ok(m) = files::read(rt, first, b"given", &mut given) else {
         return UNREAD;
     };
     let mut text = files::room();
-    let FileRead::Whole(n) = files::read(rt, first + 1, b"condition", &mut text) else {
+    let Ok(n) = files::read(rt, first + 1, b"condition", &mut text) else {
         return UNREAD;
     };
     show(rt, page, &given[..m], &text[..n])

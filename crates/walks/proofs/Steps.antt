@@ -1,10 +1,10 @@
 -- Words of a path one by one, and what each step of a walk makes of the records. Assumes nothing.
-use mathlib.Core.Path.{◌≡◌, refl, sym, ap, ◌∙◌, subst}
+use mathlib.Core.Path.{◌≡◌, refl, sym, ap, ◌∙◌}
 use mathlib.Core.List.{List, [], ◌∷◌, ◌++◌}
 use mathlib.Core.Bool.{Bool, true, false, not}
 use mathlib.Core.Logic.{◌⊎◌, inl, inr, ⊎_elim}
 use Prim.Native.Nat.{ℕ, zero, suc, ◌+◌, ◌-◌, ◌≤◌, ◌<◌}
-use native.Mathlib.Decide.{dec_lt, ℕ_discrete}
+use native.Mathlib.Decide.{ℕ_discrete}
 use native.Mathlib.Omega.{arith}
 use lib.ListN.{length, get_or, set, length-set}
 use lib.Seq.{get_or-set_same, get_or-set_other}
@@ -13,7 +13,7 @@ use borrow.Author.Tests.{eq-eqb, ne_eqb}
 use Rattle.base.proofs.Bools.{split, clash}
 use Rattle.bits.specs.Row.{count_below}
 use Rattle.bits.proofs.Counts.{count-le, count_less}
-use Rattle.ctl.specs.Paths.{So, Graph}
+use Rattle.ctl.specs.Paths.{Graph}
 use Rattle.graph.specs.Lists.{step, listed, Linked, From}
 use Rattle.graph.proofs.Lists.{listed-end}
 use Rattle.graph.proofs.Walk.{Passed, linked-from, passed_none, passed-room, passed_first, passed-split, passed-next}
@@ -21,7 +21,7 @@ use Rattle.worklist.specs.Worklist.{Skipped}
 use Rattle.worklist.proofs.Stack.{work-room}
 use Rattle.forcing.specs.Numbers.{none, number_of, numbered}
 use Rattle.forcing.proofs.Steps.{numbered-some, numbered-none}
-use Rattle.lassos.specs.Lassos.{place, last, Way, Reaches}
+use Rattle.lassos.specs.Lassos.{place, Way}
 use Rattle.lassos.specs.Distances.{Distances}
 use Rattle.lassos.proofs.Ways.{way-inside, more-length, more-front, more-end, more-last, more-each, way-front, way-last, way-one, way-more}
 use Rattle.lassos.proofs.Shortest.{number-below}

@@ -1,6 +1,6 @@
 -- Proof devices: what the functions that walk along the steps of a graph establish. No sentence of the documents stands here.
-use Rattle.std.specs.Prelude.{◌≡◌, List, Bool, true, false, ℕ, suc, ◌+◌, ◌≤◌, ◌<◌, length, get_or}
-use Rattle.ctl.specs.Paths.{So, Graph}
+use Rattle.std.specs.Prelude.{◌≡◌, List, Bool, true, false, ℕ, suc, ◌+◌, ◌≤◌, ◌<◌, length}
+use Rattle.ctl.specs.Paths.{So}
 use Rattle.forcing.specs.Numbers.{none, number_of, numbered}
 use Rattle.lassos.specs.Lassos.{Way, Lasso, Each, Reaches}
 use Rattle.lassos.specs.Distances.{Distances}

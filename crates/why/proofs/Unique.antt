@@ -11,18 +11,21 @@ use Rattle.lassos.specs.Lassos.{place, last}
 use Rattle.marks.specs.Reading as marks
 use Rattle.marks.specs.Marks.{mark_at}
 use Rattle.marks.specs.declared.Mark.{Mark}
+use Rattle.marks.specs.declared.Refusal as marks-refusal
 use Rattle.marks.proofs.Lists as marks-unique
 use Rattle.rewriting.specs.Verdicts.{number, Widened}
 use Rattle.rewriting.specs.declared.Verdict.{Verdict}
 use Rattle.rewriting.specs.declared.Verdict.TheVariants.{Accepted, Missing, Repeated, Unfit, MayFault, Unmet}
 use Rattle.rewriting.proofs.Unique.{verdict-unique}
+use Rattle.std.specs.Prelude.{Result, Ok, Err}
+use Rattle.calls.specs.Refusals.{number_of}
+use Rattle.calls.specs.declared.Refusal.{Refusal}
 use Rattle.calls.proofs.Unique.{refuses-unique, refuses-not}
 use Rattle.explain.specs.Explain.{path_words}
 use Rattle.refused_marks.specs.RefusedMarks.{Culprit, PathOf}
 use Rattle.refused_marks.proofs.Culprits.{culprit-unique}
 use Rattle.why.specs.Why.{WhyRefused, LineVerdict, BecauseOf, WhyTold, WhyAnswers}
 use Rattle.why.specs.declared.Because.{Because}
-use Rattle.why.specs.declared.Because.TheVariants as because
 
 -- ---- the verdict
 
@@ -68,11 +71,11 @@ module _ (P : List Statement) (ms : List Mark) (j : ℕ) (old : List ℕ) where
   told-culprit new k l c d Unmet a b = same-culprit a b
 
 -- what two answers share: the refusal's number, or the verdict byte and the length
-abbrev pub Alike : Because → Because → Type 0
-Alike (because.Refused n) (because.Refused m) = n ≡ m
-Alike (because.Refused n) (because.Verdict b k c) = ⊥
-Alike (because.Verdict b k c) (because.Refused m) = ⊥
-Alike (because.Verdict b k c) (because.Verdict e l d) = (b ≡ e) × (k ≡ l)
+abbrev pub Alike : Result Because (Refusal marks-refusal.Refusal) → Result Because (Refusal marks-refusal.Refusal) → Type 0
+Alike (Err r) (Err s) = number_of marks.number r ≡ number_of marks.number s
+Alike (Err r) (Ok a) = ⊥
+Alike (Ok a) (Err r) = ⊥
+Alike (Ok a) (Ok b) = (a.verdict ≡ b.verdict) × (a.length ≡ b.length)
 
 module _ (t u : List ℕ) (j : ℕ) (old : List ℕ) where
   module _ {new other : List ℕ} {b e k l c d : ℕ} (x : WhyTold t u j old new b k c) (y : WhyTold t u j old other e l d) where
@@ -101,12 +104,12 @@ module _ (t u : List ℕ) (j : ℕ) (old : List ℕ) where
   why-not n r f = refuses-not apart t (marks.Refused u) marks.number n r f.room f.program (marks-unique.taken_refused f.marks)
 
   -- a call of `why` has one refusal, or one verdict byte and one length
-  pub why-unique : (a b : Because) (new other : List ℕ) → WhyAnswers t u j old new a → WhyAnswers t u j old other b → Alike a b
-  why-unique (because.Refused n) (because.Refused m) new other x y = why-refused n m x.0 y.0
-  why-unique (because.Refused n) (because.Verdict b k c) new other x y = why-not n x.0 y
-  why-unique (because.Verdict b k c) (because.Refused m) new other x y = why-not m y.0 x
-  why-unique (because.Verdict b k c) (because.Verdict e l d) new other x y = told-alike x y
+  pub why-unique : (a b : Result Because (Refusal marks-refusal.Refusal)) (new other : List ℕ) → WhyAnswers t u j old new a → WhyAnswers t u j old other b → Alike a b
+  why-unique (Err r) (Err s) new other x y = why-refused (number_of marks.number r) (number_of marks.number s) x.0 y.0
+  why-unique (Err r) (Ok b) new other x y = why-not (number_of marks.number r) x.0 y
+  why-unique (Ok a) (Err s) new other x y = why-not (number_of marks.number s) y.0 x
+  why-unique (Ok a) (Ok b) new other x y = told-alike x y
 
   -- and one culprit for each path
-  pub culprit-one : (new : List ℕ) (b e k l c d : ℕ) → WhyAnswers t u j old new (because.Verdict b k c) → WhyAnswers t u j old new (because.Verdict e l d) → c ≡ d
-  culprit-one new b e k l c d x y = told-culprit x.P x.ms j old new k l c d x.v x.told (same-told x y)
+  pub culprit-one : (new : List ℕ) (a b : Because) → WhyAnswers t u j old new (Ok a) → WhyAnswers t u j old new (Ok b) → a.culprit ≡ b.culprit
+  culprit-one new a b x y = told-culprit x.P x.ms j old new a.length b.length a.culprit b.culprit x.v x.told (same-told x y)

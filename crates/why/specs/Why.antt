@@ -1,5 +1,5 @@
 -- What `why` answers, and what it leaves in the lent words, for every program text, list of marks, line and path.
-use Rattle.std.specs.Prelude.{◌≡◌, ◌⊎◌, List, ℕ, ◌≤◌, ◌<◌, length, take}
+use Rattle.std.specs.Prelude.{◌≡◌, ◌⊎◌, List, ℕ, ◌≤◌, ◌<◌, length, take, Result, Ok, Err}
 use Rattle.language.specs.declared.Statement.{Statement}
 use Rattle.program.specs.Program.{Taken}
 use Rattle.marks.specs.Reading as marks
@@ -8,11 +8,12 @@ use Rattle.marks.specs.declared.Mark.{Mark}
 use Rattle.rewriting.specs.Verdicts.{number, Judged, Widened}
 use Rattle.rewriting.specs.declared.Verdict.{Verdict}
 use Rattle.rewriting.specs.declared.Verdict.TheVariants.{Accepted, Missing, Repeated, Unfit, MayFault, Unmet}
-use Rattle.calls.specs.Refusals.{CallRefused}
+use Rattle.calls.specs.Refusals.{CallRefused, number_of}
+use Rattle.calls.specs.declared.Refusal.{Refusal}
+use Rattle.marks.specs.declared.Refusal as marks-refusal
 use Rattle.explain.specs.Explain.{path_words}
 use Rattle.refused_marks.specs.RefusedMarks.{PathOf}
 use Rattle.why.specs.declared.Because.{Because}
-use Rattle.why.specs.declared.Because.TheVariants as because
 
 -- "Refusals as in .. `judge`": 1 for a path under `path_words`, then 2 to 5, then 9 and 10, the number of the first that applies
 abbrev pub WhyRefused : List ℕ → List ℕ → List ℕ → ℕ → Type 0
@@ -48,6 +49,6 @@ pub record WhyTold (t u : List ℕ) (j : ℕ) (old new : List ℕ) (b k c : ℕ)
   pub told : BecauseOf P ms j v old new k c
 
 -- "A refused call answers only its number and keeps all lent memory."
-abbrev pub WhyAnswers : List ℕ → List ℕ → ℕ → List ℕ → List ℕ → Because → Type 0
-WhyAnswers t u j old new (because.Refused n) = WhyRefused t u old n × (new ≡ old)
-WhyAnswers t u j old new (because.Verdict b k c) = WhyTold t u j old new b k c
+abbrev pub WhyAnswers : List ℕ → List ℕ → ℕ → List ℕ → List ℕ → Result Because (Refusal marks-refusal.Refusal) → Type 0
+WhyAnswers t u j old new (Err r) = WhyRefused t u old (number_of marks.number r) × (new ≡ old)
+WhyAnswers t u j old new (Ok b) = WhyTold t u j old new b.verdict b.length b.culprit

@@ -1,9 +1,9 @@
 -- Marks judged again line by line. Assumes nothing.
 use mathlib.Core.Path.{◌≡◌, refl, sym, ◌∙◌, subst}
-use mathlib.Core.Bool.{Bool, true, false}
+use mathlib.Core.Bool.{true, false}
 use mathlib.Core.List.{List}
 use mathlib.Core.Logic.{◌⊎◌, inl, inr, ⊎_elim}
-use Prim.Native.Nat.{ℕ, ◌+◌, ◌-◌, ◌≤◌, ◌<◌}
+use Prim.Native.Nat.{ℕ, ◌+◌, ◌≤◌, ◌<◌}
 use native.Mathlib.Omega.{arith}
 use borrow.Author.Count.{below_more}
 use lib.ListN.{length, get_or, take, set}
@@ -18,7 +18,7 @@ use Rattle.atoms.specs.Facts.{used_in}
 use Rattle.table.specs.Known.{KnownBy}
 use Rattle.table.proofs.By.{sat-by}
 use Rattle.marks.specs.Reading.{Taken}
-use Rattle.marks.specs.Marks.{ValidMark, names, mark_at}
+use Rattle.marks.specs.Marks.{names, mark_at}
 use Rattle.marks.specs.declared.Mark.{Mark}
 use Rattle.marks.specs.declared.Mark.TheVariants.{Rm, Rpl, Cse}
 use Rattle.marks.proofs.Walk.{at-valid}

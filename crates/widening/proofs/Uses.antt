@@ -2,11 +2,12 @@
 use mathlib.Core.Path.{◌≡◌, refl, sym, ◌∙◌, subst}
 use mathlib.Core.List.{List}
 use mathlib.Core.Logic.{◌↔◌, inl, inr, ⊎_elim}
-use Prim.Native.Nat.{ℕ, ◌+◌, ◌-◌, ◌≤◌, ◌<◌}
+use Prim.Native.Nat.{ℕ, ◌+◌, ◌<◌}
 use native.Mathlib.Omega.{arith}
 use borrow.Author.Count.{below_more}
 use lib.Dec.{eqb}
 use lib.ListN.{length, get_or, take}
+use Rattle.std.specs.Prelude.{Some, None}
 use Rattle.language.specs.declared.Operand.{Operand}
 use Rattle.language.specs.declared.Expression.{Expression}
 use Rattle.language.specs.declared.Statement.{Statement}
@@ -19,12 +20,10 @@ use Rattle.language.specs.Spelling.{ValidVariable}
 use Rattle.marks.specs.Marks.{ValidMark, names, mark_at}
 use Rattle.marks.specs.declared.Mark.{Mark}
 use Rattle.marks.specs.declared.Mark.TheVariants.{Rm, Rpl, Cse}
-use Rattle.rewriting.specs.Verdicts.{number, Inside, place, Judged, Reuses, Widened, VerdictsBy}
+use Rattle.rewriting.specs.Verdicts.{Inside, place, Judged, Reuses, Widened, VerdictsBy}
 use Rattle.rewriting.specs.declared.Verdict.TheVariants.{Accepted}
 use Rattle.rewriting.proofs.Accepted.{zero-accepted, accepted-zero}
 use Rattle.widening.specs.Widening.{Adds, WidenedBelow}
-use Rattle.widening.specs.declared.Added.{Added}
-use Rattle.widening.specs.declared.Added.TheVariants.{Use, Nothing}
 
 -- ---- what line j adds to the uses
 
@@ -56,21 +55,21 @@ module _ (P : List Statement) (ms : List Mark) (j : ℕ) where
     none_more x s = (⊎_elim inl (λ r. inr (r.0, omega (arith, r.1), r.2)), none-back x s)
 
 -- the mark is no `cse`
-pub rm-adds : (m : Mark) (b n x : ℕ) (e : Expression) → m ≡ Rm n x e → Adds m b Nothing
+pub rm-adds : (m : Mark) (b n x : ℕ) (e : Expression) → m ≡ Rm n x e → Adds m b None
 rm-adds m b n x e is n' t e' q z = let y : ◌≡◌ {A = ℕ} 0 1 = cc in omega arith
 
-pub rpl-adds : (m : Mark) (b n x : ℕ) (a : Operand) → m ≡ Rpl n x a → Adds m b Nothing
+pub rpl-adds : (m : Mark) (b n x : ℕ) (a : Operand) → m ≡ Rpl n x a → Adds m b None
 rpl-adds m b n x a is n' t e' q z = let y : ◌≡◌ {A = ℕ} 0 1 = cc in omega arith
 
 -- a `cse` whose verdict byte isn't 0 adds no use, and no other mark does
-nothing-added : (P : List Statement) (earlier : List Mark) (m : Mark) (b : ℕ) → Adds m b Nothing → (Judged (uses_of P) P earlier m Accepted → b ≡ 0)
+nothing-added : (P : List Statement) (earlier : List Mark) (m : Mark) (b : ℕ) → Adds m b None → (Judged (uses_of P) P earlier m Accepted → b ≡ 0)
     → (x s : ℕ) → Reuses P earlier m x s → ⊥
 nothing-added P earlier (Rm n y e) b f g x s r = r
 nothing-added P earlier (Rpl n y a) b f g x s r = r
 nothing-added P earlier (Cse n t e) b f g x s r = f n t e refl (g r.2)
 
 -- its variable is one
-pub added-valid : (m : Mark) (b t : ℕ) → Adds m b (Use t) → ValidMark m → ValidVariable t
+pub added-valid : (m : Mark) (b t : ℕ) → Adds m b (Some t) → ValidMark m → ValidVariable t
 added-valid m b t (n, e, is, z) v = (subst ValidMark is v).1
 
 -- ---- after j lines
@@ -92,12 +91,12 @@ module _ {P : List Statement} {n : ℕ} {codes : List (List ℕ)} {flow : List �
   accepted-byte : Judged (uses_of P) P (take j ms) (mark_at ms j) Accepted → get_or vs j 0 ≡ 0
   accepted-byte h = let v = judged j l in v.2 ∙ accepted-zero (uses_of P) P (take j ms) (mark_at ms j) v.0 h v.1
 
-  pub added-nothing : Adds m (get_or vs j 0) Nothing → KnownBy (WidenedBelow P ms (j + 1)) P n rows codes flow
+  pub added-nothing : Adds m (get_or vs j 0) None → KnownBy (WidenedBelow P ms (j + 1)) P n rows codes flow
   added-nothing f =
-      let none : (x p : ℕ) → Reuses P (take j ms) (mark_at ms j) x p → ⊥ = nothing-added P (take j ms) (mark_at ms j) (get_or vs j 0) (subst (λ (o : Mark). Adds o (get_or vs j 0) Nothing) is f) accepted-byte in
+      let none : (x p : ℕ) → Reuses P (take j ms) (mark_at ms j) x p → ⊥ = nothing-added P (take j ms) (mark_at ms j) (get_or vs j 0) (subst (λ (o : Mark). Adds o (get_or vs j 0) None) is f) accepted-byte in
       record { size = k.size; few = k.few; found = facts-same (λ x p v b. none_more P ms j none x p) k.found; flow_size = k.flow_size; flows = k.flows }
 
-  pub added-use : (t q : ℕ) → Adds m (get_or vs j 0) (Use t) → (Inside most (names m) → q ≡ place m) → {new : List ℕ} → Marked rows new (eqb (used_row t)) q
+  pub added-use : (t q : ℕ) → Adds m (get_or vs j 0) (Some t) → (Inside most (names m) → q ≡ place m) → {new : List ℕ} → Marked rows new (eqb (used_row t)) q
       → KnownBy (WidenedBelow P ms (j + 1)) P n new codes flow
   added-use t q (a, e, cse, byte) at {new} marked =
       let accepted = byte-accepted byte in

@@ -1,5 +1,5 @@
 -- Proof devices: what the contracts of the functions that judge with widened uses say. No sentence of the documents stands here.
-use Rattle.std.specs.Prelude.{◌≡◌, List, ◌⊎◌, ℕ, ◌≤◌, ◌<◌, length, get_or, take}
+use Rattle.std.specs.Prelude.{◌≡◌, List, ◌⊎◌, ℕ, ◌<◌, take, Option, Some, None}
 use Rattle.language.specs.declared.Expression.{Expression}
 use Rattle.language.specs.declared.Statement.{Statement}
 use Rattle.truth.specs.Truth.{uses_of}
@@ -12,13 +12,11 @@ use Rattle.marks.specs.declared.Mark.TheVariants.{Rm, Rpl, Cse}
 use Rattle.rewriting.specs.Verdicts.{number, Judged, Reuses, Widened, VerdictsBy}
 use Rattle.rewriting.specs.declared.Verdict.{Verdict}
 use Rattle.verdicts.specs.Judging.{VerdictsOf}
-use Rattle.widening.specs.declared.Added.{Added}
-use Rattle.widening.specs.declared.Added.TheVariants.{Use, Nothing}
 
 -- what a mark with the verdict byte b adds: a use of t where it is an accepted `cse` by t
-abbrev pub Adds : Mark → ℕ → Added → Type 0
-Adds m b (Use t) = (n : ℕ) × (e : Expression) × (m ≡ Cse n t e) × (b ≡ 0)
-Adds m b Nothing = (n t : ℕ) (e : Expression) → m ≡ Cse n t e → b ≡ 0 → ⊥
+abbrev pub Adds : Mark → ℕ → Option ℕ → Type 0
+Adds m b (Some t) = (n : ℕ) × (e : Expression) × (m ≡ Cse n t e) × (b ≡ 0)
+Adds m b None = (n t : ℕ) (e : Expression) → m ≡ Cse n t e → b ≡ 0 → ⊥
 
 -- the uses of P and those that the accepted `cse` lines before line j add: with all lines it is `Widened`
 abbrev pub WidenedBelow : List Statement → List Mark → ℕ → ℕ → ℕ → Type 0

@@ -18,30 +18,22 @@ ghost use Rattle.widening.specs.Widening.{Adds, Widens, Open, Again, JudgesAgain
 
 use codes::CODE_WORDS;
 use marks::Mark;
-use marks::read::MarkRead;
 use program::Program;
 use rewriting::Verdict;
 use table::WORDS;
 
-// The variable that an accepted `cse` uses.
-#[derive(Clone, Copy)]
-pub enum Added {
-    Use(u8),
-    Nothing,
-}
-
-// What the mark with this verdict byte adds.
-fn added_by(m: Mark, b: u8) -> Added
+// The variable that the mark with this verdict byte adds a use of, as an accepted `cse` does.
+fn added_by(m: Mark, b: u8) -> Option<u8>
     ensures { Adds m b result }
 {
     match m {
-        Mark::Rm(_, _, _) => Added::Nothing,
-        Mark::Rpl(_, _, _) => Added::Nothing,
+        Mark::Rm(_, _, _) => None,
+        Mark::Rpl(_, _, _) => None,
         Mark::Cse(_, t, _) => {
             if b == 0 {
-                return Added::Use(t);
+                return Some(t);
             }
-            Added::Nothing
+            None
         }
     }
 }
@@ -51,25 +43,19 @@ fn widen(marks: &[u8], rows: &mut [u64], verdicts: &[u8])
     requires { SomeTaken marks.now × (length rows.old ≡ fact_words) × (most ≤ length verdicts.now) }
     ensures { Widens marks.now rows.old verdicts.now rows.new }
 {
+    // A `while`: each line tells where the next one begins, so no slice or range has the lines that a `for` would go over.
     let mut j: usize = 0;
     let mut at: usize = 0;
     while at < marks.len() {
-        let MarkRead::Found(m, k) = marks::read::line(marks, at) else {
+        let Some((m, k)) = marks::read::line(marks, at) else {
             return;
         };
         let place = verdicts::place_of(m);
-        let add = added_by(m, verdicts[j]);
-        match add {
-            Added::Use(t) => {
-                atoms::use_also(t, place, rows);
-                j += 1;
-                at = k;
-            }
-            Added::Nothing => {
-                j += 1;
-                at = k;
-            }
+        if let Some(t) = added_by(m, verdicts[j]) {
+            atoms::use_also(t, place, rows);
         }
+        j += 1;
+        at = k;
     }
 }
 
@@ -78,14 +64,8 @@ fn is_open(m: Mark, b: u8) -> bool
     ensures { Decides result (Open m b) }
 {
     match m {
-        Mark::Rm(_, _, _) => {
-            if b == 14 {
-                return true;
-            }
-            b == 0
-        }
-        Mark::Rpl(_, _, _) => false,
-        Mark::Cse(_, _, _) => false,
+        Mark::Rm(_, _, _) => b == u8::from(Verdict::Unmet) || b == u8::from(Verdict::Accepted),
+        Mark::Rpl(_, _, _) | Mark::Cse(_, _, _) => false,
     }
 }
 
@@ -110,9 +90,9 @@ fn byte_again(
     let row = published_rows::remembered_row(m, n, rows, codes, flow, keys, memory);
     let place = verdicts::place_of(m);
     if bits::contains(&row, place) {
-        return rewriting::number_of(Verdict::Accepted);
+        return u8::from(Verdict::Accepted);
     }
-    rewriting::number_of(Verdict::Unmet)
+    u8::from(Verdict::Unmet)
 }
 
 // Judges each `rm` of the list that came to its condition again, by the uses that the rows have. Rows of conditions that were remembered by other
@@ -131,10 +111,11 @@ fn judge_again(
 {
     let mut keys = published_rows::blank_keys();
     let mut memory = published_rows::blank_memory();
+    // A `while`: each line tells where the next one begins, so no slice or range has the lines that a `for` would go over.
     let mut j: usize = 0;
     let mut at: usize = 0;
     while at < marks.len() {
-        let MarkRead::Found(m, k) = marks::read::line(marks, at) else {
+        let Some((m, k)) = marks::read::line(marks, at) else {
             return;
         };
         let b = verdicts[j];

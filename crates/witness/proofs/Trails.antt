@@ -3,20 +3,19 @@ use mathlib.Core.Path.{◌≡◌, refl, sym, ap, ◌∙◌}
 use mathlib.Core.List.{List, [], ◌∷◌}
 use mathlib.Core.Bool.{Bool, true, false, not, ◌&&◌}
 use mathlib.Core.Logic.{◌↔◌, ⊎_elim}
-use Prim.Native.Nat.{ℕ, zero, suc, ◌+◌, ◌≤◌, ◌<◌}
+use Prim.Native.Nat.{ℕ, zero, suc, ◌≤◌, ◌<◌}
 use native.Mathlib.Omega.{arith}
 use lib.Dec.{ltb}
-use lib.ListN.{length}
 use borrow.Author.Tests.{lt-ltb}
 use Rattle.base.proofs.Bools.{split, clash, and_left, and_right, and_both, not_of_false, false_of_not, true_of_not}
-use Rattle.ctl.specs.Paths.{E, A, Paths, Finally, Globally, Until, Weak, So, Graph}
+use Rattle.ctl.specs.Paths.{E, A, Paths, Globally, Until, Weak, So, Graph}
 use Rattle.ctl.proofs.Paths.{next-iff, finally-iff, globally-iff}
 use Rattle.labelling.specs.declared.Operator.{Operator}
 use Rattle.labelling.specs.declared.Operator.TheVariants as op
 use Rattle.labelling.specs.Labels.{Said, Labelled}
 use Rattle.forcing.specs.Numbers.{none, number_of, numbered}
 use Rattle.forcing.proofs.Steps.{numbered-some, numbered-none}
-use Rattle.lassos.specs.Lassos.{place, last, Rest, any, Way, Goes, Reaches, Evident, Not, Neither}
+use Rattle.lassos.specs.Lassos.{place, last, any, Way, Reaches, Evident, Not, Neither}
 use Rattle.lassos.specs.Distances.{Distances}
 use Rattle.lassos.proofs.Ways.{way-inside, way-one, way-more}
 use Rattle.lassos.proofs.Sound.{bears-some}
@@ -24,7 +23,7 @@ use Rattle.lassos.proofs.Shortest.{shortest, number-iff, number-below}
 use Rattle.lassos.specs.Dual.{dual, dual_first, dual_second, Same}
 use Rattle.lassos.proofs.Dual.{not-all-some, evident-dual}
 use Rattle.lassos.proofs.Endless.{weak-on}
-use Rattle.walks.specs.Told.{Told, rest_of}
+use Rattle.walks.specs.Told.{rest_of}
 use Rattle.walks.specs.Walks.{Numbered, SomeNumbered, Walked, Endless, SomeEndless, Circled}
 use Rattle.walks.specs.declared.Trail.{Trail}
 use Rattle.witness.specs.Witness.{Witness}

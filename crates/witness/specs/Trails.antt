@@ -1,6 +1,6 @@
 -- Proof devices: what the functions behind `witness` are asked and establish. No sentence of the documents stands here.
-use Rattle.std.specs.Prelude.{◌≡◌, List, [], ◌∷◌, Bool, true, false, ◌↔◌, ℕ, suc, ◌*◌, ◌≤◌, ◌<◌, ltb, length}
-use Rattle.bits.specs.Row.{words, member}
+use Rattle.std.specs.Prelude.{◌≡◌, List, [], ◌∷◌, Bool, true, false, ◌↔◌, ℕ, ◌*◌, ◌≤◌, ◌<◌, ltb, length}
+use Rattle.bits.specs.Row.{member}
 use Rattle.ctl.specs.Paths.{E, Paths, Until, So}
 use Rattle.labelling.specs.Labels.{Said}
 use Rattle.labelling.specs.declared.Operator.{Operator}
@@ -38,10 +38,8 @@ pub record Possible (o : Operator) (n : ℕ) (step : ℕ → ℕ → Bool) (x y 
   pub exact : (t : ℕ) → t < n → (avoid t ≡ false) ↔ Paths E step t (Said o (So x) (So y))
 
 -- rows of equal length with room for n places, `places` those places
-pub record Room (n : ℕ) (places p q avoid spare : List ℕ) : Type 0 where
+pub record Room (n : ℕ) (places avoid spare : List ℕ) : Type 0 where
   pub room : n ≤ length places * 64
-  pub of_p : length p ≡ length places
-  pub of_q : length q ≡ length places
   pub of_avoid : length avoid ≡ length places
   pub of_spare : length spare ≡ length places
   pub whole : (s : ℕ) → member places s ≡ ltb s n
@@ -51,10 +49,8 @@ pub record Words (n : ℕ) (path : List ℕ) : Type 0 where
   pub each : n ≤ length path
   pub two : 2 ≤ length path
 
--- rows of equal length, two of them to use
-pub record Apart (places p q first second : List ℕ) : Type 0 where
-  pub of_p : length p ≡ length places
-  pub of_q : length q ≡ length places
+-- two rows to use, as long as the row of all places
+pub record Apart (places first second : List ℕ) : Type 0 where
   pub of_first : length first ≡ length places
   pub of_second : length second ≡ length places
 

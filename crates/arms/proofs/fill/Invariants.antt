@@ -1,10 +1,6 @@
-use Prim.Native.Nat.{◌-◌, ◌≤◌}
 use Rattle.bits.specs.Row.{member}
 use Rattle.arms.proofs.Filling.{Filled}
 use Rattle.arms.proofs.fill.Given as goal
 
 abbrev pub invariant-loop-s : goal.invariant-loop-s
-invariant-loop-s l = (l.s ≤ l.n) × Filled l.p.entries (member l.mine) l.numbers l.initial.arms l.arms l.s
-
-abbrev pub decreases-loop-s : goal.decreases-loop-s
-decreases-loop-s l = l.n - l.s
+invariant-loop-s l = Filled l.p.entries (member l.mine) l.numbers l.initial.arms l.arms l.s

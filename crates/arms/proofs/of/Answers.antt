@@ -10,10 +10,6 @@ use Rattle.arms.proofs.Owned.{his-same}
 use Rattle.arms.proofs.Forced.{lent-directions, forced-of}
 use Rattle.arms.proofs.of.Goals as goal
 
-pub own-requires : goal.own-requires
-own-requires c =
-    record { held = c.requires.held; well_formed = c.requires.well_formed; variables_in_bounds = (c.requires.lent.named_room, omega (arith, c.requires.held.few, c.blank-mine.ensures.size)) }
-
 pub slice_bounds-forward-end : goal.slice_bounds-forward-end
 slice_bounds-forward-end c = sym (length-take-le entries c.args.flow.now (omega (arith, c.requires.lent.size)))
 
@@ -21,11 +17,6 @@ pub number-requires : goal.number-requires
 number-requires c =
     let z = c.requires.lent in
     record { directions_at = lent-directions _ _ (statements-size c.args.p c.requires.held) c.args.flow.now z.size z.flows; n_in_bounds = (omega (arith, c.requires.held.few, c.blank-mine.ensures.size, c.own.auto.mine), z.goal_room, z.numbers_room) }
-
-pub fill-requires : goal.fill-requires
-fill-requires c =
-    let z = c.requires.lent in
-    record { held = c.requires.held; well_formed = c.requires.well_formed; count_in_bounds = (omega (arith, c.requires.held.few, c.blank-mine.ensures.size, c.own.auto.mine), omega (arith, z.numbers_room, c.number.auto.numbers), z.arms_room) }
 
 pub returns : goal.returns
 returns c =

@@ -3,33 +3,28 @@ use Rattle.atoms.proofs.Rows.{statement-iff}
 use Rattle.labelling.proofs.Labels.{label-skip, label-join}
 use Rattle.program.specs.Program.{at}
 use native.Mathlib.Omega.{arith}
-use Prim.Native.Nat.{◌-◌}
-use mathlib.Core.Path.{◌≡◌, refl, ◌∙◌}
+use mathlib.Core.Path.{◌≡◌, ◌∙◌}
+use Rattle.atoms.proofs.statement_row.Goals.{then-same_words, else-same_words}
 use Rattle.atoms.proofs.statement_row.Goals as goal
 
-pub loop-s-init : goal.loop-s-init
-loop-s-init c =
-    (omega arith, refl, λ P rows i e f. record { exact = λ s l. absurd (omega arith); beyond = λ s l. c.clear.ensures s })
-
-pub loop-s-preserved-then-same_words : goal.loop-s-preserved-then-same_words
-loop-s-preserved-then-same_words c = (
-  omega arith,
-  c.insert.auto.row ∙ c.loop-s.invariant.1,
-  λ P rows i e f.
-      let x = statement-iff P c.args.n rows c.args.codes.now f c.loop-s.s c.loop-s-test.true i _ e c.same_words.result c.same_words.ensures in
-      label-join (λ t. at P t ≡ i) _ _ (c.loop-s.invariant.2 P rows i e f) (x.0 c.if-same_words.true) _ c.insert.ensures,
-)
-
 pub loop-s-preserved : goal.loop-s-preserved
-loop-s-preserved c = (
-  omega arith,
-  c.loop-s.invariant.1,
-  λ P rows i e f.
-      let x = statement-iff P c.args.n rows c.args.codes.now f c.loop-s.s c.loop-s-test.true i _ e c.same_words.result c.same_words.ensures in
-      label-skip (λ t. at P t ≡ i) _ _ (c.loop-s.invariant.2 P rows i e f) c.same_words.result x c.if-same_words.false,
-)
+loop-s-preserved c =
+    elim c.if-same_words.branch [
+      | then-same_words w ↦ rw w.out-is (
+        w.insert.auto.row ∙ c.loop-s.invariant.0,
+        λ P rows i e f.
+            let x = statement-iff P c.args.n rows c.args.codes.now f c.loop-s.s c.loop-s-test.true i _ e c.same_words.result c.same_words.ensures in
+            label-join (λ t. at P t ≡ i) _ _ (c.loop-s.invariant.1 P rows i e f) (x.0 w.if-same_words.true) _ w.insert.ensures,
+      )
+      | else-same_words w ↦ rw w.out-is (
+        c.loop-s.invariant.0,
+        λ P rows i e f.
+            let x = statement-iff P c.args.n rows c.args.codes.now f c.loop-s.s c.loop-s-test.true i _ e c.same_words.result c.same_words.ensures in
+            label-skip (λ t. at P t ≡ i) _ _ (c.loop-s.invariant.1 P rows i e f) c.same_words.result x w.if-same_words.false,
+      )
+    ]
 
 pub returns : goal.returns
 returns c = λ P rows f.
     let e : c.loop-s.s ≡ c.args.n = omega arith in
-    rw e at (c.loop-s.invariant.2 P rows c.args.i c.statement_code-c.ensures f)
+    rw e at (c.loop-s.invariant.1 P rows c.args.i c.statement_code-c.ensures f)

@@ -1,19 +1,6 @@
 -- `atoms::trans_row` meets its contract: what defines an operand's variable is taken out of the row of all places. Assumes nothing.
 use Rattle.atoms.proofs.Rows.{beyond-clear, single-kept, binary-kept}
-use native.Mathlib.Omega.{arith}
 use Rattle.atoms.proofs.trans_row.Goals as goal
-
-pub keeping-requires : goal.keeping-requires
-keeping-requires c =
-    record { valid_operand = (rw c.in-Single.is at c.requires.valid_expression.0, c.requires.valid_expression.1); all_len = (omega (arith, c.below.auto, c.blank_row-places.ensures.size), c.requires.n_le_most.1) }
-
-pub keeping-requires-in-Binary : goal.keeping-requires-in-Binary
-keeping-requires-in-Binary c =
-    record { valid_operand = ((rw c.in-Binary.is at c.requires.valid_expression.0).0, c.requires.valid_expression.1); all_len = (omega (arith, c.below.auto, c.blank_row-places.ensures.size), c.blank_row-left.ensures.size) }
-
-pub keeping-requires-in-Binary-2 : goal.keeping-requires-in-Binary-2
-keeping-requires-in-Binary-2 c =
-    record { valid_operand = ((rw c.in-Binary.is at c.requires.valid_expression.0).1, c.requires.valid_expression.1); all_len = (omega (arith, c.keeping-in-Binary.auto.out, c.blank_row-left.ensures.size), c.requires.n_le_most.1) }
 
 pub returns-in-Single : goal.returns-in-Single
 returns-in-Single c =

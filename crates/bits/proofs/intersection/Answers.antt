@@ -1,23 +1,17 @@
--- `bits::intersection` meets its contract. The words below k are the intersection.
+-- `bits::intersection` meets its contract: the operation says of two bits what the definition says.
 -- Assumes nothing.
-use mathlib.Core.Path.{refl}
+use mathlib.Core.Path.{◌≡◌, refl, ap, ◌∙◌, sym}
 use mathlib.Core.Bool.{◌&&◌}
-use Prim.Native.Nat.{◌-◌}
-use native.Mathlib.Omega.{arith}
-use lib.ListN.{length-set}
 use lib.Bits.{bit_and}
+use Rattle.std.proofs.Common.{rules}
+use Rattle.bits.specs.Row.{bit, member}
 use Rattle.bits.proofs.Words.{bit-and}
-use Rattle.bits.proofs.Rows.{filled_none, paired-more, paired-member}
+use Rattle.bits.proofs.Rows.{combined-member}
 use Rattle.bits.proofs.intersection.Goals as goal
 
-pub loop-k-init : goal.loop-k-init
-loop-k-init c = filled_none _ _
-
-pub loop-k-smaller : goal.loop-k-smaller
-loop-k-smaller c = simp length-set (omega arith)
-
-pub loop-k-preserved : goal.loop-k-preserved
-loop-k-preserved c = paired-more bit_and (λ x y. x && y) (λ x y c _. bit-and x y c) _ _ _ _ _ c.loop-k.invariant (omega arith)
-
 pub returns : goal.returns
-returns c = paired-member bit_and (λ x y. x && y) (λ x y c _. bit-and x y c) _ _ _ refl c.requires _ _ c.loop-k.invariant (omega arith)
+returns c = λ j.
+    let a = c.args.a.now in
+    let e = c.copy_from_slice.ensures.after in
+    combined-member c.combine.ensures ◌&&◌ refl (c.requires.left ∙ sym c.copy_from_slice.ensures.len)
+    (λ x y r e k l. let d : r ≡ bit_and x y = search rules in ap (λ z. bit z k) d ∙ bit-and x y k) j ∙ ap (λ row. member a j && member row j) e

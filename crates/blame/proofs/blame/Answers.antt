@@ -2,9 +2,8 @@
 use Rattle.blame.proofs.Blames.{read_taken, read-refused}
 use Rattle.blame.proofs.blame.Goals as goal
 
-pub returns-in-Taken : goal.returns-in-Taken
-returns-in-Taken c = read_taken c.read-reading.result.answer c.read-reading.result.program c.in-Taken.is c.read-reading.ensures
+pub returns-in-Ok : goal.returns-in-Ok
+returns-in-Ok c = read_taken c.in-Ok.ensures.0
 
-pub returns-in-Refused : goal.returns-in-Refused
-returns-in-Refused c =
-    read-refused c.read-reading.result.answer c.read-reading.result.program c.in-Refused.is c.read-reading.ensures c.line_of.ensures
+pub returns-in-Err : goal.returns-in-Err
+returns-in-Err c = read-refused c.in-Err.ensures c.line_of.ensures

@@ -23,9 +23,9 @@ slice_bounds-write-end c = sym (length-take-le _ _ (piece-within c.loop-new.inva
 pub returns-then-not-write : goal.returns-then-not-write
 returns-then-not-write c = inr (inr refl)
 
-pub returns-in-All : goal.returns-in-All
-returns-in-All c =
-    ends c.loop-new.invariant c.next-piece.ensures (sym c.end_at.ensures ∙ c.in-All.is)
+pub returns-in-Some : goal.returns-in-Some
+returns-in-Some c =
+    ends c.loop-new.invariant c.next-piece.ensures (sym c.end_at.ensures ∙ c.in-Some.is)
 
 pub loop-new-smaller : goal.loop-new-smaller
 loop-new-smaller c = falls c.loop-new.invariant c.next-piece.ensures

@@ -16,8 +16,5 @@ pub loop-x-preserved : goal.loop-x-preserved
 loop-x-preserved c =
     one_written (differences-parts c.args.a.now c.args.b.now) c.loop-x.invariant c.loop-x-test.true c.difference-to.ensures
 
-pub shape_of-out : goal.shape_of-out
-shape_of-out c = put-length c.loop-x.invariant.put
-
 pub returns : goal.returns
 returns c = all-written c.loop-x.invariant c.loop-x-test.false

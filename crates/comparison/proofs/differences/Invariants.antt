@@ -1,4 +1,3 @@
-use Prim.Native.Nat.{◌-◌}
 use Rattle.language.specs.Spelling.{variables}
 use Rattle.comparison.specs.Lines.{differences}
 use Rattle.comparison.specs.Stepping.{pair_room}
@@ -7,6 +6,3 @@ use Rattle.comparison.proofs.differences.Given as goal
 
 abbrev pub invariant-loop-x : goal.invariant-loop-x
 invariant-loop-x l = Written (λ n. differences n l.a l.b) variables pair_room l.initial.out l.at l.out l.to l.x
-
-abbrev pub decreases-loop-x : goal.decreases-loop-x
-decreases-loop-x l = variables - l.x

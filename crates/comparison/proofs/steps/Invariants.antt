@@ -1,10 +1,9 @@
-use Prim.Native.Nat.{◌-◌}
+use Prim.Native.Nat.{◌<◌}
+use mathlib.Core.Path.{◌≡◌}
 use Rattle.comparison.proofs.Walk.{Going}
 use Rattle.comparison.proofs.steps.Given as goal
 
 abbrev pub invariant-loop-k : goal.invariant-loop-k
 invariant-loop-k l =
     Going l.p l.q l.live l.input l.budget l.done l.at l.initial.values l.initial.others l.initial.out l.out l.values l.others l.place l.k l.to
-
-abbrev pub decreases-loop-k : goal.decreases-loop-k
-decreases-loop-k l = l.budget - l.k
+    × (l.budget < l.done → l.k ≡ l.done)

@@ -1,20 +1,10 @@
 -- `stop` meets its contract. The invariant: the bytes before the position are read. Assumes nothing.
-use Prim.Native.Nat.{◌-◌}
-use native.Mathlib.Omega.{arith}
 use borrow.Author.Rules.{rules}
-use Rattle.condition_blame.proofs.Going.{going-none, going-room, going_more, going-stops, going-ends, going-spelled}
+use Rattle.condition_blame.proofs.Going.{going-none, going_more, going-stops, going-ends, going-spelled}
 use Rattle.condition_blame.proofs.stop.Goals as goal
-
-pub bounds-stack : goal.bounds-stack
-bounds-stack c = omega (arith, c.blank-stack.ensures)
 
 pub loop-at-init : goal.loop-at-init
 loop-at-init c = going-none c.args.text.now c.blank-stack.result c.requires.text_len_bound c.blank-stack.ensures
-
-pub advance-requires : goal.advance-requires
-advance-requires c =
-    let h = c.loop-at-test.true in
-    record { table_value = c.requires.table_value; growth_le_top = (going-room c.loop-at.invariant h, c.loop-at.invariant.upto, c.loop-at.invariant.bounded, c.loop-at.invariant.valued) }
 
 pub returns-in_default : goal.returns-in_default
 returns-in_default c =
@@ -22,19 +12,10 @@ returns-in_default c =
 
 pub loop-at-preserved : goal.loop-at-preserved
 loop-at-preserved c =
-    going_more c.loop-at.invariant c.loop-at-test.true _ _ c.in-Next.is c.advance.ensures.result_after c.advance.ensures.near (search rules)
+    going_more c.loop-at.invariant c.loop-at-test.true _ _ c.in-Some.is c.advance.ensures.result_after c.advance.ensures.near (search rules)
 
 pub returns-then-top-lt-ROOM : goal.returns-then-top-lt-ROOM
 returns-then-top-lt-ROOM c = going-ends c.loop-at.invariant c.loop-at-test.false c.if-top-lt-ROOM.true
 
 pub returns : goal.returns
 returns c = going-spelled c.loop-at.invariant c.loop-at-test.false c.if-top-lt-ROOM.false
-
-pub overflow_cast-result : goal.overflow_cast-result
-overflow_cast-result c = omega (arith, c.requires.text_len_bound)
-
-pub overflow_add-result-then-top-lt-ROOM : goal.overflow_add-result-then-top-lt-ROOM
-overflow_add-result-then-top-lt-ROOM c = omega (arith, c.requires.text_len_bound, c.loop-at.invariant.within)
-
-pub overflow_cast-result-then-top-lt-ROOM : goal.overflow_cast-result-then-top-lt-ROOM
-overflow_cast-result-then-top-lt-ROOM c = omega (arith, c.requires.text_len_bound, c.loop-at.invariant.within)

@@ -1,7 +1,6 @@
 -- `driver_reader::names` meets its contract. The invariant is `Reading`: a name begins at the position.
 -- Assumes nothing.
 use mathlib.Core.Path.{refl, sym, ◌∙◌}
-use Prim.Native.Nat.{◌-◌}
 use native.Mathlib.Omega.{arith}
 use Rattle.driver_reader.proofs.Reading.{empty-named, reading-first, reading-end, reading-misspelled, name-valid, name-further, name-repeated, name-last, name-unspaced, name-next}
 use Rattle.driver_reader.proofs.names.Goals as goal
@@ -12,47 +11,32 @@ returns-then-n-eq0 c = empty-named _ c.if-n-eq0.true _ c.requires.by_index
 pub loop-at-init : goal.loop-at-init
 loop-at-init c = (omega arith, refl, reading-first _ (omega (arith, c.if-n-eq0.false)) _ c.requires.by_index)
 
-pub shape_of-named-then-k-n : goal.shape_of-named-then-k-n
-shape_of-named-then-k-n c = c.insert.auto.row ∙ c.loop-at.invariant.1
-
-pub shape_of-named-then-s-k-ne32 : goal.shape_of-named-then-s-k-ne32
-shape_of-named-then-s-k-ne32 c = c.insert.auto.row ∙ c.loop-at.invariant.1
-
 pub returns : goal.returns
 returns c = reading-end _ _ _ c.loop-at.invariant.2 c.loop-at-test.false
 
-pub shape_of-named-in_default : goal.shape_of-named-in_default
-shape_of-named-in_default c = c.loop-at.invariant.1
-
-pub shape_of-named-then-contains : goal.shape_of-named-then-contains
-shape_of-named-then-contains c = c.loop-at.invariant.1
-
-pub shape_of-named : goal.shape_of-named
-shape_of-named c = c.loop-at.invariant.1
-
 pub contains-requires : goal.contains-requires
 contains-requires c =
-    let e = c.in-Found.ensures in
-    omega (arith, name-valid _ _ _ c.loop-at.invariant.2 c.in-Found.x c.in-Found.k e.result_value, c.loop-at.invariant.1, c.requires.variables_in_bounds)
+    let e = c.in-Some.ensures in
+    omega (arith, name-valid _ _ _ c.loop-at.invariant.2 c.in-Some.x c.in-Some.k e.result_value, c.loop-at.invariant.1, c.requires.variables_in_bounds)
 
 pub insert-requires : goal.insert-requires
 insert-requires c =
-    let e = c.in-Found.ensures in
-    omega (arith, name-valid _ _ _ c.loop-at.invariant.2 c.in-Found.x c.in-Found.k e.result_value, c.loop-at.invariant.1, c.requires.variables_in_bounds)
+    let e = c.in-Some.ensures in
+    omega (arith, name-valid _ _ _ c.loop-at.invariant.2 c.in-Some.x c.in-Some.k e.result_value, c.loop-at.invariant.1, c.requires.variables_in_bounds)
 
 pub loop-at-preserved : goal.loop-at-preserved
 loop-at-preserved c =
-    let e = c.in-Found.ensures in
+    let e = c.in-Some.ensures in
     let off = sym c.contains.ensures ∙ c.if-contains.false in (
-      omega (arith, c.in-Found.ensures.result_in_bounds, c.if-k-n.false),
+      omega (arith, c.in-Some.ensures.result_in_bounds, c.if-k-n.false),
       c.insert.auto.row ∙ c.loop-at.invariant.1,
-      name-next _ _ _ c.loop-at.invariant.2 c.in-Found.x c.in-Found.k e.result_value off _ c.insert.ensures (omega (arith, c.in-Found.ensures.result_in_bounds, c.if-k-n.false)) c.if-s-k-ne32.false,
+      name-next _ _ _ c.loop-at.invariant.2 c.in-Some.x c.in-Some.k e.result_value off _ c.insert.ensures (omega (arith, c.in-Some.ensures.result_in_bounds, c.if-k-n.false)) c.if-s-k-ne32.false,
     )
 
 pub loop-at-smaller : goal.loop-at-smaller
 loop-at-smaller c =
-    let e = c.in-Found.ensures in
-    omega (arith, name-further _ _ _ c.loop-at.invariant.2 c.in-Found.x c.in-Found.k e.result_value c.loop-at.invariant.0 e.result_in_bounds, c.loop-at-test.true)
+    let e = c.in-Some.ensures in
+    omega (arith, name-further _ _ _ c.loop-at.invariant.2 c.in-Some.x c.in-Some.k e.result_value c.loop-at.invariant.0 e.result_in_bounds, c.loop-at-test.true)
 
 pub returns-in_default : goal.returns-in_default
 returns-in_default c =
@@ -61,17 +45,17 @@ returns-in_default c =
 
 pub returns-then-contains : goal.returns-then-contains
 returns-then-contains c =
-    let e = c.in-Found.ensures in
-    name-repeated _ _ _ c.loop-at.invariant.2 c.in-Found.x c.in-Found.k e.result_value (sym c.contains.ensures ∙ c.if-contains.true)
+    let e = c.in-Some.ensures in
+    name-repeated _ _ _ c.loop-at.invariant.2 c.in-Some.x c.in-Some.k e.result_value (sym c.contains.ensures ∙ c.if-contains.true)
 
 pub returns-then-k-n : goal.returns-then-k-n
 returns-then-k-n c =
-    let e = c.in-Found.ensures in
+    let e = c.in-Some.ensures in
     let off = sym c.contains.ensures ∙ c.if-contains.false in
-    name-last _ _ _ c.loop-at.invariant.2 c.in-Found.x c.in-Found.k e.result_value off _ c.insert.ensures (omega (arith, c.if-k-n.true))
+    name-last _ _ _ c.loop-at.invariant.2 c.in-Some.x c.in-Some.k e.result_value off _ c.insert.ensures (omega (arith, c.if-k-n.true))
 
 pub returns-then-s-k-ne32 : goal.returns-then-s-k-ne32
 returns-then-s-k-ne32 c =
-    let e = c.in-Found.ensures in
+    let e = c.in-Some.ensures in
     let off = sym c.contains.ensures ∙ c.if-contains.false in
-    name-unspaced _ _ _ c.loop-at.invariant.2 c.in-Found.x c.in-Found.k e.result_value off _ c.insert.ensures (omega (arith, c.in-Found.ensures.result_in_bounds, c.if-k-n.false)) c.if-s-k-ne32.true
+    name-unspaced _ _ _ c.loop-at.invariant.2 c.in-Some.x c.in-Some.k e.result_value off _ c.insert.ensures (omega (arith, c.in-Some.ensures.result_in_bounds, c.if-k-n.false)) c.if-s-k-ne32.true

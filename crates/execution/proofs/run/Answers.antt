@@ -68,7 +68,7 @@ returns-in-Finish c =
       c.in-Finish.v,
       step-over c.args.program _ _ _ _ _ us c.step-next.result c.loop-steps.invariant.0 c.step-next.ensures _ ends,
       omega (arith, c.loop-steps-test.true),
-      stored_same c.in-Finish.v (search rules) c.signed.ensures,
+      stored_same c.in-Finish.v (search rules) c.cast_signed.ensures,
       refl,
       step-paid c.loop-steps.invariant.0 _ (priced _ c.requires.well_formed c.loop-steps.invariant.0.inside c.prices_of-prices.ensures) (c.loop-steps.invariant.3 _ c.prices_of-prices.ensures),
     )

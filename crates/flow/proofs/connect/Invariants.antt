@@ -1,5 +1,5 @@
 use mathlib.Core.Path.{◌≡◌}
-use Prim.Native.Nat.{◌*◌, ◌≤◌, ◌-◌}
+use Prim.Native.Nat.{◌*◌}
 use lib.ListN.{length}
 use Rattle.graph.specs.Graphs.{entries}
 use Rattle.flow.specs.Edges.{Holds, turn, steps_below}
@@ -7,7 +7,4 @@ use Rattle.flow.proofs.connect.Given as goal
 
 abbrev pub invariant-loop-k : goal.invariant-loop-k
 invariant-loop-k l =
-    (l.k ≤ l.sources) × (length l.edges ≡ entries) × Holds l.n l.edges l.count (2 * l.k) (turn l.turned (steps_below l.first l.second l.k))
-
-abbrev pub decreases-loop-k : goal.decreases-loop-k
-decreases-loop-k l = l.sources - l.k
+    (length l.edges ≡ entries) × Holds l.n l.edges l.count (2 * l.k) (turn l.turned (steps_below l.first l.second l.k))

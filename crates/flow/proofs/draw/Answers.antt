@@ -9,8 +9,8 @@ use Rattle.flow.proofs.draw.Goals as goal
 pub slice_bounds-connect-end-2 : goal.slice_bounds-connect-end-2
 slice_bounds-connect-end-2 c = sym (length-take-le _ c.args.flow.now (omega (arith, c.requires.n_nonzero.2)))
 
-pub connect-requires : goal.connect-requires
-connect-requires c = record { inside = c.requires.inside; space = record { few = c.requires.n_nonzero.1; size = sym ((sym (length-take-le _ c.args.flow.now (omega (arith, c.requires.n_nonzero.2))))) } }
+pub connect-requires-clause-space : goal.connect-requires-clause-space
+connect-requires-clause-space c = record { few = c.requires.n_nonzero.1; size = length-take-le _ c.args.flow.now (omega (arith, c.requires.n_nonzero.2)) }
 
 pub returns : goal.returns
 returns c =

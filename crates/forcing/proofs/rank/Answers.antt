@@ -2,15 +2,12 @@
 -- Assumes nothing.
 use mathlib.Core.Bool.{◌||◌}
 use mathlib.Core.Path.{refl, ap, ◌∙◌}
-use Prim.Native.Nat.{ℕ, ◌-◌}
+use Prim.Native.Nat.{ℕ}
 use native.Mathlib.Omega.{arith}
 use lib.Dec.{eqb}
 use Rattle.bits.specs.Row.{member}
-use Rattle.forcing.proofs.Steps.{going-first, going-low, going-take, going_next, going-last}
+use Rattle.forcing.proofs.Steps.{going-first, going-low, going-take, going-last}
 use Rattle.forcing.proofs.rank.Goals as goal
-
-pub start-hi-requires : goal.start-hi-requires
-start-hi-requires c = let z = c.requires.space in (c.requires.head_in_bounds, omega (arith, z.numbers_size), z.queue_room, z.small)
 
 pub loop-at-init : goal.loop-at-init
 loop-at-init c = (refl, refl, refl, refl, going-first _ _ _ _ _ c.requires.turned.graph _ _ _ _ _ c.start-hi.ensures c.clear.ensures c.requires.rest_value)
@@ -20,9 +17,6 @@ offset_bounds-queue-at c = omega (arith, c.requires.space.small, (going-low _ _ 
 
 pub bounds-queue-at : goal.bounds-queue-at
 bounds-queue-at c = omega (arith, c.requires.space.queue_room, c.loop-at.invariant.3, c.start-hi.auto.queue, (going-low _ _ _ _ _ _ _ _ _ _ _ c.loop-at.invariant.4 c.loop-at-test.true).0)
-
-pub insert-requires : goal.insert-requires
-insert-requires c = omega (arith, c.wide.ensures, c.requires.space.set_room, c.loop-at.invariant.0, c.clear.auto.row, (going-low _ _ _ _ _ _ _ _ _ _ _ c.loop-at.invariant.4 c.loop-at-test.true).1)
 
 pub visit-hi-requires : goal.visit-hi-requires
 visit-hi-requires c =
@@ -38,32 +32,8 @@ visit-hi-requires c =
       visit = going-take _ _ _ _ _ _ _ _ _ _ _ c.loop-at.invariant.4 c.loop-at-test.true _ (λ j. c.insert.ensures j ∙ ap (λ (i : ℕ). member c.loop-at.set j || eqb i j) c.wide.ensures) _ c.requires.turned.opposite;
     }
 
-pub overflow_add-at : goal.overflow_add-at
-overflow_add-at c = omega (arith, c.requires.space.small, (going-low _ _ _ _ _ _ _ _ _ _ _ c.loop-at.invariant.4 c.loop-at-test.true).0)
-
 pub loop-at-smaller : goal.loop-at-smaller
 loop-at-smaller c = omega (arith, (going-low _ _ _ _ _ _ _ _ _ _ _ c.loop-at.invariant.4 c.loop-at-test.true).0)
-
-pub loop-at-preserved : goal.loop-at-preserved
-loop-at-preserved c = (
-  c.insert.auto.row ∙ c.loop-at.invariant.0,
-  c.visit-hi.auto.rest ∙ c.loop-at.invariant.1,
-  c.visit-hi.auto.numbers ∙ c.loop-at.invariant.2,
-  c.visit-hi.auto.queue ∙ c.loop-at.invariant.3,
-  going_next _ _ _ _ _ _ _ _ _ _ _ c.loop-at.invariant.4 _ _ _ _ _ _ c.visit-hi.ensures,
-)
-
-pub shape_of-set : goal.shape_of-set
-shape_of-set c = c.loop-at.invariant.0 ∙ c.clear.auto.row
-
-pub shape_of-rest : goal.shape_of-rest
-shape_of-rest c = c.loop-at.invariant.1
-
-pub shape_of-numbers : goal.shape_of-numbers
-shape_of-numbers c = c.loop-at.invariant.2 ∙ c.start-hi.auto.numbers
-
-pub shape_of-queue : goal.shape_of-queue
-shape_of-queue c = c.loop-at.invariant.3 ∙ c.start-hi.auto.queue
 
 pub returns : goal.returns
 returns c = going-last _ _ _ _ _ _ _ _ _ _ _ c.loop-at.invariant.4 c.requires.turned.graph c.loop-at-test.false

@@ -23,32 +23,32 @@ pub returns-then-budget-gt-MOST_STEPS : goal.returns-then-budget-gt-MOST_STEPS
 returns-then-budget-gt-MOST_STEPS c =
     (budget-refused c.if-budget-gt-MOST_STEPS.true (omega (arith, refusal-most budget_number 0 (omega arith) (omega arith), c.if-out-lt-HEADING_ROOM.false)) c.refusal.ensures, refl)
 
-pub refusal-requires-in-Refused : goal.refusal-requires-in-Refused
-refusal-requires-in-Refused c =
-    omega (arith, refusal-most c.in-Refused.n c.line_of_number-line.result (search rules) (search rules), c.if-out-lt-HEADING_ROOM.false)
+pub refusal-requires-in-Err : goal.refusal-requires-in-Err
+refusal-requires-in-Err c =
+    omega (arith, refusal-most c.number-n.result c.line_of_number-line.result (search rules) (search rules), c.if-out-lt-HEADING_ROOM.false)
 
 pub judged-requires : goal.judged-requires
 judged-requires c =
     c.if-out-lt-HEADING_ROOM.false
 
-pub returns-in-Refused : goal.returns-in-Refused
-returns-in-Refused c =
-    let small : c.in-Refused.n < 2 ^ 8 = search rules in
+pub returns-in-Err : goal.returns-in-Err
+returns-in-Err c =
+    let small : c.number-n.result < 2 ^ 8 = search rules in
     let short : c.line_of_number-line.result < 2 ^ 32 = search rules in
-    let n = c.in-Refused.n in
+    let n = c.number-n.result in
     head-refused c.args.program.now c.args.marks.now _
     (record { verdicts = c.verdict_buffer-verdicts.result; new = c.args.new.now })
     (record { verdicts = c.judge-answer.new.verdicts; new = c.judge-answer.new.text })
-    c.judge-answer.ensures c.if-budget-gt-MOST_STEPS.false n c.line_of_number-line.result c.in-Refused.is
+    c.judge-answer.ensures c.if-budget-gt-MOST_STEPS.false n c.line_of_number-line.result c.in-Err.is c.number-n.ensures
     (omega arith, c.if-new-lt-TEXT_BYTES.false) (blamed c.line_of_number-line.ensures)
-    (omega (arith, refusal-most n c.line_of_number-line.result small short, c.if-out-lt-HEADING_ROOM.false)) c.refusal-in-Refused.ensures
+    (omega (arith, refusal-most n c.line_of_number-line.result small short, c.if-out-lt-HEADING_ROOM.false)) c.refusal-in-Err.ensures
 
-pub returns-in-Finished : goal.returns-in-Finished
-returns-in-Finished c =
-    let m = c.in-Finished.count in
-    let a = c.in-Finished.accepted in
+pub returns-in-Ok : goal.returns-in-Ok
+returns-in-Ok c =
+    let m = c.in-Ok.told.marks in
+    let a = c.in-Ok.told.accepted in
     head-judged c.args.program.now c.args.marks.now _
     (record { verdicts = c.verdict_buffer-verdicts.result; new = c.args.new.now })
     (record { verdicts = c.judge-answer.new.verdicts; new = c.judge-answer.new.text })
-    c.judge-answer.ensures c.if-budget-gt-MOST_STEPS.false m a _ c.in-Finished.is
+    c.judge-answer.ensures c.if-budget-gt-MOST_STEPS.false c.in-Ok.told c.in-Ok.is
     (omega (arith, heading-most m a (search rules) (search rules), c.if-out-lt-HEADING_ROOM.false)) c.judged.ensures

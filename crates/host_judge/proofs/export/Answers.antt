@@ -2,10 +2,10 @@
 use mathlib.Core.Path.{refl}
 use Rattle.host_judge.proofs.export.Goals as goal
 
-pub returns-in-Refused : goal.returns-in-Refused
-returns-in-Refused c =
-    record { answer = c.judge-answer.result; answers = c.judge-answer.ensures; returned = rw c.in-Refused.is (refl, refl) }
+pub returns-in-Err : goal.returns-in-Err
+returns-in-Err c =
+    record { answer = c.judge.result; answers = c.judge.ensures; returned = rw c.in-Err.is (c.number.ensures, refl) }
 
-pub returns-in-Finished : goal.returns-in-Finished
-returns-in-Finished c =
-    record { answer = c.judge-answer.result; answers = c.judge-answer.ensures; returned = rw c.in-Finished.is (refl, refl) }
+pub returns-in-Ok : goal.returns-in-Ok
+returns-in-Ok c =
+    record { answer = c.judge.result; answers = c.judge.ensures; returned = rw c.in-Ok.is (refl, refl) }

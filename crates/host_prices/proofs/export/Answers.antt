@@ -1,11 +1,9 @@
--- `export` meets its contract: the answer of `read_prices`, told case by case. Assumes nothing.
 use mathlib.Core.Path.{refl}
+use Rattle.std.specs.Prelude.{Ok, Err}
 use Rattle.host_prices.proofs.export.Goals as goal
 
-pub returns-in-Taken : goal.returns-in-Taken
-returns-in-Taken c =
-    record { answer = c.read_prices-read.result.answer; table = c.read_prices-read.result.prices; answers = c.read_prices-read.ensures; returned = rw c.in-Taken.is (refl, refl) }
+pub returns-in-Ok : goal.returns-in-Ok
+returns-in-Ok c = record { answer = Ok c.in-Ok.table; answers = c.in-Ok.ensures; returned = (refl, refl) }
 
-pub returns-in-Refused : goal.returns-in-Refused
-returns-in-Refused c =
-    record { answer = c.read_prices-read.result.answer; table = c.read_prices-read.result.prices; answers = c.read_prices-read.ensures; returned = rw c.in-Refused.is (refl, refl) }
+pub returns-in-Err : goal.returns-in-Err
+returns-in-Err c = record { answer = Err c.in-Err.refusal; answers = c.in-Err.ensures; returned = (c.number.ensures, refl) }

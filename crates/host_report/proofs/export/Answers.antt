@@ -7,29 +7,27 @@ use borrow.Author.Rules.{rules}
 use Rattle.priced.specs.Priced.{ReportListed}
 use Rattle.host_report.proofs.Sizes.{listed-sizes}
 use Rattle.host_report.proofs.export.Goals as goal
-use Rattle.host_report.proofs.export.Goals.{In-Listed}
+use Rattle.host_report.proofs.export.Goals.{In-Ok}
 
 -- the answer is a report
-listed : (c : In-Listed)
-    → ReportListed c.args.prices.now c.args.program.now c.args.marks.now c.report-priced.result.list
-listed c = rw c.in-Listed.is at c.report-priced.ensures
+listed : (c : In-Ok)
+    → ReportListed c.args.prices.now c.args.program.now c.args.marks.now c.in-Ok.list
+listed c = rw c.in-Ok.is at c.report.ensures
 
 pub copy-requires : goal.copy-requires
-copy-requires c = let s = listed-sizes (listed (goal.at.copy-requires c).In-Listed) in (s.0, s.1)
+copy-requires c = let s = listed-sizes (listed (goal.at.copy-requires c).In-Ok) in (s.0, s.1)
 
-pub copy-requires-in-Listed : goal.copy-requires-in-Listed
-copy-requires-in-Listed c = let s = listed-sizes (listed (goal.at.copy-requires-in-Listed c).In-Listed) in (s.0, s.2)
+pub copy-requires-in-Ok : goal.copy-requires-in-Ok
+copy-requires-in-Ok c = let s = listed-sizes (listed (goal.at.copy-requires-in-Ok c).In-Ok) in (s.0, s.2)
 
-pub returns-in-Refused : goal.returns-in-Refused
-returns-in-Refused c =
-    record { answer = c.report-priced.result.answer; list = c.report-priced.result.list; answers = c.report-priced.ensures; returned = rw c.in-Refused.is (refl, refl) }
+pub returns-in-Err : goal.returns-in-Err
+returns-in-Err c = record { answer = c.report.result; answers = c.report.ensures; returned = rw c.in-Err.is (c.number.ensures, refl) }
 
-pub returns-in-Listed : goal.returns-in-Listed
-returns-in-Listed c =
-    let fits : SFits w32 c.report-priced.result.list.saved = search rules in
+pub returns-in-Ok : goal.returns-in-Ok
+returns-in-Ok c =
+    let fits : SFits w32 c.in-Ok.list.saved = search rules in
     record {
-      answer = c.report-priced.result.answer;
-      list = c.report-priced.result.list;
-      answers = c.report-priced.ensures;
-      returned = rw c.in-Listed.is (refl, rw (c.copy.ensures, c.copy-in-Listed.ensures, to_z-of_z {w = w32} fits));
+      answer = c.report.result;
+      answers = c.report.ensures;
+      returned = rw c.in-Ok.is (refl, rw (c.copy.ensures, c.copy-in-Ok.ensures, to_z-of_z {w = w32} fits));
     }

@@ -1,9 +1,9 @@
 -- `host_why::export` meets its contract: the answer of `why`, told case by case. Assumes nothing.
-use mathlib.Core.Path.{refl}
+use mathlib.Core.Path.{refl, ap}
 use Rattle.host_why.proofs.export.Goals as goal
 
-pub returns-in-Refused : goal.returns-in-Refused
-returns-in-Refused c = record { answer = c.why-answer.result; answers = c.why-answer.ensures; returned = rw c.in-Refused.is (refl, refl) }
+pub returns-in-Err : goal.returns-in-Err
+returns-in-Err c = record { answer = c.why.result; answers = c.why.ensures; returned = rw c.in-Err.is (c.number.ensures, refl) }
 
-pub returns-in-Verdict : goal.returns-in-Verdict
-returns-in-Verdict c = record { answer = c.why-answer.result; answers = c.why-answer.ensures; returned = rw c.in-Verdict.is (refl, refl) }
+pub returns-in-Ok : goal.returns-in-Ok
+returns-in-Ok c = record { answer = c.why.result; answers = c.why.ensures; returned = rw c.in-Ok.is (refl, ap (λ verdict. record { verdict = verdict; length = c.in-Ok.because.length; culprit = c.in-Ok.because.culprit }) c.from.ensures) }

@@ -33,7 +33,7 @@ pub overflow_sub-last : goal.overflow_sub-last
 overflow_sub-last c = let s = sizes c.requires.held c.requires.held_2 c.requires.count_bound in omega arith
 
 pub loop-s-init : goal.loop-s-init
-loop-s-init c = (omega arith, written_none c.requires.creeper_in_bounds)
+loop-s-init c = written_none c.requires.creeper_in_bounds
 
 pub offset_bounds-road-s : goal.offset_bounds-road-s
 offset_bounds-road-s c = let s = sizes c.requires.held c.requires.held_2 c.requires.count_bound in omega arith
@@ -45,19 +45,13 @@ pub line-at-requires : goal.line-at-requires
 line-at-requires c =
     let s = sizes c.requires.held c.requires.held_2 c.requires.count_bound in
     let l = c.loop-s-test.true in
-    line_room c.loop-s.invariant.1 (omega arith) _ (c.statement_of-i.ensures ∙ road-line c.requires.held.0 c.requires.held.1 c.requires.held_2.0 c.requires.held_2.1 c.loop-s.s l)
-
-pub overflow_add-s : goal.overflow_add-s
-overflow_add-s c = let s = sizes c.requires.held c.requires.held_2 c.requires.count_bound in omega arith
-
-pub loop-s-smaller : goal.loop-s-smaller
-loop-s-smaller c = omega arith
+    line_room c.loop-s.invariant (omega arith) _ (c.statement_of-i.ensures ∙ road-line c.requires.held.0 c.requires.held.1 c.requires.held_2.0 c.requires.held_2.1 c.loop-s.s l)
 
 pub loop-s-preserved : goal.loop-s-preserved
 loop-s-preserved c =
     let s = sizes c.requires.held c.requires.held_2 c.requires.count_bound in
     let l = c.loop-s-test.true in
-    (omega arith, written-more c.loop-s.invariant.1 (omega arith) _ (c.statement_of-i.ensures ∙ road-line c.requires.held.0 c.requires.held.1 c.requires.held_2.0 c.requires.held_2.1 c.loop-s.s l) c.line-at.ensures)
+    written-more c.loop-s.invariant (omega arith) _ (c.statement_of-i.ensures ∙ road-line c.requires.held.0 c.requires.held.1 c.requires.held_2.0 c.requires.held_2.1 c.loop-s.s l) c.line-at.ensures
 
 -- ---- the seam
 pub offset_bounds-road-last : goal.offset_bounds-road-last
@@ -68,7 +62,7 @@ bounds-road-last c = let s = sizes c.requires.held c.requires.held_2 c.requires.
 
 -- all lines of the road but the last are written
 before-seam : (c : After-loop-s) → Written (joined (statements c.args.road) (statements c.args.creeper)) c.args.out.now c.loop-s.out c.loop-s.at (c.args.road.count - 1)
-before-seam c = let e : c.loop-s.s ≡ c.args.road.count - 1 = omega (arith, c.loop-s.invariant.0) in rw e at c.loop-s.invariant.1
+before-seam c = let e : c.loop-s.s ≡ c.args.road.count - 1 = omega (arith, c.loop-s.auto.s-end) in rw e at c.loop-s.invariant
 
 pub line-at-requires-2 : goal.line-at-requires-2
 line-at-requires-2 c =
@@ -82,8 +76,8 @@ overflow_cast-d c = let s = sizes c.requires.held c.requires.held_2 c.requires.c
 after-seam : (c : After-line-at-2) → Written (joined (statements c.args.road) (statements c.args.creeper)) c.args.out.now c.line-at-2.new.out c.line-at-2.result (c.args.road.count - 1 + 1)
 after-seam c =
     let s = sizes c.requires.held c.requires.held_2 c.requires.count_bound in
-    let e : c.loop-s.s ≡ c.args.road.count - 1 = omega (arith, c.loop-s.invariant.0) in
-    written-more (rw e at c.loop-s.invariant.1) (omega arith) _
+    let e : c.loop-s.s ≡ c.args.road.count - 1 = omega (arith, c.loop-s.auto.s-end) in
+    written-more (rw e at c.loop-s.invariant) (omega arith) _
     (seam-line c.requires.held.0 c.requires.held.1 c.requires.held_2.0 c.requires.held_2.1 refl _ _ (rw c.statement_of-written.ensures at c.writes-x.ensures) (rw c.statement_of-begun.ensures at c.reads-y.ensures))
     c.line-at-2.ensures
 
@@ -111,12 +105,6 @@ pub line-at-requires-in-loop-k : goal.line-at-requires-in-loop-k
 line-at-requires-in-loop-k c =
     let l = creeper-lines c.requires.held.0 c.requires.held.1 c.requires.held_2.0 c.requires.held_2.1 refl c.loop-k.k c.loop-k.invariant.begun c.loop-k-test.true in
     line_room (lines (goal.at.line-at-requires-in-loop-k c).After-line-at-2 c.loop-k.invariant) l.1 _ ((rw c.statement_of-i-in-loop-k.ensures at c.moved-j.ensures) ∙ l.0)
-
-pub overflow_add-k : goal.overflow_add-k
-overflow_add-k c = let s = sizes c.requires.held c.requires.held_2 c.requires.count_bound in omega arith
-
-pub loop-k-smaller : goal.loop-k-smaller
-loop-k-smaller c = omega arith
 
 pub loop-k-preserved : goal.loop-k-preserved
 loop-k-preserved c =

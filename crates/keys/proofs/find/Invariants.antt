@@ -1,4 +1,3 @@
-use Prim.Native.Nat.{◌-◌}
 use Rattle.keys.proofs.Lists.{Search}
 use Rattle.keys.proofs.find.Given as goal
 

@@ -1,15 +1,8 @@
 -- `labelling::apply` meets its contract: one law of proofs/Labels.antt for each operator.
 -- Assumes nothing.
-use native.Mathlib.Omega.{arith}
 use Rattle.bits.specs.Row.{member}
 use Rattle.labelling.proofs.Labels.{next-label, finally-label, until-label, globally-label, weak-label}
 use Rattle.labelling.proofs.apply.Goals as goal
-
-pub next-requires : goal.next-requires
-next-requires c =
-    let g = c.requires.directions_at in
-    let r = c.requires.rows in
-    record { steps_len = (g.steps_size, g.directions.few); linked = g.directions.forth; n_in_bounds = (omega (arith, r.of_p, r.room), r.room) }
 
 pub returns-in-Next : goal.returns-in-Next
 returns-in-Next c =

@@ -1,28 +1,21 @@
--- `list` meets its contract: the program's list is made in the lent words. Assumes nothing.
+-- The program's list is made in the lent words.
 use mathlib.Core.Path.{refl}
 use mathlib.Core.Logic.{inl, inr}
 use native.Mathlib.Omega.{arith}
-use Rattle.program.specs.Program.{Taken}
-use Rattle.program.specs.Reading.{statements, Held}
+use Rattle.std.proofs.lemmas.Result.{err_from_is_err_and}
 use Rattle.list.proofs.list.Goals as goal
-use Rattle.list.proofs.list.Goals.{In_default}
 
 pub returns-then-list-lt-LIST_WORDS : goal.returns-then-list-lt-LIST_WORDS
-returns-then-list-lt-LIST_WORDS c = rw c.refused.ensures.0 (inl (c.if-list-lt-LIST_WORDS.true, refl), refl, c.refused.ensures.1)
+returns-then-list-lt-LIST_WORDS c = (inl (c.if-list-lt-LIST_WORDS.true, refl), refl)
 
-pub returns-in-Refused : goal.returns-in-Refused
-returns-in-Refused c =
-    let read = rw c.in-Refused.is at c.read-reading.ensures in
-    rw c.refused-in-Refused.ensures.0 (inr (c.if-list-lt-LIST_WORDS.false, c.in-Refused.refusal, read.0, c.number_of.ensures), refl, c.refused-in-Refused.ensures.1)
-
--- the text that was read is taken
-program-taken : (c : In_default) → let p = c.read-reading.result.program in Taken c.args.program.now (statements p) × Held p
-program-taken c = rw c.in_default.is at c.read-reading.ensures
+pub returns-in_err-p : goal.returns-in_err-p
+returns-in_err-p c =
+    let q = err_from_is_err_and c.from_residual.result c.from_residual.ensures.1 in
+    rw (q.1, q.2) (inr (c.if-list-lt-LIST_WORDS.false, c.in_err-p.field-0.0, c.in_err-p.ensures, refl), refl)
 
 pub make-requires : goal.make-requires
 make-requires c =
-    let p = program-taken (goal.at.make-requires c).In_default in
-    record { held = p.1; well_formed = p.0.program; list_words_in_bounds = c.if-list-lt-LIST_WORDS.false }
+    let p = c.in_ok-p.ensures in record { held = p.1; well_formed = p.0.program; list_words_in_bounds = c.if-list-lt-LIST_WORDS.false }
 
 pub listed-requires : goal.listed-requires
 listed-requires c = omega (arith, c.make.ensures.beyond.same, c.if-list-lt-LIST_WORDS.false)
@@ -31,13 +24,12 @@ pub shape_of-list : goal.shape_of-list
 shape_of-list c = c.make.ensures.beyond.same
 
 pub returns : goal.returns
-returns c =
-    rw c.listed.ensures.0 (record {
-      P = _;
-      room = c.if-list-lt-LIST_WORDS.false;
-      program = (program-taken (goal.at.returns c).In_default).0;
-      made = c.make.ensures.listed;
-      same = c.make.ensures.beyond.same;
-      past = c.make.ensures.beyond.past;
-      counted = c.listed.ensures.1;
-    })
+returns c = record {
+  P = _;
+  room = c.if-list-lt-LIST_WORDS.false;
+  program = c.in_ok-p.ensures.0;
+  made = c.make.ensures.listed;
+  same = c.make.ensures.beyond.same;
+  past = c.make.ensures.beyond.past;
+  counted = c.listed.ensures;
+}

@@ -13,8 +13,8 @@ bounds-values-i-in-Write c = rw c.in-Write.is at c.requires.valid
 pub evaluate-given-requires : goal.evaluate-given-requires
 evaluate-given-requires c = (rw c.in-Assign.is at c.requires.valid).1
 
-pub bounds-values-i-in-Value : goal.bounds-values-i-in-Value
-bounds-values-i-in-Value c =
+pub bounds-values-i-in-Some : goal.bounds-values-i-in-Some
+bounds-values-i-in-Some c =
     (rw c.in-Assign.is at c.requires.valid).0
 
 pub bounds-values-i-in-Branch : goal.bounds-values-i-in-Branch
@@ -32,13 +32,13 @@ returns-in-Read c = rw c.in-Read.is
 pub returns-in-Write : goal.returns-in-Write
 returns-in-Write c = rw c.in-Write.is
 
-pub returns-in-Value : goal.returns-in-Value
-returns-in-Value c =
-    rw c.in-Assign.is (rw (sym c.evaluate-given.ensures ∙ c.in-Value.is))
+pub returns-in-Some : goal.returns-in-Some
+returns-in-Some c =
+    rw c.in-Assign.is (rw (sym c.evaluate-given.ensures ∙ c.in-Some.is))
 
-pub returns-in-Fault : goal.returns-in-Fault
-returns-in-Fault c =
-    rw c.in-Assign.is (rw (sym c.evaluate-given.ensures ∙ c.in-Fault.is))
+pub returns-in-None : goal.returns-in-None
+returns-in-None c =
+    rw c.in-Assign.is (rw (sym c.evaluate-given.ensures ∙ c.in-None.is))
 
 pub returns-then-values-i-eq0 : goal.returns-then-values-i-eq0
 returns-then-values-i-eq0 c = rw (c.in-Branch.is, eq-eqb _ _ c.if-values-i-eq0.true)

@@ -1,28 +1,24 @@
--- `connective` meets its contract: `&` and `|` have their codes, and no other byte is one. Assumes nothing.
-use Rattle.base.specs.Bytes.{byte}
-use Rattle.operator_reader.proofs.Operators.{coded-ended}
-use Rattle.operator_reader.specs.Parsing.{parse_letter, by_letter}
-use Rattle.condition.specs.Words.{binary_code}
-use Rattle.condition.specs.Condition.{conjunction, disjunction}
-use borrow.Author.Tests.{ne_eqb}
+use Rattle.std.proofs.Common.{rules, ◌∙◌}
 use Rattle.tokens.proofs.Steps.{at-end, at_byte}
-use mathlib.Core.Path.{◌∙◌}
-use native.Mathlib.Omega.{arith}
+use Rattle.condition.specs.Condition.{conjunction, disjunction}
+use Rattle.condition.specs.Words.{binary_code}
+use Rattle.operator_reader.specs.Parsing.{parse_letter, by_letter}
+use Rattle.operator_reader.proofs.Operators.{coded-ended, connective-other}
 use Rattle.operator_reader.proofs.connective.Goals as goal
 
-pub returns-then-s-at : goal.returns-then-s-at
-unfolding parse_letter by_letter
-returns-then-s-at c = record { result_value = rw (at-end _ _ c.if-s-at.true); result_in_bounds = omega arith }
+pub returns-in_err-get-clause-result_value : goal.returns-in_err-get-clause-result_value
+unfolding parse_letter
+returns-in_err-get-clause-result_value c = rw (c.from_residual.ensures, at-end _ _ c.in_err-get.ensures.lookup.3)
 
-pub returns-in-38 : goal.returns-in-38
+pub returns-in-38-clause-result_value : goal.returns-in-38-clause-result_value
 unfolding parse_letter by_letter
-returns-in-38 c = record { result_value = rw (at_byte _ _ c.if-s-at.false, c.in-38.is) (c.spaced.ensures.result_value ∙ coded-ended binary_code conjunction _ _); result_in_bounds = c.spaced.ensures.result_in_bounds }
+returns-in-38-clause-result_value c =
+    let h = c.in_ok-get.ensures.lookup.3 in rw (at_byte _ _ h.0, ← h.1 0, c.in-38.is) (c.ended.ensures.result_value ∙ coded-ended binary_code conjunction _ _)
 
-pub returns-in-124 : goal.returns-in-124
+pub returns-in-124-clause-result_value : goal.returns-in-124-clause-result_value
 unfolding parse_letter by_letter
-returns-in-124 c = record { result_value = rw (at_byte _ _ c.if-s-at.false, c.in-124.is) (c.spaced-in-124.ensures.result_value ∙ coded-ended binary_code disjunction _ _); result_in_bounds = c.spaced-in-124.ensures.result_in_bounds }
+returns-in-124-clause-result_value c =
+    let h = c.in_ok-get.ensures.lookup.3 in rw (at_byte _ _ h.0, ← h.1 0, c.in-124.is) (c.ended-in-124.ensures.result_value ∙ coded-ended binary_code disjunction _ _)
 
-pub returns-in_default : goal.returns-in_default
-unfolding parse_letter by_letter
-returns-in_default c =
-    let n = c.in_default.in_default-own.rest in record { result_value = rw (at_byte _ _ c.if-s-at.false, ne_eqb _ (byte "&") n.0.1, ne_eqb _ (byte "|") n.1); result_in_bounds = omega arith }
+pub returns-in_default-clause-result_value : goal.returns-in_default-clause-result_value
+returns-in_default-clause-result_value c = let h = c.in_ok-get.ensures.lookup.3 in rw (at_byte _ _ h.0, ← h.1 0) (search (rules, connective-other))

@@ -7,14 +7,13 @@ use Rattle.outcome.proofs.Outputs.{refusal-printed, answer-printed}
 use Rattle.outcome.proofs.run_outcome.Goals as goal
 
 pub refusal-requires : goal.refusal-requires
-refusal-requires c = omega (arith, refused-most c.in-Refused.n c.line_of_number-line.result (search rules) (search rules))
+refusal-requires c = omega (arith, refused-most c.number-n.result c.line_of_number-line.result (search rules) (search rules))
 
-pub returns-in-Refused : goal.returns-in-Refused
-returns-in-Refused c =
-    let n = c.in-Refused.n in
-    refusal-printed _ _ _ _ (rw c.ours.ensures at c.run-ran.ensures) n c.line_of_number-line.result c.in-Refused.is (blamed c.line_of_number-line.ensures)
+pub returns-in-Err : goal.returns-in-Err
+returns-in-Err c =
+    let n = c.number-n.result in
+    refusal-printed c.args.values c.args.input n c.line_of_number-line.result (rw c.number-n.ensures c.in-Err.ensures) (blamed c.line_of_number-line.ensures)
     (omega (arith, refused-most n c.line_of_number-line.result (search rules) (search rules))) c.refusal.ensures
 
-pub returns-in-Finished : goal.returns-in-Finished
-returns-in-Finished c =
-    answer-printed _ _ _ _ (rw c.ours.ensures at c.run-ran.ensures) _ c.in-Finished.is c.answer_text.ensures.0 (omega (arith, c.answer_text.ensures.1))
+pub returns-in-Ok : goal.returns-in-Ok
+returns-in-Ok c = answer-printed _ _ c.in-Ok.ran (rw c.ours.ensures at c.in-Ok.ensures) c.answer_text.ensures.0 (omega (arith, c.answer_text.ensures.1))

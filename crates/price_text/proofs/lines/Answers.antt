@@ -19,16 +19,7 @@ line-to-requires c =
 pub loop-s-preserved : goal.loop-s-preserved
 loop-s-preserved c = one_written (line-parts c.args.n c.args.before.now c.args.after.now c.requires.0 c.requires.2 c.requires.3) c.loop-s.invariant c.loop-s-test.true c.line-to.ensures
 
-pub shape_of-out : goal.shape_of-out
-shape_of-out c = put-length c.loop-s.invariant.put
-
 pub returns : goal.returns
 returns c =
     let all = all-written c.loop-s.invariant c.loop-s-test.false in
     (all, omega (arith, all.after, parts-most (line-parts c.args.n c.args.before.now c.args.after.now c.requires.0 c.requires.2 c.requires.3) c.args.n (omega arith)))
-
-pub bounds-before-i : goal.bounds-before-i
-bounds-before-i c = omega (arith, c.loop-s-test.true, c.requires.0)
-
-pub bounds-after-i : goal.bounds-after-i
-bounds-after-i c = omega (arith, c.loop-s-test.true, c.requires.0)

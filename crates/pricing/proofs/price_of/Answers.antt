@@ -2,4 +2,4 @@
 use Rattle.pricing.proofs.price_of.Goals as goal
 
 pub returns : goal.returns
-returns c = rw c.kind_of-k.ensures.0
+returns c = rw c.kind_of.ensures.0

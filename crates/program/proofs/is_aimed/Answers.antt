@@ -1,5 +1,3 @@
-use borrow.Author.Tests.{not-true, not-false}
-use Rattle.base.proofs.Decides.{decided-true, decided-false, decides-same}
 use Rattle.program.proofs.is_aimed.Goals as goal
 
 pub returns-in-Read : goal.returns-in-Read

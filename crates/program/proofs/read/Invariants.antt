@@ -1,6 +1,6 @@
 use Rattle.language.specs.declared.Statement.{Statement}
 use mathlib.Core.List.{map, List}
-use Prim.Native.Nat.{◌-◌, ℕ, ◌≤◌}
+use Prim.Native.Nat.{ℕ, ◌≤◌}
 use lib.ListN.{take, length}
 use Rattle.encoding.specs.Encoding.{statement_in}
 use Rattle.program.specs.Program.{InPlace, Placed, fewest, most, Targets}
@@ -24,11 +24,5 @@ Aims N s = Targets N
 abbrev pub invariant-loop-i : goal.invariant-loop-i
 invariant-loop-i l = Inv InPlace l.s l.entries l.count l.i
 
-abbrev pub decreases-loop-i : goal.decreases-loop-i
-decreases-loop-i l = l.count - l.i
-
 abbrev pub invariant-loop-j : goal.invariant-loop-j
 invariant-loop-j l = Inv Aims l.s l.entries l.count l.j × Placed (map statement_in (take l.count l.entries))
-
-abbrev pub decreases-loop-j : goal.decreases-loop-j
-decreases-loop-j l = l.count - l.j

@@ -1,8 +1,8 @@
 -- `write` meets its contract. The invariant: the lines before place s are written. Assumes nothing.
 use Rattle.language.specs.declared.Statement.TheVariants.{Skip}
-use Prim.Native.Nat.{ℕ, ◌+◌, ◌-◌, ◌≤◌, ◌<◌}
+use Prim.Native.Nat.{ℕ, ◌+◌, ◌≤◌, ◌<◌}
 use mathlib.Core.Path.{◌≡◌, refl, ap, ◌∙◌}
-use mathlib.Core.List.{List, [], ◌∷◌, ◌++◌, map}
+use mathlib.Core.List.{List, [], ◌∷◌, ◌++◌}
 use native.Mathlib.Omega.{arith}
 use borrow.Author.Rules.{rules}
 use lib.ListN.{length, take}
@@ -10,11 +10,9 @@ use lib.Seq.{take_all, length-sets}
 use Rattle.lines.specs.Lines as lines
 use Rattle.lines.proofs.Texts.{text-more, text-take}
 use Rattle.language.specs.Spelling.{spell}
-use Rattle.statement_writer.specs.Writing.{Put}
 use Rattle.statement_writer.proofs.Puts.{put_then, room}
 use Rattle.encoding.specs.declared.Entry.{Entry}
-use Rattle.encoding.specs.Encoding.{statement_in}
-use Rattle.program.specs.Program.{at, text, most}
+use Rattle.program.specs.Program.{text}
 use Rattle.program.proofs.Held.{held, length-held, at_held}
 use Rattle.program.proofs.write.Invariants.{listed, Inv}
 use Rattle.program.proofs.write.Goals as goal

@@ -1,6 +1,6 @@
 use Rattle.language.specs.declared.Statement.{Statement}
-use Prim.Native.Nat.{◌-◌, ℕ, ◌≤◌}
-use Rattle.program.specs.Program.{at, text, most}
+use Prim.Native.Nat.{ℕ, ◌≤◌}
+use Rattle.program.specs.Program.{text, most}
 use mathlib.Core.Path.{◌≡◌}
 use mathlib.Core.List.{List, map}
 use lib.ListN.{length, take}
@@ -20,7 +20,4 @@ pub record Inv (o : List ℕ) (es : List Entry) (n : ℕ) (q : List ℕ) (at s :
   pub put : Put o 0 (text (take s (listed es n))) q at
 
 abbrev pub invariant-loop-s : goal.invariant-loop-s
-invariant-loop-s l = Inv l.initial.out l.p.entries l.n l.out l.at l.s
-
-abbrev pub decreases-loop-s : goal.decreases-loop-s
-decreases-loop-s l = l.n - l.s
+invariant-loop-s l = Inv l.initial.out l.p.entries l.p.count l.out l.at l.s

@@ -16,19 +16,19 @@ pub returns-in_default : goal.returns-in_default
 returns-in_default c = absurd (line-there c.loop-from.invariant c.in_default.is c.line.ensures c.loop-from-test.true)
 
 pub bounds-verdicts-j : goal.bounds-verdicts-j
-bounds-verdicts-j c = verdict-there c.loop-from.invariant c.in-Found.is c.line.ensures
+bounds-verdicts-j c = verdict-there c.loop-from.invariant c.in-Some.is c.line.ensures
 
 pub write_verdict-to-requires : goal.write_verdict-to-requires
-write_verdict-to-requires c = line_room c.loop-from.invariant c.in-Found.is c.line.ensures c.statement_of.ensures
+write_verdict-to-requires c = line_room c.loop-from.invariant c.in-Some.is c.line.ensures c.statement_of.ensures
 
 pub overflow_add-j : goal.overflow_add-j
-overflow_add-j c = omega (arith, verdict-there c.loop-from.invariant c.in-Found.is c.line.ensures)
+overflow_add-j c = omega (arith, verdict-there c.loop-from.invariant c.in-Some.is c.line.ensures)
 
 pub loop-from-smaller : goal.loop-from-smaller
-loop-from-smaller c = line-further c.args.list.now c.loop-from.from c.in-Found.is c.line.ensures
+loop-from-smaller c = line-further c.args.list.now c.loop-from.from c.in-Some.is c.line.ensures
 
 pub loop-from-preserved : goal.loop-from-preserved
-loop-from-preserved c = written-more c.loop-from.invariant c.in-Found.is c.line.ensures c.statement_of.ensures c.write_verdict-to.ensures
+loop-from-preserved c = written-more c.loop-from.invariant c.in-Some.is c.line.ensures c.statement_of.ensures c.write_verdict-to.ensures
 
 pub shape_of-out : goal.shape_of-out
 shape_of-out c = written-length c.loop-from.invariant

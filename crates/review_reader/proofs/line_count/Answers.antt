@@ -4,7 +4,6 @@ use Rattle.review_reader.proofs.Splits.{line_of}
 use Rattle.review_reader.specs.Reading.{itself, Unbroken}
 use Rattle.lines.proofs.Reading.{none_yet, one_more}
 use native.Mathlib.Omega.{arith}
-use Prim.Native.Nat.{◌-◌}
 use Rattle.review_reader.proofs.line_count.Goals as goal
 
 pub loop-at-init : goal.loop-at-init

@@ -2,21 +2,21 @@
 use lib.ListN.{get_or}
 use borrow.Author.Count.{below_more}
 use native.Mathlib.Omega.{arith}
-use Prim.Native.Nat.{◌-◌, ◌≤◌}
+use Prim.Native.Nat.{◌≤◌}
 use mathlib.Core.Path.{◌≡◌}
 use Rattle.review_reader.proofs.line_end.Goals as goal
 
 pub loop-k-init : goal.loop-k-init
-loop-k-init c = (omega arith, omega arith, λ i a b. absurd (omega arith))
+loop-k-init c = λ i a b. absurd (omega arith)
 
 pub returns-then-s-k-eq10 : goal.returns-then-s-k-eq10
-returns-then-s-k-eq10 c = record { from = c.loop-k.invariant.0; within = c.loop-k.invariant.1; unbroken = c.loop-k.invariant.2; ended = λ _. c.if-s-k-eq10.true }
+returns-then-s-k-eq10 c = record { from = omega arith; within = omega arith; unbroken = c.loop-k.invariant; ended = λ _. c.if-s-k-eq10.true }
 
 pub loop-k-preserved : goal.loop-k-preserved
 loop-k-preserved c =
     let s = c.args.s.now in
     let at = c.args.at in
-    (omega arith, omega arith, λ i a b. below_more (λ j. at ≤ j → get_or s j 0 ≡ 10 → ⊥) c.loop-k.k (λ j d e. c.loop-k.invariant.2 j e d) (λ _. c.if-s-k-eq10.false) i b a)
+    λ i a b. below_more (λ j. at ≤ j → get_or s j 0 ≡ 10 → ⊥) c.loop-k.k (λ j d e. c.loop-k.invariant j e d) (λ _. c.if-s-k-eq10.false) i b a
 
 pub returns : goal.returns
-returns c = record { from = c.loop-k.invariant.0; within = c.loop-k.invariant.1; unbroken = c.loop-k.invariant.2; ended = λ b. absurd (omega arith) }
+returns c = record { from = omega arith; within = omega arith; unbroken = λ i a b. c.loop-k.invariant i a (omega arith); ended = λ b. absurd (omega arith) }

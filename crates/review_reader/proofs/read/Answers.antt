@@ -1,10 +1,10 @@
 -- `read` meets its contract. The invariant: the lines before the position are taken and their parts numbered. Assumes nothing.
 use mathlib.Core.Path.{◌≡◌}
-use Rattle.review_reader.proofs.Walks.{none-refused, many-refused, walk_none, walk-line, walk_more, walk_refused, walk-few, walk-rest, walk-lines, walk-over, walk-held, walk_end}
+use Rattle.review_reader.proofs.Walks.{walk_none, walk-line, walk_more, walk_refused, walk-few, walk-rest, walk-lines, walk-over, walk-held, walk_end}
 use Rattle.sharing.specs.Sharing.{parts_of, most_lines}
 use lib.ListN.{length}
 use native.Mathlib.Omega.{arith}
-use Prim.Native.Nat.{◌-◌, ◌<◌}
+use Prim.Native.Nat.{◌<◌}
 use Rattle.review_reader.proofs.read.Goals as goal
 use Rattle.review_reader.proofs.read.Goals.{At-loop-at, In-loop-at}
 
@@ -21,12 +21,6 @@ counts_same c = omega (arith, c.loop-at.invariant.lines_of.room_counts, c.requir
 -- a line is left for the number of those that were read
 few-lines : (c : In-loop-at) → c.loop-at.j < most_lines
 few-lines c = walk-few c.loop-at.invariant c.line_count-n.ensures (omega arith) (omega arith) c.loop-at-test.true
-
-pub returns-then-n-lt1 : goal.returns-then-n-lt1
-returns-then-n-lt1 c = none-refused c.line_count-n.ensures c.if-n-lt1.true
-
-pub returns-then-n-gt-MOST_LINES : goal.returns-then-n-gt-MOST_LINES
-returns-then-n-gt-MOST_LINES c = many-refused c.line_count-n.ensures c.if-n-gt-MOST_LINES.true
 
 pub loop-at-init : goal.loop-at-init
 loop-at-init c = walk_none c.requires.0 c.blank_links-links.ensures c.blank_heads-heads.ensures c.requires.1 c.requires.2
@@ -48,34 +42,34 @@ shape_of-counts-then-text-end c = counts_same (goal.at.shape_of-counts-then-text
 
 pub returns-then-text-end : goal.returns-then-text-end
 returns-then-text-end c =
-    walk-rest c.loop-at.invariant c.line_count-n.ensures (omega arith) (omega arith) c.line_end-end.ensures c.if-text-end.true c.loop-at-test.true _ c.rest_refusal-left.ensures
+    walk-rest c.loop-at.invariant c.line_count-n.ensures (omega arith) (omega arith) c.line_end-end.ensures c.if-text-end.true c.loop-at-test.true _ c.rest_refusal.ensures
 
 pub slice_bounds-read-count : goal.slice_bounds-read-count
 slice_bounds-read-count c = c.line_end-end.ensures.from
 
-pub shape_of-entries-in-Refused : goal.shape_of-entries-in-Refused
-shape_of-entries-in-Refused c = entries-same (goal.at.shape_of-entries-in-Refused c).At-loop-at
+pub shape_of-entries-in-Err : goal.shape_of-entries-in-Err
+shape_of-entries-in-Err c = entries-same (goal.at.shape_of-entries-in-Err c).At-loop-at
 
-pub shape_of-numbers-in-Refused : goal.shape_of-numbers-in-Refused
-shape_of-numbers-in-Refused c = numbers-same (goal.at.shape_of-numbers-in-Refused c).At-loop-at
+pub shape_of-numbers-in-Err : goal.shape_of-numbers-in-Err
+shape_of-numbers-in-Err c = numbers-same (goal.at.shape_of-numbers-in-Err c).At-loop-at
 
-pub shape_of-counts-in-Refused : goal.shape_of-counts-in-Refused
-shape_of-counts-in-Refused c = counts_same (goal.at.shape_of-counts-in-Refused c).At-loop-at
+pub shape_of-counts-in-Err : goal.shape_of-counts-in-Err
+shape_of-counts-in-Err c = counts_same (goal.at.shape_of-counts-in-Err c).At-loop-at
 
-pub returns-in-Refused : goal.returns-in-Refused
-returns-in-Refused c =
-    let f = rw c.in-Refused.is at c.read-reading.ensures in
-    walk_refused c.loop-at.invariant c.line_end-end.ensures c.if-text-end.false (few-lines (goal.at.returns-in-Refused c).In-loop-at) c.line_count-n.ensures (omega arith) (omega arith) _ f.0
+pub returns-in-Err : goal.returns-in-Err
+returns-in-Err c =
+    let f = c.in-Err.ensures in
+    walk_refused c.loop-at.invariant c.line_end-end.ensures c.if-text-end.false (few-lines (goal.at.returns-in-Err c).In-loop-at) c.line_count-n.ensures (omega arith) (omega arith) _ f
 
 pub slice_bounds-number_line-end : goal.slice_bounds-number_line-end
 slice_bounds-number_line-end c = omega (arith, c.loop-at.invariant.many_links)
 
-pub slice_bounds-number_line-end-in-Taken : goal.slice_bounds-number_line-end-in-Taken
-slice_bounds-number_line-end-in-Taken c = omega (arith, c.loop-at.invariant.many_heads)
+pub slice_bounds-number_line-end-in-Ok : goal.slice_bounds-number_line-end-in-Ok
+slice_bounds-number_line-end-in-Ok c = omega (arith, c.loop-at.invariant.many_heads)
 
 pub number_line-line-requires : goal.number_line-line-requires
 number_line-line-requires c =
-    let h = rw c.in-Taken.is at c.read-reading.ensures in
+    let h = c.in-Ok.ensures in
     record { ps = parts_of c.loop-at.invariant.cs; c = h.0; line = walk-line c.loop-at.invariant c.line_end-end.ensures c.if-text-end.false (few-lines (goal.at.number_line-line-requires c).In-loop-at) h.1 h.2; sharing = c.loop-at.invariant.sharing }
 
 pub offset_bounds-numbers-j : goal.offset_bounds-numbers-j
@@ -95,7 +89,7 @@ overflow_add-j c = omega (arith, few-lines (goal.at.overflow_add-j c).In-loop-at
 
 pub overflow_add-at : goal.overflow_add-at
 overflow_add-at c =
-    let h = rw c.in-Taken.is at c.read-reading.ensures in
+    let h = c.in-Ok.ensures in
     omega (arith, walk_end c.loop-at.invariant c.line_end-end.ensures c.if-text-end.false (few-lines (goal.at.overflow_add-at c).In-loop-at) h.1 h.2)
 
 pub loop-at-smaller : goal.loop-at-smaller
@@ -103,7 +97,7 @@ loop-at-smaller c = let x = c.line_end-end.ensures.from in omega arith
 
 pub loop-at-preserved : goal.loop-at-preserved
 loop-at-preserved c =
-    let h = rw c.in-Taken.is at c.read-reading.ensures in
+    let h = c.in-Ok.ensures in
     let few = few-lines (goal.at.loop-at-preserved c).In-loop-at in
     let line = walk-line c.loop-at.invariant c.line_end-end.ensures c.if-text-end.false few h.1 h.2 in
     walk_more c.loop-at.invariant c.line_end-end.ensures c.if-text-end.false few h.1 h.2 _ (c.number_line-line.ensures (parts_of c.loop-at.invariant.cs) h.0 line c.loop-at.invariant.sharing) c.number_line-line.auto.entries c.number_line-line.auto.links c.number_line-line.auto.heads

@@ -1,18 +1,6 @@
 -- `fill` meets its contract. The invariant: the tables before k are filled. Assumes nothing.
-use Rattle.review_tables.proofs.Filled.{entry_ready, so_far_more, all-filled}
-use native.Mathlib.Omega.{arith}
-use Prim.Native.Nat.{◌-◌}
-use mathlib.Core.Path.{refl}
+use Rattle.review_tables.proofs.Filled.{entry_ready, so_far_more}
 use Rattle.review_tables.proofs.fill.Goals as goal
-
-pub loop-k-init : goal.loop-k-init
-loop-k-init c = record { within = omega arith; room = c.requires.count_in_bounds; same = refl; filled = λ P ps x s j l. absurd (omega arith); past = λ j h. refl }
-
-pub offset_bounds-entries-k : goal.offset_bounds-entries-k
-offset_bounds-entries-k c = omega (arith, c.requires.some_shares.many)
-
-pub bounds-entries-k : goal.bounds-entries-k
-bounds-entries-k c = omega (arith, c.requires.some_shares.many)
 
 pub fill_entry-requires : goal.fill_entry-requires
 fill_entry-requires c =
@@ -24,9 +12,3 @@ pub loop-k-preserved : goal.loop-k-preserved
 loop-k-preserved c =
     let l = c.loop-k-test.true in
     so_far_more c.loop-k.invariant l c.requires.some_known c.requires.some_shares _ (λ P ps x s. c.fill_entry.ensures P _ (entry_ready c.loop-k.invariant l P ps x s))
-
-pub shape_of-table : goal.shape_of-table
-shape_of-table c = c.loop-k.invariant.same
-
-pub returns : goal.returns
-returns c = all-filled c.loop-k.invariant c.loop-k-test.false

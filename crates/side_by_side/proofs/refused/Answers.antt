@@ -5,22 +5,22 @@ use Rattle.side_by_side.proofs.Starts.{refused-start, stays-refused}
 use Rattle.side_by_side.proofs.refused.Goals as goal
 
 pub returns-in-Begin : goal.returns-in-Begin
-returns-in-Begin c = λ t m u w input budget values read.
-    refused-start t m u _ w _ input budget values read c.requires.fact c.in-Begin.is c.told.ensures c.write-n.ensures.0
-    (omega (arith, c.write-n.ensures.1, c.requires.side_by_side_room_in_bounds))
+returns-in-Begin c = λ t m u w read.
+    refused-start t m u _ w c.args.wrong read c.in-Begin.is c.told.ensures c.write-n.ensures.0
+    (omega (arith, c.write-n.ensures.1, c.requires))
 
 pub returns-in-Steps : goal.returns-in-Steps
-returns-in-Steps c = λ t m u w input budget values read.
-    stays-refused t m u _ w _ input budget values read c.requires.fact _ c.in-Steps.is refl c.stay.ensures
+returns-in-Steps c = λ t m u w read.
+    stays-refused t m u _ w c.args.wrong read _ c.in-Steps.is refl c.stay.ensures
 
 pub returns-in-Closing : goal.returns-in-Closing
-returns-in-Closing c = λ t m u w input budget values read.
-    stays-refused t m u _ w _ input budget values read c.requires.fact _ c.in-Closing.is refl c.stay-in-Closing.ensures
+returns-in-Closing c = λ t m u w read.
+    stays-refused t m u _ w c.args.wrong read _ c.in-Closing.is refl c.stay-in-Closing.ensures
 
 pub returns-in-Ended : goal.returns-in-Ended
-returns-in-Ended c = λ t m u w input budget values read.
-    stays-refused t m u _ w _ input budget values read c.requires.fact _ c.in-Ended.is refl c.stay-in-Ended.ensures
+returns-in-Ended c = λ t m u w read.
+    stays-refused t m u _ w c.args.wrong read _ c.in-Ended.is refl c.stay-in-Ended.ensures
 
 pub returns-in-Refused : goal.returns-in-Refused
-returns-in-Refused c = λ t m u w input budget values read.
-    stays-refused t m u _ w _ input budget values read c.requires.fact _ c.in-Refused.is refl c.stay-in-Refused.ensures
+returns-in-Refused c = λ t m u w read.
+    stays-refused t m u _ w c.args.wrong read _ c.in-Refused.is refl c.stay-in-Refused.ensures

@@ -4,17 +4,13 @@ use lib.ListN.{take}
 use Rattle.base.proofs.Decides.{decided-true, decided-false, decides-same}
 use Rattle.stage_names.specs.Names.{name_bytes}
 use Rattle.stages.specs.Stages.{place}
-use Rattle.stages.proofs.Looking.{unnamed, repeats, occupies, occupied-taken}
+use Rattle.stages.proofs.Looking.{repeats, occupies, occupied-taken}
 use Rattle.stages.proofs.occupied.Goals as goal
 use Rattle.stages.proofs.occupied.Goals.{After-name_of}
 
 -- the name of place k
 name-is : (c : After-name_of) → c.name_of.result.now ≡ take name_bytes (place c.args.stages.now c.args.k)
 name-is c = c.name_of.ensures.0 ∙ ap (take name_bytes) c.part-bytes.ensures.0
-
-pub returns-then-not-named : goal.returns-then-not-named
-returns-then-not-named c =
-    unnamed c.args.stages.now c.args.k (rw (name-is (goal.at.returns-then-not-named c).After-name_of) at (decided-false c.named.result c.if-not-named.true c.named.ensures))
 
 pub returns-then-repeated : goal.returns-then-repeated
 returns-then-repeated c =

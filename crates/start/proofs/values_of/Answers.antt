@@ -1,18 +1,14 @@
--- `values_of` meets its contract. The invariant: the values before x are copied. Assumes nothing.
+-- `values_of` meets its contract. Assumes nothing.
 use mathlib.Core.Path.{ap, ◌∙◌}
-use Prim.Native.Nat.{ℕ, ◌-◌}
-use lib.ListN.{length, length-replicate}
-use native.Mathlib.Omega.{arith}
+use mathlib.Core.List.{List}
+use Prim.Native.Nat.{ℕ}
+use lib.ListN.{length, get_or, drop, length-replicate}
+use lib.Seq.{get_or-drop, get_or-take}
 use Rattle.language.specs.Spelling.{variables}
-use Rattle.start.proofs.Lines.{copied_more}
 use Rattle.start.proofs.values_of.Goals as goal
 
-pub loop-x-init : goal.loop-x-init
-loop-x-init c = record { size = ap length c.no_values-values.ensures ∙ length-replicate {A = ℕ} variables 0; within = omega arith; same = λ j h. absurd (omega arith) }
-
-pub loop-x-preserved : goal.loop-x-preserved
-loop-x-preserved c = copied_more c.loop-x.invariant c.loop-x-test.true
-
 pub returns : goal.returns
-returns c =
-    (c.loop-x.invariant.size, λ j h. c.loop-x.invariant.same j (omega (arith, c.loop-x-test.false)))
+returns c = (
+  c.copy_from_slice.ensures.len ∙ ap length c.no_values-values.ensures ∙ length-replicate {A = ℕ} variables 0,
+  λ x h. ap (λ (ns : List ℕ). get_or ns x 0) c.copy_from_slice.ensures.after ∙ get_or-take variables (drop 2 c.args.numbers) x 0 h ∙ get_or-drop 2 c.args.numbers x 0,
+)

@@ -1,5 +1,4 @@
 -- `words` meets its contract. Assumes nothing.
-use mathlib.Core.Path.{refl}
 use native.Mathlib.Omega.{arith}
 use borrow.Author.Rules.{rules}
 use Rattle.language.proofs.Lengths.{number-most}
@@ -18,10 +17,6 @@ number-k2-requires-in-Unended c = omega (arith, number-most c.in-Unended.n (sear
 
 pub word-requires-in-Unended : goal.word-requires-in-Unended
 word-requires-in-Unended c = omega (arith, number-most c.in-Unended.n (search rules))
-
-pub returns-in-Taken : goal.returns-in-Taken
-unfolding start_words
-returns-in-Taken c = rw c.in-Taken.is (record { text = refl; after = omega arith }, omega arith)
 
 pub returns-in-Few : goal.returns-in-Few
 unfolding start_words

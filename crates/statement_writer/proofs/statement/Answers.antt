@@ -40,14 +40,14 @@ variable-k2-requires c = omega (arith, ap (λ z. length (spell z)) c.in-Branch.i
 pub word-k3-requires : goal.word-k3-requires
 word-k3-requires c = omega (arith, ap (λ z. length (spell z)) c.in-Branch.is, branch-length c.in-Branch.x c.in-Branch.n c.in-Branch.m, c.requires)
 
-pub statement_number-k4-requires : goal.statement_number-k4-requires
-statement_number-k4-requires c = omega (arith, ap (λ z. length (spell z)) c.in-Branch.is, branch-length c.in-Branch.x c.in-Branch.n c.in-Branch.m, c.requires)
+pub number-k4-requires : goal.number-k4-requires
+number-k4-requires c = omega (arith, ap (λ z. length (spell z)) c.in-Branch.is, branch-length c.in-Branch.x c.in-Branch.n c.in-Branch.m, c.requires)
 
 pub word-k5-requires : goal.word-k5-requires
 word-k5-requires c = omega (arith, ap (λ z. length (spell z)) c.in-Branch.is, branch-length c.in-Branch.x c.in-Branch.n c.in-Branch.m, c.requires)
 
-pub statement_number-requires : goal.statement_number-requires
-statement_number-requires c = omega (arith, ap (λ z. length (spell z)) c.in-Branch.is, branch-length c.in-Branch.x c.in-Branch.n c.in-Branch.m, c.requires)
+pub number-requires : goal.number-requires
+number-requires c = omega (arith, ap (λ z. length (spell z)) c.in-Branch.is, branch-length c.in-Branch.x c.in-Branch.n c.in-Branch.m, c.requires)
 
 pub word-requires : goal.word-requires
 unfolding spell
@@ -67,7 +67,7 @@ returns-in-Assign c = rw c.in-Assign.is (put_then c.variable-k1.ensures (put_the
 
 pub returns-in-Branch : goal.returns-in-Branch
 unfolding spell
-returns-in-Branch c = rw c.in-Branch.is (put_then c.word-k1.ensures (put_then c.variable-k2.ensures (put_then c.word-k3.ensures (put_then c.statement_number-k4.ensures (put_then c.word-k5.ensures c.statement_number.ensures)))))
+returns-in-Branch c = rw c.in-Branch.is (put_then c.word-k1.ensures (put_then c.variable-k2.ensures (put_then c.word-k3.ensures (put_then c.number-k4.ensures (put_then c.word-k5.ensures c.number.ensures)))))
 
 pub returns-in-Skip : goal.returns-in-Skip
 unfolding spell

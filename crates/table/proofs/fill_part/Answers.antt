@@ -9,12 +9,6 @@ use Rattle.table.proofs.Parts.{left-inside, left-clear, before-clear, operator-w
 use Rattle.table.proofs.fill_part.Goals as goal
 use Rattle.table.proofs.fill_part.Goals.{Else-code-eq0}
 
-pub fill_atom-requires : goal.fill_atom-requires
-fill_atom-requires c =
-    let r = c.requires.ready in
-    let size = r.known.size in
-    record { n_le_most = (omega (arith, r.known.few), record { many = r.known.found.many; many_codes = r.known.found.many_codes }); part_words_in_bounds = r.room }
-
 -- the part of an operator's left operand lies before
 inside : (c : Else-code-eq0) → left_of c.args.w c.args.k < c.args.k
 inside c = left-inside c.requires.ready c.if-code-eq0.false

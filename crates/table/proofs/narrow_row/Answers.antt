@@ -3,29 +3,12 @@
 use mathlib.Core.Path.{sym, ap, ◌∙◌}
 use mathlib.Core.List.{List}
 use Prim.Native.Nat.{ℕ}
-use native.Mathlib.Omega.{arith}
 use borrow.Author.Rules.{rules}
 use lib.ListN.{length, drop}
-use lib.Seq.{length-take-le, length_front, take_at}
+use lib.Seq.{length-take-le, take_at}
 use Rattle.bits.specs.Row.{member}
-use Rattle.table.proofs.Rows.{negation-row, conjunction-row, disjunction-row, empty-row}
+use Rattle.table.proofs.Rows.{negation-row, conjunction-row, disjunction-row}
 use Rattle.table.proofs.narrow_row.Goals as goal
-
-pub slice_bounds-places-end : goal.slice_bounds-places-end
-slice_bounds-places-end c = search rules
-
-pub slice_bounds-below-end : goal.slice_bounds-below-end
-slice_bounds-below-end c = sym (length-take-le _ _ ((search rules)))
-
-pub slice_bounds-places-end-in-Negation : goal.slice_bounds-places-end-in-Negation
-slice_bounds-places-end-in-Negation c = rw (length_front _ _ _ c.below.auto.row) ((search rules))
-
-pub slice_bounds-difference-end : goal.slice_bounds-difference-end
-slice_bounds-difference-end c = sym (length-take-le _ _ ((rw (length_front _ _ _ c.below.auto.row) ((search rules)))))
-
-pub difference-requires : goal.difference-requires
-difference-requires c =
-    record { left = sym ((sym (length-take-le _ _ ((rw (length_front _ _ _ c.below.auto.row) ((search rules))))))); right = c.requires.rows.of_p }
 
 pub returns-in-Negation : goal.returns-in-Negation
 returns-in-Negation c =
@@ -40,9 +23,3 @@ returns-in-Conjunction c =
 pub returns-in-Disjunction : goal.returns-in-Disjunction
 returns-in-Disjunction c =
     rw c.in-Disjunction.is (disjunction-row _ _ _ _ c.union.ensures c.requires.by_index.0 c.requires.by_index.1)
-
-pub returns-in-Path : goal.returns-in-Path
-returns-in-Path c = rw c.in-Path.is c.path_row.ensures
-
-pub returns-in-Nothing : goal.returns-in-Nothing
-returns-in-Nothing c = rw c.in-Nothing.is (empty-row _ _ c.clear.ensures)

@@ -1,14 +1,10 @@
 -- `path_row` meets its contract: each direction is lent as its part of the numbers. Assumes nothing.
 use mathlib.Core.Path.{sym}
-use native.Mathlib.Omega.{arith}
 use Rattle.table.proofs.Parts.{forward-size, backward-part, lent-ahead, lent-behind}
 use Rattle.table.proofs.path_row.Goals as goal
 
 pub slice_bounds-forward-end : goal.slice_bounds-forward-end
 slice_bounds-forward-end c = sym (forward-size c.args.flow.now c.requires.both_ways.size)
-
-pub slice_bounds-backward-count : goal.slice_bounds-backward-count
-slice_bounds-backward-count c = omega (arith, c.requires.both_ways.size)
 
 pub label-requires : goal.label-requires
 label-requires c = record { directions_at = lent-behind _ c.args.flow.now c.requires.both_ways; rows = c.requires.rows }

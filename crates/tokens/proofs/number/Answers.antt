@@ -1,32 +1,29 @@
-use mathlib.Core.Path.{sym, ◌∙◌}
-use native.Mathlib.Omega.{arith}
-use Prim.Native.Nat.{◌<◌}
+use Rattle.std.proofs.Common.{arith, ◌<◌}
 use Rattle.tokens.specs.Parsing.{parse_number}
 use Rattle.tokens.proofs.Steps.{at-end, at_byte, digit-small, first-zero, first_more}
 use Rattle.tokens.proofs.number.Goals as goal
 
-pub returns-then-s-at : goal.returns-then-s-at
+pub returns-in_err-get-clause-result_value : goal.returns-in_err-get-clause-result_value
 unfolding parse_number
-returns-then-s-at c = record { result_value = rw (at-end _ _ c.if-s-at.true); result_in_bounds = omega arith }
+returns-in_err-get-clause-result_value c = rw (c.from_residual.ensures, at-end _ _ c.in_err-get.ensures.lookup.3)
 
-pub returns-in_default : goal.returns-in_default
+pub returns-in_err-first-clause-result_value : goal.returns-in_err-first-clause-result_value
 unfolding parse_number
-returns-in_default c =
-    record { result_value = rw (at_byte _ _ c.if-s-at.false, sym c.digit_of.ensures ∙ c.in_default.is); result_in_bounds = omega arith }
+returns-in_err-first-clause-result_value c =
+    let h = c.in_ok-get.ensures.lookup.3 in
+    rw (at_byte _ _ h.0, ← h.1 0, ← c.in_err-first.ensures, c.from_residual-in_err-first.ensures)
 
-pub returns-then-first-eq0 : goal.returns-then-first-eq0
+pub digits-requires-clause-first_le_largest : goal.digits-requires-clause-first_le_largest
+digits-requires-clause-first_le_largest c = let d : c.in_ok-first.first < 10 = digit-small _ _ c.in_ok-first.ensures in omega arith
+
+pub returns-then-first-eq0-clause-result_value : goal.returns-then-first-eq0-clause-result_value
 unfolding parse_number
-returns-then-first-eq0 c =
-    let e = sym c.digit_of.ensures ∙ c.in-Value.is in
-    record { result_value = rw (at_byte _ _ c.if-s-at.false, e, first-zero _ _ c.if-first-eq0.true) c.zero.ensures.result_value; result_in_bounds = c.zero.ensures.result_in_bounds }
+returns-then-first-eq0-clause-result_value c =
+    let h = c.in_ok-get.ensures.lookup.3 in
+    rw (at_byte _ _ h.0, ← h.1 0, ← c.in_ok-first.ensures, first-zero _ _ c.if-first-eq0.true) c.zero.ensures.result_value
 
-pub digits-requires : goal.digits-requires
-digits-requires c =
-    let d : c.in-Value.first < 10 = digit-small _ _ (sym c.in-Value.is ∙ c.digit_of.ensures) in
-    record { at_in_bounds = omega arith; first_le_largest = omega arith }
-
-pub returns : goal.returns
+pub returns-else-first-eq0-clause-result_value : goal.returns-else-first-eq0-clause-result_value
 unfolding parse_number
-returns c =
-    let e = sym c.digit_of.ensures ∙ c.in-Value.is in
-    record { result_value = rw (at_byte _ _ c.if-s-at.false, e, first_more _ _ c.if-first-eq0.false) c.digits.ensures.result_value; result_in_bounds = c.digits.ensures.result_in_bounds }
+returns-else-first-eq0-clause-result_value c =
+    let h = c.in_ok-get.ensures.lookup.3 in
+    rw (at_byte _ _ h.0, ← h.1 0, ← c.in_ok-first.ensures, first_more _ _ c.if-first-eq0.false) c.digits.ensures.result_value

@@ -1,20 +1,19 @@
--- `zero` meets its contract.
-use native.Mathlib.Omega.{arith}
-use mathlib.Core.Path.{sym, ◌∙◌}
 use Rattle.tokens.specs.Parsing.{parse_zero}
 use Rattle.tokens.proofs.Steps.{at-end, at_byte}
 use Rattle.tokens.proofs.zero.Goals as goal
 
-pub returns-then-s-at : goal.returns-then-s-at
+pub returns-in-None-clause-result_value : goal.returns-in-None-clause-result_value
 unfolding parse_zero
-returns-then-s-at c = record { result_value = rw (at-end _ _ c.if-s-at.true); result_in_bounds = omega arith }
+returns-in-None-clause-result_value c = rw (at-end _ _ c.in-None.ensures.lookup.3)
 
-pub returns-in_default : goal.returns-in_default
+pub returns-in-Some-digit_of-clause-result_value : goal.returns-in-Some-digit_of-clause-result_value
 unfolding parse_zero
-returns-in_default c =
-    record { result_value = rw (at_byte _ _ c.if-s-at.false, sym c.digit_of.ensures ∙ c.in_default.is); result_in_bounds = omega arith }
+returns-in-Some-digit_of-clause-result_value c =
+    let h = c.in-Some.ensures.lookup.3 in
+    rw (at_byte _ _ h.0, ← h.1 0, ← c.in-Some-digit_of.ensures)
 
-pub returns : goal.returns
+pub returns-in-None-digit_of-clause-result_value : goal.returns-in-None-digit_of-clause-result_value
 unfolding parse_zero
-returns c =
-    record { result_value = rw (at_byte _ _ c.if-s-at.false, sym c.digit_of.ensures ∙ c.in-Value.is); result_in_bounds = omega arith }
+returns-in-None-digit_of-clause-result_value c =
+    let h = c.in-Some.ensures.lookup.3 in
+    rw (at_byte _ _ h.0, ← h.1 0, ← c.in-None-digit_of.ensures)

@@ -1,9 +1,10 @@
 -- `next` meets its contract: each stage's part of the output follows what was handed out before. Assumes nothing.
 use Rattle.transcript.specs.Transcript.{is_over}
 use Rattle.transcript.proofs.Printing.{ready-plain, ready-over, told-hands, nothing-hands}
-use Rattle.transcript.specs.declared.Stage.TheVariants.{Begin, Outcome}
-use mathlib.Core.Logic.{inl, inr}
-use mathlib.Core.Path.{refl, ap}
+use Rattle.transcript.specs.declared.Stage.TheVariants.{Begin, Outcome, Ended, Refused}
+use mathlib.Core.Logic.{◌⊎◌, inl, inr}
+use mathlib.Core.Bool.{true}
+use mathlib.Core.Path.{◌≡◌, refl, ap}
 use Rattle.transcript.proofs.next.Goals as goal
 
 pub returns-then-out-lt-TRANSCRIPT_ROOM : goal.returns-then-out-lt-TRANSCRIPT_ROOM
@@ -21,7 +22,8 @@ returns-in-Outcome c =
     told-hands Outcome c.in-Outcome.is refl c.if-out-lt-TRANSCRIPT_ROOM.false (λ b h. ready-over h) c.tell-in-Outcome.ensures
 
 pub returns-in-Ended : goal.returns-in-Ended
-returns-in-Ended c = nothing-hands _ _ _ _ c.args.from _ refl (inr (ap is_over c.in-Ended.is))
-
-pub returns-in-Refused : goal.returns-in-Refused
-returns-in-Refused c = nothing-hands _ _ _ _ c.args.from _ refl (inr (ap is_over c.in-Refused.is))
+returns-in-Ended c = nothing-hands _ _ _ _ c.args.from _ refl (inr (over c.in-Ended.is))
+  where
+    over : (c.args.from.stage ≡ Ended) ⊎ (c.args.from.stage ≡ Refused) → is_over c.args.from.stage ≡ true
+    over (inl e) = ap is_over e
+    over (inr e) = ap is_over e

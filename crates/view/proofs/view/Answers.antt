@@ -1,25 +1,24 @@
--- `view` meets its contract: at each return what `tabulate` answered is printed. Assumes nothing.
-use mathlib.Core.Path.{refl}
+-- `view` meets its contract: at each return what was read, or refused, is printed. Assumes nothing.
+use mathlib.Core.Logic.{inl}
 use native.Mathlib.Omega.{arith}
-use Rattle.view.proofs.Views.{answer-refused, answer-filled, refusal-printed, view-fits, view-printed}
+use Rattle.table.specs.Fill.{HeldOf}
+use Rattle.tabulate.proofs.Tabulates.{tabulated}
+use Rattle.blame.proofs.Blames.{blames}
+use Rattle.view.proofs.Views.{refusal-printed, view-fits, view-printed}
 use Rattle.view.proofs.view.Goals as goal
 
-pub returns-then-out-lt-VIEW_ROOM : goal.returns-then-out-lt-VIEW_ROOM
-returns-then-out-lt-VIEW_ROOM c = (c.if-out-lt-VIEW_ROOM.true, refl)
-
-pub write_refusal-requires : goal.write_refusal-requires
-write_refusal-requires c = omega (arith, c.if-out-lt-VIEW_ROOM.false)
+pub returns-in-Err : goal.returns-in-Err
+returns-in-Err c =
+    refusal-printed (inl (c.in-Err.refusal, c.in-Err.ensures, c.number.ensures, blames c.line_of-line.ensures c.in-Err.ensures)) c.if-out-lt-VIEW_ROOM.false c.write_refusal.ensures
 
 pub write_view-requires : goal.write_view-requires
 write_view-requires c =
-    view-fits (answer-filled c.args.program.now c.args.condition.now _ _ c.tabulate-answer.ensures c.in-Filled.is) c.table_buffer-table.ensures
-    c.read-reading.result.answer c.read-reading.result.program c.read-reading.ensures c.read-conditions.result.answer c.read-conditions.result.words c.read-conditions.ensures c.if-out-lt-VIEW_ROOM.false
+    let h : HeldOf c.args.condition.now c.in-Ok-read.ensures.0 c.in-Ok-read.c.count c.in-Ok-read.c.words = record { taken = c.in-Ok-read.ensures.1; held = c.in-Ok-read.ensures.2 } in
+    let f = tabulated h c.in-Ok.ensures.0 (omega (arith, c.table_buffer-table.ensures)) (c.fill-summary.ensures.table c.in-Ok-read.ensures.0 h) c.fill-summary.ensures.counts in
+    view-fits f c.table_buffer-table.ensures c.in-Ok.p c.in-Ok.ensures.0 c.in-Ok.ensures.1 c.in-Ok-read.ensures.0 c.in-Ok-read.c.words h c.if-out-lt-VIEW_ROOM.false
 
-pub returns-in-Refused : goal.returns-in-Refused
-returns-in-Refused c =
-    refusal-printed c.table_buffer-table.result c.table_buffer-table.ensures (answer-refused c.args.program.now c.args.condition.now _ _ c.tabulate-answer.ensures c.in-Refused.is) c.if-out-lt-VIEW_ROOM.false c.write_refusal.ensures
-
-pub returns-in-Filled : goal.returns-in-Filled
-returns-in-Filled c =
-    view-printed (answer-filled c.args.program.now c.args.condition.now _ _ c.tabulate-answer.ensures c.in-Filled.is) c.table_buffer-table.ensures
-    c.read-reading.result.answer c.read-reading.result.program c.read-reading.ensures c.read-conditions.result.answer c.read-conditions.result.words c.read-conditions.ensures c.if-out-lt-VIEW_ROOM.false c.write_view.ensures
+pub returns : goal.returns
+returns c =
+    let h : HeldOf c.args.condition.now c.in-Ok-read.ensures.0 c.in-Ok-read.c.count c.in-Ok-read.c.words = record { taken = c.in-Ok-read.ensures.1; held = c.in-Ok-read.ensures.2 } in
+    let f = tabulated h c.in-Ok.ensures.0 (omega (arith, c.table_buffer-table.ensures)) (c.fill-summary.ensures.table c.in-Ok-read.ensures.0 h) c.fill-summary.ensures.counts in
+    view-printed f c.table_buffer-table.ensures c.in-Ok.p c.in-Ok.ensures.0 c.in-Ok.ensures.1 c.in-Ok-read.ensures.0 c.in-Ok-read.c.words h c.if-out-lt-VIEW_ROOM.false c.write_view.ensures

@@ -32,8 +32,5 @@ pub loop-k-preserved : goal.loop-k-preserved
 loop-k-preserved c =
     shown-more c.loop-k.invariant c.loop-k-test.true c.write_part-to.ensures
 
-pub shape_of-out : goal.shape_of-out
-shape_of-out c = shown-length c.loop-k.invariant
-
 pub returns : goal.returns
 returns c = all_shown c.loop-k.invariant c.loop-k-test.false

@@ -17,20 +17,11 @@ loop-s-init c =
     let l : length (listed c.args.p.entries c.args.p.count) ≡ c.args.p.count = length-held c.args.p.entries c.args.p.count (omega arith) in
     record { room = c.requires.held.room; few = c.requires.held.few; tabled = c.requires.tabled; fits = rw l at c.requires.fits; within = omega arith; put = upto-none _ _ _ }
 
-pub offset_bounds-entries-s : goal.offset_bounds-entries-s
-offset_bounds-entries-s c = search rules
-
-pub bounds-entries-s : goal.bounds-entries-s
-bounds-entries-s c = search rules
-
 pub write_row-to-requires : goal.write_row-to-requires
 write_row-to-requires c = rw c.statement_of-i.ensures (row_fits c.loop-s.invariant c.loop-s-test.true)
 
 pub loop-s-preserved : goal.loop-s-preserved
 loop-s-preserved c = inv-more c.loop-s.invariant c.loop-s-test.true (rw c.statement_of-i.ensures at c.write_row-to.ensures)
-
-pub shape_of-out : goal.shape_of-out
-shape_of-out c = put-length c.loop-s.invariant.put
 
 pub returns : goal.returns
 unfolding rows

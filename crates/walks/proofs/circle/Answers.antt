@@ -1,9 +1,8 @@
 -- `walks::circle` meets its contract. The invariant is `Circling`, the measure the places that were not passed. Assumes nothing.
 use Rattle.walks.proofs.Steps.{circling-first, circling-onward, circling-low, circling-more, circling-last}
-use Rattle.graph.specs.Graphs.{places}
 use lib.ListN.{length, length-set}
 use native.Mathlib.Omega.{arith}
-use Prim.Native.Nat.{◌+◌, ◌-◌, ◌<◌}
+use Prim.Native.Nat.{◌+◌, ◌<◌}
 use mathlib.Core.Path.{refl, ◌∙◌}
 use Rattle.walks.proofs.circle.Goals as goal
 use Rattle.walks.proofs.circle.Goals.{In-loop-seen}
@@ -11,20 +10,7 @@ use Rattle.walks.proofs.circle.Goals.{In-loop-seen}
 pub loop-seen-init : goal.loop-seen-init
 loop-seen-init c = (refl, c.blank-seen.ensures.size, circling-first _ _ _ _ _ _ c.requires.some_endless.0.endless.inside c.blank-seen.ensures.zero)
 
-pub offset_bounds-seen-place : goal.offset_bounds-seen-place
-offset_bounds-seen-place c = omega (arith, c.requires.linked.2, c.loop-seen.invariant.2.low)
-
-pub bounds-seen-place : goal.bounds-seen-place
-bounds-seen-place c = omega (arith, c.requires.linked.2, c.loop-seen.invariant.2.low)
-
-pub overflow_add-path : goal.overflow_add-path
-overflow_add-path c = omega (arith, c.requires.linked.2, c.loop-seen.invariant.2.low)
-
-pub overflow_cast-path : goal.overflow_cast-path
-overflow_cast-path c = omega (arith, c.requires.linked.2, c.loop-seen.invariant.2.low)
-
--- the places that were passed are fewer than there are
-low : (c : In-loop-seen) → c.loop-seen.k < length c.args.head.now
+low : (c : In-loop-seen) → c.loop-seen.k < length c.args.steps.head.now
 low c = circling-low _ _ _ _ c.requires.linked.1 c.requires.some_endless.0.endless.inside _ _ _ _ _ c.loop-seen.invariant.2 c.loop-seen-test.true (omega (arith, c.loop-seen.invariant.1, c.requires.linked.2))
 
 pub bounds-path-k : goal.bounds-path-k
@@ -36,26 +22,11 @@ overflow_add-k c = omega (arith, c.requires.linked.2, low (goal.at.overflow_add-
 pub overflow_cast-seen : goal.overflow_cast-seen
 overflow_cast-seen c = omega (arith, c.requires.linked.2, low (goal.at.overflow_cast-seen c).In-loop-seen)
 
-pub offset_bounds-seen-place-in-loop-seen : goal.offset_bounds-seen-place-in-loop-seen
-offset_bounds-seen-place-in-loop-seen c = omega (arith, c.requires.linked.2, c.loop-seen.invariant.2.low)
-
-pub bounds-seen-place-in-loop-seen : goal.bounds-seen-place-in-loop-seen
-bounds-seen-place-in-loop-seen c = omega (arith, c.requires.linked.2, c.loop-seen.invariant.2.low)
-
 pub onward-place-requires : goal.onward-place-requires
 onward-place-requires c = record { linked = (c.requires.linked.0, c.loop-seen.invariant.2.low, c.requires.some_endless.1); by_index = circling-onward _ _ _ _ c.requires.linked.1 c.requires.some_endless.0.endless.inside _ _ _ _ _ c.loop-seen.invariant.2 c.requires.some_endless.0 }
 
 pub loop-seen-smaller : goal.loop-seen-smaller
 loop-seen-smaller c = omega (arith, low (goal.at.loop-seen-smaller c).In-loop-seen)
-
-pub offset_bounds-seen-place-2 : goal.offset_bounds-seen-place-2
-offset_bounds-seen-place-2 c = omega (arith, c.requires.linked.2, c.loop-seen.invariant.2.low)
-
-pub bounds-seen-place-2 : goal.bounds-seen-place-2
-bounds-seen-place-2 c = omega (arith, c.requires.linked.2, c.loop-seen.invariant.2.low)
-
-pub shape_of-path : goal.shape_of-path
-shape_of-path c = c.loop-seen.invariant.0
 
 pub returns : goal.returns
 returns c = circling-last _ _ _ _ c.requires.linked.1 c.requires.some_endless.0.endless.inside _ _ _ _ _ c.loop-seen.invariant.2 _ refl c.wide.ensures c.loop-seen-test.false

@@ -8,25 +8,20 @@ use native.Mathlib.Omega.{arith}
 use Rattle.walks.proofs.onward.Goals as goal
 
 pub skip-k-requires : goal.skip-k-requires
-skip-k-requires c = record { from = rw c.wide.ensures (linked-from _ _ _ c.args.s c.requires.linked.0); n_in_bounds = c.requires.linked.2 }
+skip-k-requires c = record { from = rw c.wide.ensures (linked-from _ _ _ c.args.s c.requires.linked.0); head_in_bounds = c.requires.linked.2 }
 
 pub overflow_sub-k : goal.overflow_sub-k
 overflow_sub-k c =
-    let w : Skipped c.args.link.now c.args.to.now (member c.args.avoid.now) (get_or c.args.head.now c.args.s 0) c.skip-k.result = rw c.wide.ensures at c.skip-k.ensures in
+    let w : Skipped c.args.steps.link.now c.args.steps.to.now (member c.args.avoid.now) (get_or c.args.steps.head.now c.args.s 0) c.skip-k.result = rw c.wide.ensures at c.skip-k.ensures in
     (skipped-to _ _ _ _ _ _ (linked-from _ _ _ c.args.s c.requires.linked.0) w c.requires.by_index.0 c.requires.by_index.1 c.requires.by_index.2).0
 
-pub offset_bounds-to-k : goal.offset_bounds-to-k
-offset_bounds-to-k c =
-    let w : Skipped c.args.link.now c.args.to.now (member c.args.avoid.now) (get_or c.args.head.now c.args.s 0) c.skip-k.result = rw c.wide.ensures at c.skip-k.ensures in
-    omega (arith, c.well_formed, (skipped-to _ _ _ _ _ _ (linked-from _ _ _ c.args.s c.requires.linked.0) w c.requires.by_index.0 c.requires.by_index.1 c.requires.by_index.2).1)
-
-pub bounds-to-k : goal.bounds-to-k
-bounds-to-k c =
-    let w : Skipped c.args.link.now c.args.to.now (member c.args.avoid.now) (get_or c.args.head.now c.args.s 0) c.skip-k.result = rw c.wide.ensures at c.skip-k.ensures in
+pub bounds-steps-k : goal.bounds-steps-k
+bounds-steps-k c =
+    let w : Skipped c.args.steps.link.now c.args.steps.to.now (member c.args.avoid.now) (get_or c.args.steps.head.now c.args.s 0) c.skip-k.result = rw c.wide.ensures at c.skip-k.ensures in
     (skipped-to _ _ _ _ _ _ (linked-from _ _ _ c.args.s c.requires.linked.0) w c.requires.by_index.0 c.requires.by_index.1 c.requires.by_index.2).1
 
 pub returns : goal.returns
 returns c =
-    let w : Skipped c.args.link.now c.args.to.now (member c.args.avoid.now) (get_or c.args.head.now c.args.s 0) c.skip-k.result = rw c.wide.ensures at c.skip-k.ensures in
+    let w : Skipped c.args.steps.link.now c.args.steps.to.now (member c.args.avoid.now) (get_or c.args.steps.head.now c.args.s 0) c.skip-k.result = rw c.wide.ensures at c.skip-k.ensures in
     let o = skipped-to _ _ _ _ _ _ (linked-from _ _ _ c.args.s c.requires.linked.0) w c.requires.by_index.0 c.requires.by_index.1 c.requires.by_index.2 in
     rw c.wide-2.ensures (o.2, o.3)

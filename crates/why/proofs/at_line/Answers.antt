@@ -27,11 +27,12 @@ judge-requires c = let l = c.requires.2 in record { held = (c.requires.0, progra
 pub bounds-verdicts-line : goal.bounds-verdicts-line
 bounds-verdicts-line c = line-few c.requires.2
 
-pub returns-then-byte-number_of : goal.returns-then-byte-number_of
-returns-then-byte-number_of c = λ t taken.
+pub returns-then-verdict-from : goal.returns-then-verdict-from
+returns-then-verdict-from c = λ t taken.
     let l = c.requires.2 in
     let v = (c.judge.ensures l.ms l.taken).0.judged c.args.line l.inside in
-    told-other c.requires.3 taken l v.0 v.1 _ v.2 (λ e. c.if-byte-number_of.true (e ∙ sym c.number_of.ensures))
+    let w = c.without_path.ensures in
+    rw (w.0, w.1, w.2) (told-other c.requires.3 taken l v.0 v.1 _ v.2 (λ e. c.if-verdict-from.true (e ∙ sym c.from.ensures)))
 
 pub path_of-shown-requires : goal.path_of-shown-requires
 path_of-shown-requires c =
@@ -39,7 +40,7 @@ path_of-shown-requires c =
     let k = program-known (goal.at.path_of-shown-requires c).After-of in
     let j = c.judge.ensures l.ms l.taken in
     let v = j.0.judged c.args.line l.inside in
-    let byte = sym v.2 ∙ c.if-byte-number_of.false ∙ c.number_of.ensures in
+    let byte = sym v.2 ∙ c.if-verdict-from.false ∙ c.from.ensures in
     let own = own_uses l (statements c.args.p) k _ _ c.variable_of.ensures (c.row.ensures _ k.size (facts-in k.found)) in
     (record { P = statements c.args.p; ms = l.ms; refused = refusal l (statements c.args.p) v.0 v.1 byte j.1 _ own; here = refusal-place l (statements c.args.p) v.0 v.1 byte k.few _ c.place_of-s.ensures.1 }, c.row.auto.out ∙ c.blank_row-own.ensures.size, omega (arith, c.requires.3, k.size, k.few))
 
@@ -52,6 +53,6 @@ returns c = λ t taken.
     let k = program-known (goal.at.returns c).After-of in
     let j = c.judge.ensures l.ms l.taken in
     let v = j.0.judged c.args.line l.inside in
-    let byte = sym v.2 ∙ c.if-byte-number_of.false ∙ c.number_of.ensures in
+    let byte = sym v.2 ∙ c.if-verdict-from.false ∙ c.from.ensures in
     let own = own_uses l (statements c.args.p) k _ _ c.variable_of.ensures (c.row.ensures _ k.size (facts-in k.found)) in
-    told-path c.requires.3 taken l v.0 v.1 _ v.2 (c.if-byte-number_of.false ∙ c.number_of.ensures) (c.path_of-shown.ensures.0 _ _ (refusal l (statements c.args.p) v.0 v.1 byte j.1 _ own))
+    told-path c.requires.3 taken l v.0 v.1 _ v.2 (c.if-verdict-from.false ∙ c.from.ensures) (c.path_of-shown.ensures.0 _ _ (refusal l (statements c.args.p) v.0 v.1 byte j.1 _ own))

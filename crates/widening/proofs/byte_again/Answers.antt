@@ -47,7 +47,7 @@ returns-then-contains c = (
         Accepted,
         again-accepted (uses_of P) (used_in c.args.rows.now) P earlier c.args.m v o h c.remembered_row-row.result (c.remembered_row-row.ensures.0 P k)
             (rw (← placed (goal.at.returns-then-contains c).After-contains P k.few i.0) (sym c.contains.ensures ∙ c.if-contains.true)),
-        c.number_of.ensures,
+        c.from.ensures,
       )),
   c.remembered_row-row.ensures.1,
 )
@@ -60,7 +60,7 @@ returns c = (
         Unmet,
         again-unmet (uses_of P) (used_in c.args.rows.now) P earlier c.args.m v o h c.remembered_row-row.result (c.remembered_row-row.ensures.0 P k)
             (rw (← placed (goal.at.returns c).After-contains P k.few i.0) (sym c.contains.ensures ∙ c.if-contains.false)),
-        c.number_of-2.ensures,
+        c.from-2.ensures,
       )),
   c.remembered_row-row.ensures.1,
 )

@@ -1,19 +1,14 @@
 -- `worklist::close` meets its contract. The invariant: each place that is to join steps to one on the stack. The measure is
 -- the number of places that are not in the set, and the height. Assumes nothing.
 use mathlib.Core.Path.{refl, ◌∙◌}
-use mathlib.Core.Bool.{false}
-use Prim.Native.Nat.{◌-◌}
 use native.Mathlib.Omega.{arith}
 use lib.ListN.{length}
 use Rattle.bits.specs.Row.{member}
 use Rattle.bits.proofs.Counts.{count-le}
 use Rattle.ctl.proofs.Reach.{grew_none, grew-more}
 use Rattle.worklist.proofs.Rest.{rest-first}
-use Rattle.worklist.proofs.Stack.{work-first, work-take, work-last}
+use Rattle.worklist.proofs.Stack.{work-first}
 use Rattle.worklist.proofs.close.Goals as goal
-
-pub gather-h-requires : goal.gather-h-requires
-gather-h-requires c = let z = c.requires.space in (z.set_room, z.stack_room, z.small)
 
 pub loop-h-init : goal.loop-h-init
 loop-h-init c = (
@@ -27,11 +22,11 @@ loop-h-init c = (
 
 pub offset_bounds-stack-h : goal.offset_bounds-stack-h
 offset_bounds-stack-h c =
-    omega (arith, c.requires.space.small, c.loop-h.invariant.4.fit, count-le (member c.loop-h.set) (length c.args.head.now))
+    omega (arith, c.requires.space.small, c.loop-h.invariant.4.fit, count-le (member c.loop-h.set) (length c.args.steps.head.now))
 
 pub loop-h-smaller : goal.loop-h-smaller
 loop-h-smaller c =
-    let n = length c.args.head.now in
+    let n = length c.args.steps.head.now in
     omega (arith, c.visit-h.ensures.paid, c.loop-h-test.true, count-le (member c.loop-h.set) n, count-le (member c.visit-h.new.set) n)
 
 pub loop-h-preserved : goal.loop-h-preserved
@@ -44,15 +39,6 @@ loop-h-preserved c = (
   grew-more _ _ _ _ c.requires.turned.graph _ _ _ c.loop-h.invariant.5 c.visit-h.ensures.grew,
 )
 
-pub shape_of-set : goal.shape_of-set
-shape_of-set c = c.loop-h.invariant.0
-
-pub shape_of-rest : goal.shape_of-rest
-shape_of-rest c = c.loop-h.invariant.1
-
-pub returns : goal.returns
-returns c = work-last _ _ _ _ _ _ _ _ c.loop-h-test.false c.loop-h.invariant.4 c.loop-h.invariant.5
-
 pub bounds-stack-h : goal.bounds-stack-h
 bounds-stack-h c =
-    omega (arith, c.requires.space.stack_room, c.loop-h.invariant.2, c.gather-h.auto.stack, c.loop-h.invariant.4.fit, count-le (member c.loop-h.set) (length c.args.head.now))
+    omega (arith, c.requires.space.stack_room, c.loop-h.invariant.2, c.gather-h.auto.stack, c.loop-h.invariant.4.fit, count-le (member c.loop-h.set) (length c.args.steps.head.now))

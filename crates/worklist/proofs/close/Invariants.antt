@@ -11,9 +11,9 @@ use Rattle.worklist.proofs.close.Given as goal
 
 abbrev pub invariant-loop-h : goal.invariant-loop-h
 invariant-loop-h l =
-    (length l.set ≡ length l.initial.set) × (length l.rest ≡ length l.initial.rest) × (length l.stack ≡ length l.initial.stack) × Rest l.head l.link l.to l.rest (member l.set)
-    × Work (quant l.all) (length l.head) (step l.head l.link l.to) (member l.p) (member l.set) l.stack l.h (λ _. false)
-    × Grew (quant l.all) (length l.head) (step l.head l.link l.to) (member l.p) (member l.initial.set) (member l.set)
+    (length l.set ≡ length l.initial.set) × (length l.rest ≡ length l.initial.rest) × (length l.stack ≡ length l.initial.stack) × Rest l.steps.head.now l.steps.link.now l.steps.to.now l.rest (member l.set)
+    × Work (quant l.all) (length l.steps.head.now) (step l.steps.head.now l.steps.link.now l.steps.to.now) (member l.p) (member l.set) l.stack l.h (λ _. false)
+    × Grew (quant l.all) (length l.steps.head.now) (step l.steps.head.now l.steps.link.now l.steps.to.now) (member l.p) (member l.initial.set) (member l.set)
 
 abbrev pub decreases-loop-h : goal.decreases-loop-h
-decreases-loop-h l = length l.head - count_below (member l.set) (length l.head) + l.h
+decreases-loop-h l = length l.steps.head.now - count_below (member l.set) (length l.steps.head.now) + l.h

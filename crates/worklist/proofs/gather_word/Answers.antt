@@ -1,35 +1,14 @@
 -- `worklist::gather_word` meets its contract. The members before the lowest bit that is left are on the stack.
 -- Assumes nothing.
 use mathlib.Core.Path.{refl, ◌∙◌}
-use Prim.Native.Nat.{◌+◌, ◌-◌, ◌*◌}
+use Prim.Native.Nat.{◌+◌, ◌*◌}
 use native.Mathlib.Omega.{arith}
-use lib.Bits.{and_le_r}
-use lib.Count.{trailing_le}
 use lib.ListN.{length-set}
-use Rattle.worklist.proofs.Words.{lowest, left-first, left-next, upto-first, upto_next, upto-room, upto-past, upto-none}
+use Rattle.worklist.proofs.Words.{lowest, left-first, left-next, upto-first, upto_next, upto-room, upto-none}
 use Rattle.worklist.proofs.gather_word.Goals as goal
 
-pub offset_bounds-set-k : goal.offset_bounds-set-k
-offset_bounds-set-k c = omega (arith, c.requires.k_in_bounds.2, c.requires.k_in_bounds.3)
-
 pub loop-left-init : goal.loop-left-init
-loop-left-init c = (refl, left-first _ (c.shared_slice_known-1.given c.args.k).fits, upto-first _ _ _ _ _ c.requires.gathered)
-
-pub overflow_mul-s : goal.overflow_mul-s
-overflow_mul-s c = omega (arith, c.requires.k_in_bounds.2, c.requires.k_in_bounds.3)
-
-pub overflow_cast-s : goal.overflow_cast-s
-overflow_cast-s c = omega (arith, trailing_le 64 c.loop-left.left)
-
-pub overflow_add-s : goal.overflow_add-s
-overflow_add-s c = omega (arith, c.requires.k_in_bounds.2, c.requires.k_in_bounds.3, trailing_le 64 c.loop-left.left)
-
-pub returns-then-s-n : goal.returns-then-s-n
-returns-then-s-n c =
-    upto-past _ _ _ _ _ _ c.if-s-n.true (trailing_le 64 c.loop-left.left) c.loop-left.invariant.2
-
-pub overflow_cast-stack : goal.overflow_cast-stack
-overflow_cast-stack c = omega (arith, c.requires.k_in_bounds.2)
+loop-left-init c = (refl, left-first _ (c.type_inv.set c.args.k).fits, upto-first _ _ _ _ _ c.requires.gathered)
 
 pub bounds-stack-h : goal.bounds-stack-h
 bounds-stack-h c =
@@ -42,9 +21,6 @@ offset_bounds-stack-h c =
 pub overflow_add-h : goal.overflow_add-h
 overflow_add-h c =
     omega (arith, c.requires.k_in_bounds.2, upto-room _ _ _ _ _ _ c.if-s-n.false c.loop-left.invariant.2)
-
-pub loop-left-smaller : goal.loop-left-smaller
-loop-left-smaller c = omega (arith, c.loop-left-test.true, and_le_r c.loop-left.left (c.loop-left.left - 1))
 
 pub loop-left-preserved : goal.loop-left-preserved
 loop-left-preserved c =

@@ -1,5 +1,4 @@
 use mathlib.Core.Path.{◌≡◌}
-use Prim.Native.Nat.{◌-◌}
 use lib.ListN.{length, get_or}
 use Rattle.worklist.proofs.Words.{lowest, Left, Upto}
 use Rattle.worklist.proofs.gather_word.Given as goal

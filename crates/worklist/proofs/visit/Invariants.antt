@@ -9,8 +9,8 @@ use Rattle.worklist.proofs.visit.Given as goal
 
 abbrev pub invariant-loop-k : goal.invariant-loop-k
 invariant-loop-k l =
-    (length l.set ≡ length l.initial.set) × (length l.rest ≡ length l.initial.rest) × (length l.stack ≡ length l.initial.stack) × Walked l.entry l.chain l.from (length l.head) l.t l.k
-    × Visited (quant l.all) l.head l.link l.to (member l.p) (member l.initial.set) (member l.set) l.rest l.stack l.height l.h (listed l.chain l.from l.k)
+    (length l.set ≡ length l.initial.set) × (length l.rest ≡ length l.initial.rest) × (length l.stack ≡ length l.initial.stack) × Walked l.opposite.head.now l.opposite.link.now l.opposite.to.now (length l.steps.head.now) l.t l.k
+    × Visited (quant l.all) l.steps.head.now l.steps.link.now l.steps.to.now (member l.p) (member l.initial.set) (member l.set) l.rest l.stack l.height l.h (listed l.opposite.link.now l.opposite.to.now l.k)
 
 abbrev pub decreases-loop-k : goal.decreases-loop-k
 decreases-loop-k l = l.k

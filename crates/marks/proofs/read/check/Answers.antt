@@ -4,7 +4,6 @@ use Rattle.marks.specs.Marks.{spell_mark, ValidMark}
 use Rattle.marks.proofs.Spelling.{marks-unambiguous}
 use Rattle.marks.proofs.Walk.{no_line, line_of, line-further, lined}
 use native.Mathlib.Omega.{arith}
-use Prim.Native.Nat.{◌-◌}
 use Rattle.marks.proofs.read.check.Goals as goal
 
 pub loop-at-init : goal.loop-at-init
@@ -18,10 +17,10 @@ pub overflow_add-count : goal.overflow_add-count
 overflow_add-count c = omega (arith, c.loop-at.invariant.paid)
 
 pub loop-at-smaller : goal.loop-at-smaller
-loop-at-smaller c = line-further _ c.loop-at.at c.in-Found.is c.line.ensures
+loop-at-smaller c = line-further _ c.loop-at.at c.in-Some.is c.line.ensures
 
 pub loop-at-preserved : goal.loop-at-preserved
-loop-at-preserved c = one_more c.loop-at.invariant (line_of _ c.loop-at.at c.in-Found.is c.line.ensures)
+loop-at-preserved c = one_more c.loop-at.invariant (line_of _ c.loop-at.at c.in-Some.is c.line.ensures)
 
 pub returns-then-count-gt-MOST : goal.returns-then-count-gt-MOST
 returns-then-count-gt-MOST c = (c.loop-at.invariant.read, whole c.loop-at.invariant c.loop-at-test.false, omega (arith, c.loop-at.invariant.counted))

@@ -1,11 +1,11 @@
--- `span` meets its contract: the list is checked, and both bounds are beginnings. Assumes nothing.
 use native.Mathlib.Numerals.{add-one}
+use Rattle.std.proofs.lemmas.Result.{err_from_is_err_and}
 use Rattle.marks.proofs.read.span.Goals as goal
 
-pub returns-in-Refused : goal.returns-in-Refused
-returns-in-Refused c = rw c.in-Refused.is at c.check-checked.ensures
+pub returns-in_err-check : goal.returns-in_err-check
+returns-in_err-check c = let q = err_from_is_err_and c.from_residual.result c.from_residual.ensures.1 in rw (q.1, q.2) c.in_err-check.ensures
 
-pub returns-in-Taken : goal.returns-in-Taken
-returns-in-Taken c =
-    let l = rw c.in-Taken.is at c.check-checked.ensures in
+pub returns : goal.returns
+returns c =
+    let l = c.in_ok-check.ensures in
     (l.0, l.1, l.3, c.begin_of-begin.ensures l.0 l.1, rw add-one at (c.begin_of-end.ensures l.0 l.1))

@@ -1,6 +1,0 @@
--- `blank_arms` meets its contract. Assumes nothing.
-use mathlib.Core.Path.{refl}
-use Rattle.force.proofs.blank_arms.Goals as goal
-
-pub returns : goal.returns
-returns c = refl
