@@ -46,10 +46,10 @@ pub record Alike (a b out : List ℕ) : Type 0 where
   pub left : length a ≡ length out
   pub right : length b ≡ length out
 
--- each word of `new` is one that the operation may make of the words of `a` and `old`
-pub record Combined (made : ℕ → ℕ → ℕ → Type 0) (a old new : List ℕ) : Type 0 where
-  pub same : length new ≡ length old
-  pub each : (k : ℕ) → k < length old → made (get_or a k 0) (get_or old k 0) (get_or new k 0)
+-- each word of `new` is one that the operation may make of the words of `a` and `b`
+pub record Combined (made : ℕ → ℕ → ℕ → Type 0) (a b new : List ℕ) : Type 0 where
+  pub same : length new ≡ length b
+  pub each : (k : ℕ) → k < length b → made (get_or a k 0) (get_or b k 0) (get_or new k 0)
 
 -- row k of words that stand in rows of w words each
 abbrev pub row_of : ℕ → List ℕ → ℕ → List ℕ

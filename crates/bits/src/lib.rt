@@ -32,7 +32,7 @@ pub fn insert(row: &mut [u64], i: usize)
 }
 
 // Each word of the row, made by the operation from the word of a and its own.
-fn combine<F: Fn(u64, u64) -> u64>(a: &[u64], row: &mut [u64], operation: F)
+fn change<F: Fn(u64, u64) -> u64>(a: &[u64], row: &mut [u64], operation: F)
     requires callable { F.IsAlwaysCallable operation }
     requires alike { length a.now ≡ length row.old }
     ensures { Combined (F.post operation) a.now row.old row.new }
@@ -42,13 +42,23 @@ fn combine<F: Fn(u64, u64) -> u64>(a: &[u64], row: &mut [u64], operation: F)
     }
 }
 
+// Each word, made by the operation from the words of a and b.
+fn combine<F: Fn(u64, u64) -> u64>(a: &[u64], b: &[u64], out: &mut [u64], operation: F)
+    requires callable { F.IsAlwaysCallable operation }
+    requires alike { Alike a.now b.now out.old }
+    ensures { Combined (F.post operation) a.now b.now out.new }
+{
+    for k in 0..out.len() {
+        out[k] = operation(a[k], b[k]);
+    }
+}
+
 // The places that are in both sets.
 pub fn intersection(a: &[u64], b: &[u64], out: &mut [u64])
     requires { Alike a.now b.now out.old }
     ensures { (j : ℕ) → member out.new j ≡ (member a.now j && member b.now j) }
 {
-    out.copy_from_slice(b);
-    combine(a, out, |x, y| x & y);
+    combine(a, b, out, |x, y| x & y);
 }
 
 // The places that are in one set or the other.
@@ -56,8 +66,7 @@ pub fn union(a: &[u64], b: &[u64], out: &mut [u64])
     requires { Alike a.now b.now out.old }
     ensures { (j : ℕ) → member out.new j ≡ (member a.now j || member b.now j) }
 {
-    out.copy_from_slice(b);
-    combine(a, out, |x, y| x | y);
+    combine(a, b, out, |x, y| x | y);
 }
 
 // The places of a that are not in b.
@@ -65,8 +74,7 @@ pub fn difference(a: &[u64], b: &[u64], out: &mut [u64])
     requires { Alike a.now b.now out.old }
     ensures { (j : ℕ) → member out.new j ≡ (member a.now j && not (member b.now j)) }
 {
-    out.copy_from_slice(b);
-    complement(a, out);
+    combine(a, b, out, |x, y| x & (y ^ u64::MAX));
 }
 
 // The places of `all` that are not in the row, in its place.
@@ -74,7 +82,7 @@ pub fn complement(all: &[u64], row: &mut [u64])
     requires { length all.now ≡ length row.old }
     ensures { (j : ℕ) → member row.new j ≡ (member all.now j && not (member row.old j)) }
 {
-    combine(all, row, |x, y| x & (y ^ u64::MAX));
+    change(all, row, |x, y| x & (y ^ u64::MAX));
 }
 
 // No place.

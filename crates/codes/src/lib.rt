@@ -100,13 +100,12 @@ pub fn words_of(c: Code) -> [u64; CODE_WORDS]
     [c.kind, c.first, c.second, c.third]
 }
 
-// Whether the words are those of the code.
+// Whether the words are those of the code. Most differ in the variable, so that is looked at first.
 pub fn same_words(c: Code, words: &[u64]) -> bool
     requires { length words.now ≡ code_word_count }
     ensures { Decides result (words.now ≡ code_words c) }
 {
-    let own = words_of(c);
-    words == own.as_slice()
+    words[1] == c.first && words[0] == c.kind && words[2] == c.second && words[3] == c.third
 }
 
 // The variable that a statement names first, or 0: the first number of its code. Most statements differ there.

@@ -56,7 +56,7 @@ fn joins(
     if bits::contains(mine, s) {
         return true;
     }
-    let k = worklist::skip(steps, graph::wide(rest[s]), set);
+    let k = worklist::skip(steps.head.len(), steps, graph::wide(rest[s]), set);
     rest[s] = k as u16;
     k == 0
 }
@@ -145,7 +145,7 @@ pub fn number(
     let mut set = bits::blank();
     let mut rest = labelling::blank();
     let mut queue = labelling::blank();
-    rest[..n].copy_from_slice(steps.head);
+    graph::copy(steps.head, &mut rest[..n]);
     rank(
         steps,
         opposite,

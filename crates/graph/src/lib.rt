@@ -36,7 +36,9 @@ pub fn copy(from: &[u16], to: &mut [u16])
     requires { length to.old ≡ length from.now }
     ensures { to.new ≡ from.now }
 {
-    to.copy_from_slice(from);
+    for k in 0..from.len() {
+        to[k] = from[k];
+    }
 }
 
 // One edge more, from s to t. Returns the number of edges.

@@ -9,11 +9,13 @@ use lib.Seq.{sets}
 use Rattle.program.specs.Program.{text}
 use Rattle.program.proofs.RoundTrip.{taken-unique}
 use Rattle.program.proofs.Unique.{refused-unique, taken_refused}
-use Rattle.calls.proofs.Unique.{refuses-unique, refuses-not}
+use Rattle.program.specs.declared.Refusal as program-refusal
+use Rattle.calls.proofs.Unique.{refuses-unique, refuses-not, same-program, program-numbers}
 use Rattle.joining.specs.Joining.{joined}
 use Rattle.calls.specs.Refusals.{number_of}
 use Rattle.calls.specs.declared.Refusal as calls
-use Rattle.join.specs.Join.{text_bytes, Refused, number, JoinRefused, JoinFinished, JoinAnswers}
+use Rattle.calls.specs.declared.Refusal.TheVariants.{Room, Program, Text}
+use Rattle.join.specs.Join.{text_bytes, Refused, number, JoinRefused, JoinFinished, About, JoinAnswers}
 use Rattle.join.specs.declared.Joined.{Joined}
 use Rattle.join.specs.declared.Refusal.{Refusal}
 use Rattle.join.specs.declared.Refusal.TheVariants.{Creeper, Long}
@@ -52,18 +54,29 @@ module _ (t u o : List ℕ) where
       a.written.text ∙ ap (sets o 0) same_text ∙ sym b.written.text,
     )
 
-  -- the same is answered: of two refusals, the number
-  abbrev Same : Result Joined (calls.Refusal Refusal) → Result Joined (calls.Refusal Refusal) → Type 0
-  Same (Err r) (Err s) = number_of number r ≡ number_of number s
-  Same (Err r) (Ok b) = ⊥
-  Same (Ok a) (Err s) = ⊥
-  Same (Ok a) (Ok b) = a ≡ b
+  -- a refusal is told by its number and by the text that it is about
+  same-refusal : (a b : calls.Refusal Refusal) → number_of number a ≡ number_of number b → About t a → About t b → a ≡ b
+  same-refusal Room Room e x y = refl
+  same-refusal Room (Program s) e x y = absurd (omega (arith, e, (program-numbers s).0))
+  same-refusal Room (Text (Creeper s)) e x y = absurd (omega (arith, e, (program-numbers s).0))
+  same-refusal Room (Text Long) e x y = absurd (omega (arith, e))
+  same-refusal (Program r) Room e x y = absurd (omega (arith, e, (program-numbers r).0))
+  same-refusal (Program r) (Program s) e x y = ap Program (same-program r s e)
+  same-refusal (Program r) (Text s) e x y = absurd (taken_refused t y.1 r x)
+  same-refusal (Text (Creeper r)) Room e x y = absurd (omega (arith, e, (program-numbers r).0))
+  same-refusal (Text Long) Room e x y = absurd (omega (arith, e))
+  same-refusal (Text r) (Program s) e x y = absurd (taken_refused t x.1 s y)
+  same-refusal (Text (Creeper r)) (Text (Creeper s)) e x y = ap (λ (r : program-refusal.Refusal). Text (Creeper r)) (same-program r s e)
+  same-refusal (Text (Creeper r)) (Text Long) e x y = absurd (omega (arith, e, (program-numbers r).1))
+  same-refusal (Text Long) (Text (Creeper s)) e x y = absurd (omega (arith, e, (program-numbers s).1))
+  same-refusal (Text Long) (Text Long) e x y = refl
 
   -- a call of `join` has one answer, and leaves one content of the lent bytes
-  pub join-unique : (a b : Result Joined (calls.Refusal Refusal)) (q r : List ℕ) → JoinAnswers t u o q a → JoinAnswers t u o r b → Same a b × (q ≡ r)
-  join-unique (Err n) (Err m) q r x y = (refuses-unique lent-apart t (Refused t u) number second-unique _ _ x.0 y.0, x.1 ∙ sym y.1)
+  pub join-unique : (a b : Result Joined (calls.Refusal Refusal)) (q r : List ℕ) → JoinAnswers t u o q a → JoinAnswers t u o r b → (a ≡ b) × (q ≡ r)
+  join-unique (Err n) (Err m) q r x y =
+      (ap Err (same-refusal n m (refuses-unique lent-apart t (Refused t u) number second-unique _ _ x.0 y.0) x.1 y.1), x.2 ∙ sym y.2)
   join-unique (Err n) (Ok j) q r x y = absurd (join-not (number_of number n) x.0 y)
   join-unique (Ok j) (Err n) q r x y = absurd (join-not (number_of number n) y.0 x)
   join-unique (Ok a) (Ok b) q r x y =
       let e = join-finished x y in
-      (ap₂ (λ (m n : ℕ). record { statements = m; bytes = n }) e.0 e.1, e.2)
+      (ap₂ (λ (m n : ℕ). Ok (record { statements = m; bytes = n })) e.0 e.1, e.2)

@@ -6,6 +6,7 @@ use Rattle.program.specs.Program.{text, text_room, most, Taken}
 use Rattle.program.specs.Reading as program
 use Rattle.calls.specs.Refusals.{CallRefused, number_of}
 use Rattle.calls.specs.declared.Refusal as calls
+use Rattle.calls.specs.declared.Refusal.TheVariants.{Room, Program, Text}
 use Rattle.joining.specs.Joining.{joined}
 use Rattle.join.specs.Theorem.{JoinedTexts}
 use Rattle.join.specs.declared.Joined.{Joined}
@@ -44,7 +45,13 @@ pub record JoinFinished (t u o q : List ℕ) (count bytes : ℕ) : Type 0 where
   -- the theorem, of the bytes that the host holds
   pub theorem : JoinedTexts t u (take bytes q)
 
+-- which text a refusal is about, since those of both texts have the numbers 2 to 5: the creeper's is looked at once the road's is taken
+abbrev pub About : List ℕ → calls.Refusal Refusal → Type 0
+About t Room = Unit
+About t (Program r) = program.Refused t r
+About t (Text r) = (P : List Statement) × Taken t P
+
 -- "A refused call answers only its number and keeps all lent memory."
 abbrev pub JoinAnswers : List ℕ → List ℕ → List ℕ → List ℕ → Result Joined (calls.Refusal Refusal) → Type 0
-JoinAnswers t u o q (Err r) = JoinRefused t u o (number_of number r) × (q ≡ o)
+JoinAnswers t u o q (Err r) = JoinRefused t u o (number_of number r) × About t r × (q ≡ o)
 JoinAnswers t u o q (Ok j) = JoinFinished t u o q j.statements j.bytes

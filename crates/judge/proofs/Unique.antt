@@ -15,11 +15,10 @@ use Rattle.marks.proofs.Lists as marks-unique
 use Rattle.rewriting.specs.Verdicts.{accepted_count, Verdicts, Rewritten}
 use Rattle.rewriting.proofs.Accepted.{rewritten-unique}
 use Rattle.rewriting.proofs.Unique.{verdicts-agree}
-use Rattle.calls.proofs.Unique.{refuses-unique, refuses-not}
+use Rattle.calls.proofs.Unique.{refuses-unique, refuses-not, same-refusal}
 use Rattle.judge.specs.Judge.{Room, verdict_bytes, text_bytes, Lent, JudgeRefused, JudgeFinished, JudgeAnswers}
 use Rattle.std.specs.Prelude.{Result, Ok, Err}
 use Rattle.marks.specs.declared.Refusal as marks-refusal
-use Rattle.calls.specs.Refusals.{number_of}
 use Rattle.calls.specs.declared.Refusal.{Refusal}
 use Rattle.judge.specs.declared.Judged.{Judged}
 
@@ -72,16 +71,10 @@ module _ (t u : List ℕ) (o : Lent) where
   judge-not : (n : ℕ) {i j k : ℕ} {q : Lent} → JudgeRefused t u o.verdicts o.new n → JudgeFinished t u o q i j k → ⊥
   judge-not n r f = refuses-not lent-apart t (marks.Refused u) marks.number n r f.room f.program (marks-unique.taken_refused f.marks)
 
-  -- the answers are one: the same result, or refusals of one number
-  abbrev pub Same : Result Judged (Refusal marks-refusal.Refusal) → Result Judged (Refusal marks-refusal.Refusal) → Type 0
-  Same (Ok a) (Ok b) = a ≡ b
-  Same (Err r) (Err s) = number_of marks.number r ≡ number_of marks.number s
-  Same (Ok a) (Err s) = ⊥
-  Same (Err r) (Ok b) = ⊥
-
   -- a call of `judge` has one answer, and leaves one list of verdict bytes and one new text
-  pub judge-unique : (a b : Result Judged (Refusal marks-refusal.Refusal)) (q r : Lent) → JudgeAnswers t u o q a → JudgeAnswers t u o r b → Same a b × (q ≡ r)
-  judge-unique (Err n) (Err m) q r x y = (judge-refused _ _ x.0 y.0, x.1 ∙ sym y.1)
+  pub judge-unique : (a b : Result Judged (Refusal marks-refusal.Refusal)) (q r : Lent) → JudgeAnswers t u o q a → JudgeAnswers t u o r b → (a ≡ b) × (q ≡ r)
+  judge-unique (Err n) (Err m) q r x y =
+      (ap Err (same-refusal marks.number marks-unique.same-number marks-unique.numbers-above n m (judge-refused _ _ x.0 y.0)), x.1 ∙ sym y.1)
   judge-unique (Err n) (Ok b) q r x y = absurd (judge-not _ x.0 y)
   judge-unique (Ok a) (Err m) q r x y = absurd (judge-not _ y.0 x)
-  judge-unique (Ok a) (Ok b) q r x y = let f = judge-finished x y in ((λ i. record { marks = f.0 i; accepted = f.1 i; bytes = f.2 i }), f.3)
+  judge-unique (Ok a) (Ok b) q r x y = let f = judge-finished x y in (ap Ok (λ i. record { marks = f.0 i; accepted = f.1 i; bytes = f.2 i }), f.3)

@@ -73,7 +73,7 @@ fn until_in<const N: usize>(
     let mut stack = [0; N];
     let steps = Edges::of(n, steps);
     let opposite = Edges::of(n, opposite);
-    rest[..n].copy_from_slice(steps.head);
+    graph::copy(steps.head, &mut rest[..n]);
     worklist::close(
         all,
         steps,

@@ -1,5 +1,5 @@
 -- A call of `list` has one answer, tells one count of each set, and leaves one list. Assumes nothing.
-use mathlib.Core.Path.{◌≡◌, sym, ap, ◌∙◌, subst}
+use mathlib.Core.Path.{◌≡◌, refl, sym, ap, ◌∙◌, subst}
 use mathlib.Core.Logic.{inl, inr}
 use mathlib.Core.List.{List}
 use Prim.Native.Nat.{ℕ, ◌≤◌, ◌<◌}
@@ -17,8 +17,17 @@ use Rattle.listing.proofs.Relisted.{Words, lists_agree}
 use Rattle.listing.specs.Listing.{list_words, ListOf, Counted}
 use Rattle.std.specs.Prelude.{Result, Ok, Err}
 use Rattle.listing.specs.declared.Ones.{Ones}
+use Rattle.calls.proofs.Unique.{same-program, program-numbers}
 use Rattle.list.specs.declared.Refusal.{Refusal}
+use Rattle.list.specs.declared.Refusal.TheVariants.{Room, Program}
 use Rattle.list.specs.List.{number, ListRefused, ListMade, ListAnswers}
+
+-- a number is that of one refusal only
+same-number : (r s : Refusal) → number r ≡ number s → r ≡ s
+same-number Room Room e = refl
+same-number Room (Program s) e = absurd (omega (arith, e, (program-numbers s).0))
+same-number (Program r) Room e = absurd (omega (arith, e, (program-numbers r).0))
+same-number (Program r) (Program s) e = ap Program (same-program r s e)
 
 module _ (t old : List ℕ) where
   number-unique : {n m : ℕ} → ListRefused t old n → ListRefused t old m → n ≡ m
@@ -49,14 +58,9 @@ module _ (t old : List ℕ) where
             go m (no l) = a.past m (omega arith) ∙ sym (b.past m (omega arith))
 
   -- a call of `list` has one answer, tells one count of each set, and leaves one list
-  abbrev Same : Result Ones Refusal → Result Ones Refusal → Type 0
-  Same (Err r) (Err s) = number r ≡ number s
-  Same (Ok c) (Ok d) = (c.defined ≡ d.defined) × (c.used ≡ d.used)
-  Same a b = ⊥
-
   pub list-unique : (a b : Result Ones Refusal) (new other : List ℕ) → Words new → Words other → ListAnswers t old new a → ListAnswers t old other b
-      → Same a b × (new ≡ other)
-  list-unique (Err r) (Err s) new other w x p q = (number-unique p.0 q.0, p.1 ∙ sym q.1)
+      → (a ≡ b) × (new ≡ other)
+  list-unique (Err r) (Err s) new other w x p q = (ap Err (same-number r s (number-unique p.0 q.0)), p.1 ∙ sym q.1)
   list-unique (Err r) (Ok d) new other w x p q = absurd (never-refused p.0 q.room q.program)
   list-unique (Ok c) (Err s) new other w x p q = absurd (never-refused q.0 p.room p.program)
-  list-unique (Ok c) (Ok d) new other w x p q = let s = list-made p q w x in ((s.1, s.2), s.0)
+  list-unique (Ok c) (Ok d) new other w x p q = let s = list-made p q w x in (ap Ok (λ i. record { defined = s.1 i; used = s.2 i }), s.0)

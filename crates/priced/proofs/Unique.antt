@@ -1,4 +1,4 @@
--- A report has one answer: one list, or refusals of one number. Assumes nothing.
+-- A report has one answer: one list, or one refusal. Assumes nothing.
 use mathlib.Core.Path.{◌≡◌, sym, ap, ◌∙◌}
 use mathlib.Core.List.{List}
 use Prim.Native.Nat.{ℕ}
@@ -8,14 +8,13 @@ use Rattle.marks.specs.Reading as marks
 use Rattle.marks.proofs.Lists as marks-lists
 use Rattle.rewriting.specs.Verdicts.{Verdicts, Rewritten}
 use Rattle.rewriting.proofs.Unique.{rewritten-agree}
-use Rattle.calls.proofs.Unique.{refuses-unique, refuses-not}
+use Rattle.calls.proofs.Unique.{refuses-unique, refuses-not, same-refusal}
 use Rattle.pricing.specs.Prices.{in_force}
 use Rattle.price_list.specs.PriceList.{Lists}
 use Rattle.price_list.specs.declared.PriceList.{PriceList}
 use Rattle.priced.specs.Priced.{ReportRefused, ReportListed, ReportAnswers}
 use Rattle.std.specs.Prelude.{Result, Ok, Err}
 use Rattle.marks.specs.declared.Refusal as marks-refusal
-use Rattle.calls.specs.Refusals.{number_of}
 use Rattle.calls.specs.declared.Refusal.{Refusal}
 
 -- two programs have one list
@@ -47,15 +46,8 @@ module _ (ps t u : List ℕ) where
   report-not : (n : ℕ) {l : PriceList} → ReportRefused t u n → ReportListed ps t u l → ⊥
   report-not n r f = refuses-not (λ s e. s) t (marks.Refused u) marks.number n r tt f.program (marks-lists.taken_refused f.marks)
 
-  -- the answers are one: the same list, or refusals of one number
-  abbrev pub Same : Result PriceList (Refusal marks-refusal.Refusal) → Result PriceList (Refusal marks-refusal.Refusal) → Type 0
-  Same (Ok l) (Ok m) = l ≡ m
-  Same (Err r) (Err s) = number_of marks.number r ≡ number_of marks.number s
-  Same (Ok l) (Err s) = ⊥
-  Same (Err r) (Ok m) = ⊥
-
-  pub report-unique : (a b : Result PriceList (Refusal marks-refusal.Refusal)) → ReportAnswers ps t u a → ReportAnswers ps t u b → Same a b
-  report-unique (Err r) (Err s) x y = report-refused _ _ x y
+  pub report-unique : (a b : Result PriceList (Refusal marks-refusal.Refusal)) → ReportAnswers ps t u a → ReportAnswers ps t u b → a ≡ b
+  report-unique (Err r) (Err s) x y = ap Err (same-refusal marks.number marks-lists.same-number marks-lists.numbers-above r s (report-refused _ _ x y))
   report-unique (Err r) (Ok m) x y = absurd (report-not _ x y)
   report-unique (Ok l) (Err s) x y = absurd (report-not _ y x)
-  report-unique (Ok l) (Ok m) x y = listed-unique x y
+  report-unique (Ok l) (Ok m) x y = ap Ok (listed-unique x y)

@@ -4,12 +4,16 @@ use mathlib.Core.List.{List, [], ◌∷◌, ◌++◌, map}
 use Prim.Native.Nat.{ℕ, ◌+◌, ◌≤◌, ◌<◌}
 use native.Mathlib.Omega.{arith}
 use native.Mathlib.Numerals.{add-one}
-use lib.ListN.{length, take, set, length-append}
+use lib.ListN.{length, take, drop, set, length-append}
 use lib.Seq.{take_all, take-suc-set, take-append-le}
+use Rattle.std.specs.Prelude.{Some, None}
+use Rattle.lines.specs.Lines.{LineOf, NoLine}
 use Rattle.lines.proofs.Texts.{Unambiguous}
+use Rattle.tokens.specs.Parsing.{found, misspelled, parse_word}
+use Rattle.statement_reader.specs.Parsing.{parse_statement, parse_line}
 use Rattle.language.specs.Spelling.{spell, Valid}
 use Rattle.language.specs.declared.Statement.{Statement}
-use Rattle.statement_reader.proofs.Lines.{line-unique}
+use Rattle.statement_reader.proofs.Lines.{line-unique, line-right}
 use Rattle.encoding.specs.declared.Entry.{Entry}
 use Rattle.encoding.specs.Encoding.{statement_in}
 use Rattle.program.specs.declared.Refusal.{Refusal}
@@ -19,6 +23,21 @@ use Rattle.program.specs.Reading.{Refused, Kept}
 -- the line of a statement at the front of a text is that of one valid statement only
 pub statements-unambiguous : Unambiguous spell Valid
 statements-unambiguous = record { same = line-unique }
+
+-- what the readers of a statement and of its byte 10 told
+module _ (t : List ℕ) (at : ℕ) where
+  pub no-statement : misspelled ≡ parse_statement (drop at t) → NoLine spell Valid (drop at t)
+  unfolding parse_line
+  no-statement none = line-right t at None (omega arith) (rw (← none))
+
+  module _ {e : Statement} (k : ℕ) (stands : found e (drop k t) ≡ parse_statement (drop at t)) where
+    pub no_end : misspelled ≡ parse_word (10 ∷ []) (drop k t) → NoLine spell Valid (drop at t)
+    unfolding parse_line
+    no_end none = line-right t at None (omega arith) (rw (← stands, ← none))
+
+    pub line_of : (j : ℕ) → found tt (drop j t) ≡ parse_word (10 ∷ []) (drop k t) → j ≤ length t → LineOf spell Valid t at e j
+    unfolding parse_line
+    line_of j ends h = line-right t at (Some (e, j)) h (rw (← stands, ← ends))
 
 map-append : (es fs : List Entry) → map statement_in (es ++ fs) ≡ map statement_in es ++ map statement_in fs
 map-append [] fs = refl

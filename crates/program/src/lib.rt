@@ -73,7 +73,8 @@ fn read_lines(s: &[u8], entries: &mut [Entry; MOST]) -> Option<usize>
     let mut at: usize = 0;
     // A `while`: each line tells where the next one begins, so no slice or range has the lines that a `for` would go over.
     while at < s.len() {
-        let (e, next) = statement_reader::line(s, at)?;
+        let (e, end) = statement_reader::statement(s, at)?;
+        let next = tokens::word(s, end, b"\n")?;
         if count < MOST {
             entries[count] = encoding::entry_of(e);
         }

@@ -1,5 +1,5 @@
 -- A call of `relist` has one answer, tells one count of each set, and leaves one list. Assumes nothing.
-use mathlib.Core.Path.{◌≡◌, sym, ◌∙◌, subst}
+use mathlib.Core.Path.{◌≡◌, sym, ap, ◌∙◌, subst}
 use mathlib.Core.List.{List}
 use Prim.Native.Nat.{ℕ, ◌≤◌, ◌<◌}
 use native.Mathlib.Omega.{arith}
@@ -11,13 +11,12 @@ use Rattle.listing.specs.Listing.{list_words, Updated, Counted}
 use Rattle.std.specs.Prelude.{Result, Ok, Err}
 use Rattle.listing.specs.declared.Ones.{Ones}
 use Rattle.marks.specs.declared.Refusal as marks-refusal
-use Rattle.calls.specs.Refusals.{number_of}
 use Rattle.calls.specs.declared.Refusal.{Refusal}
 use Rattle.marks.proofs.Lists as marks-unique
 use Rattle.marks.specs.Reading as marks
 use Rattle.rewriting.proofs.Unique.{rewritten-agree}
 use Rattle.rewriting.specs.Verdicts.{Verdicts, Rewritten}
-use Rattle.calls.proofs.Unique.{refuses-unique, refuses-not}
+use Rattle.calls.proofs.Unique.{refuses-unique, refuses-not, same-refusal}
 use Rattle.relist.specs.Relist.{RelistRefused, RelistMade, RelistAnswers}
 
 module _ (t u old : List ℕ) where
@@ -55,14 +54,10 @@ module _ (t u old : List ℕ) where
   relist-not n r f = refuses-not words-apart t (marks.Refused u) marks.number n r f.room f.program (marks-unique.taken_refused f.marks)
 
   -- a call of `relist` has one answer, tells one count of each set, and leaves one list
-  abbrev Same : Result Ones (Refusal marks-refusal.Refusal) → Result Ones (Refusal marks-refusal.Refusal) → Type 0
-  Same (Err r) (Err s) = number_of marks.number r ≡ number_of marks.number s
-  Same (Ok c) (Ok d) = (c.defined ≡ d.defined) × (c.used ≡ d.used)
-  Same a b = ⊥
-
   pub relist-unique : (a b : Result Ones (Refusal marks-refusal.Refusal)) (new other : List ℕ) → Words new → Words other
-      → RelistAnswers t u old new a → RelistAnswers t u old other b → Same a b × (new ≡ other)
-  relist-unique (Err r) (Err s) new other w x p q = (relist-refused _ _ p.0 q.0, p.1 ∙ sym q.1)
+      → RelistAnswers t u old new a → RelistAnswers t u old other b → (a ≡ b) × (new ≡ other)
+  relist-unique (Err r) (Err s) new other w x p q =
+      (ap Err (same-refusal marks.number marks-unique.same-number marks-unique.numbers-above r s (relist-refused _ _ p.0 q.0)), p.1 ∙ sym q.1)
   relist-unique (Err r) (Ok d) new other w x p q = absurd (relist-not _ p.0 q)
   relist-unique (Ok c) (Err s) new other w x p q = absurd (relist-not _ q.0 p)
-  relist-unique (Ok c) (Ok d) new other w x p q = let s = relist-made p q w x in ((s.1, s.2), s.0)
+  relist-unique (Ok c) (Ok d) new other w x p q = let s = relist-made p q w x in (ap Ok (λ i. record { defined = s.1 i; used = s.2 i }), s.0)

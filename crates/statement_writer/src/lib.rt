@@ -19,9 +19,10 @@ pub fn word(out: &mut [u8], at: usize, w: &[u8]) -> usize
     requires { at + length w.now ≤ length out.old }
     ensures { Put out.old at w.now out.new result }
 {
-    let next = at + w.len();
-    out[at..next].copy_from_slice(w);
-    next
+    for i in 0..w.len() {
+        out[at + i] = w[i];
+    }
+    at + w.len()
 }
 
 // In decimal, without leading zeros.

@@ -64,7 +64,7 @@ pub fn onward(steps: Edges, s: usize, avoid: &[u64]) -> usize
     requires by_index { (u : ℕ) × (step steps.head.now steps.link.now steps.to.now s u ≡ true) × (member avoid.now u ≡ false) }
     ensures { (step steps.entry.head.now steps.entry.link.now steps.entry.to.now s result ≡ true) × (member avoid.now result ≡ false) }
 {
-    let k = worklist::skip(steps, graph::wide(steps.head[s]), avoid);
+    let k = worklist::skip(steps.head.len(), steps, graph::wide(steps.head[s]), avoid);
     graph::wide(steps.to[k - 1])
 }
 

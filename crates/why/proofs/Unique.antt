@@ -20,7 +20,7 @@ use Rattle.rewriting.proofs.Unique.{verdict-unique}
 use Rattle.std.specs.Prelude.{Result, Ok, Err}
 use Rattle.calls.specs.Refusals.{number_of}
 use Rattle.calls.specs.declared.Refusal.{Refusal}
-use Rattle.calls.proofs.Unique.{refuses-unique, refuses-not}
+use Rattle.calls.proofs.Unique.{refuses-unique, refuses-not, same-refusal}
 use Rattle.explain.specs.Explain.{path_words}
 use Rattle.refused_marks.specs.RefusedMarks.{Culprit, PathOf}
 use Rattle.refused_marks.proofs.Culprits.{culprit-unique}
@@ -70,9 +70,9 @@ module _ (P : List Statement) (ms : List Mark) (j : ℕ) (old : List ℕ) where
   told-culprit new k l c d MayFault a b = a.1 ∙ sym b.1
   told-culprit new k l c d Unmet a b = same-culprit a b
 
--- what two answers share: the refusal's number, or the verdict byte and the length
+-- what two answers share: the refusal, or the verdict byte and the length
 abbrev pub Alike : Result Because (Refusal marks-refusal.Refusal) → Result Because (Refusal marks-refusal.Refusal) → Type 0
-Alike (Err r) (Err s) = number_of marks.number r ≡ number_of marks.number s
+Alike (Err r) (Err s) = r ≡ s
 Alike (Err r) (Ok a) = ⊥
 Alike (Ok a) (Err r) = ⊥
 Alike (Ok a) (Ok b) = (a.verdict ≡ b.verdict) × (a.length ≡ b.length)
@@ -105,7 +105,8 @@ module _ (t u : List ℕ) (j : ℕ) (old : List ℕ) where
 
   -- a call of `why` has one refusal, or one verdict byte and one length
   pub why-unique : (a b : Result Because (Refusal marks-refusal.Refusal)) (new other : List ℕ) → WhyAnswers t u j old new a → WhyAnswers t u j old other b → Alike a b
-  why-unique (Err r) (Err s) new other x y = why-refused (number_of marks.number r) (number_of marks.number s) x.0 y.0
+  why-unique (Err r) (Err s) new other x y =
+      same-refusal marks.number marks-unique.same-number marks-unique.numbers-above r s (why-refused (number_of marks.number r) (number_of marks.number s) x.0 y.0)
   why-unique (Err r) (Ok b) new other x y = why-not (number_of marks.number r) x.0 y
   why-unique (Ok a) (Err s) new other x y = why-not (number_of marks.number s) y.0 x
   why-unique (Ok a) (Ok b) new other x y = told-alike x y

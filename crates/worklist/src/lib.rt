@@ -12,10 +12,10 @@ ghost use Rattle.worklist.specs.Worklist.{Skipped, Rest, Ready, Visited, Gathere
 
 use graph::Edges;
 
-// The first position from `start` on whose target is not in the set, or 0.
-pub fn skip(steps: Edges, start: usize, set: &[u64]) -> usize
-    requires from { From steps.link.now steps.to.now (length steps.head.now) start }
-    requires head_in_bounds { length steps.head.now ≤ length set.now * 64 }
+// The first position from `start` on whose target is not in the set, or 0. The targets are places below n.
+pub fn skip(n: usize, steps: Edges, start: usize, set: &[u64]) -> usize
+    requires from { From steps.link.now steps.to.now n start }
+    requires n_in_bounds { n ≤ length set.now * 64 }
     ensures { Skipped steps.entry.link.now steps.entry.to.now (member set.now) start result }
 {
     let mut k = start;
@@ -44,7 +44,7 @@ pub fn joins(all: bool, steps: Edges, s: usize, p: &[u64], set: &[u64], rest: &m
     }
     if bits::contains(p, s) {
         if all {
-            let k = skip(steps, usize::from(rest[s]), set);
+            let k = skip(steps.head.len(), steps, usize::from(rest[s]), set);
             rest[s] = k as u16;
             return k == 0;
         }

@@ -11,5 +11,5 @@ use Rattle.bits.proofs.Rows.{combined-member}
 use Rattle.bits.proofs.complement.Goals as goal
 
 pub returns : goal.returns
-returns c = combined-member c.combine.ensures (λ x y. x && not y) refl c.requires
+returns c = combined-member c.change.ensures (λ x y. x && not y) refl c.requires
     (λ x y r e k l. let d : r ≡ bit_and x (bit_xor y (2 ^ 64 - 1)) = search rules in ap (λ z. bit z k) d ∙ bit-and-not x y k l)

@@ -10,7 +10,7 @@ use Rattle.join.proofs.join.Goals as goal
 
 pub returns-in-Err : goal.returns-in-Err
 returns-in-Err c =
-    (inr (inr (c.if-text-lt-TEXT_BYTES.false, statements c.in_ok-p.p, c.in_ok-p.ensures.0, Creeper c.in-Err.refusal, c.in-Err.ensures, refl)), refl)
+    (inr (inr (c.if-text-lt-TEXT_BYTES.false, statements c.in_ok-p.p, c.in_ok-p.ensures.0, Creeper c.in-Err.refusal, c.in-Err.ensures, refl)), (statements c.in_ok-p.p, c.in_ok-p.ensures.0), refl)
 
 -- both fit together, and their text the room
 pub write-bytes-requires-clause-creeper_in_bounds : goal.write-bytes-requires-clause-creeper_in_bounds

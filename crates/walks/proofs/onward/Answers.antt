@@ -8,7 +8,7 @@ use native.Mathlib.Omega.{arith}
 use Rattle.walks.proofs.onward.Goals as goal
 
 pub skip-k-requires : goal.skip-k-requires
-skip-k-requires c = record { from = rw c.wide.ensures (linked-from _ _ _ c.args.s c.requires.linked.0); head_in_bounds = c.requires.linked.2 }
+skip-k-requires c = record { from = rw c.wide.ensures (linked-from _ _ _ c.args.s c.requires.linked.0); n_in_bounds = c.requires.linked.2 }
 
 pub overflow_sub-k : goal.overflow_sub-k
 overflow_sub-k c =
